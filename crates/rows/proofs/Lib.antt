@@ -1,0 +1,5 @@
+pub mod Walks
+pub mod Columns
+pub mod Many
+pub mod Cells
+pub mod Distinct

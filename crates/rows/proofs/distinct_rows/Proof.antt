@@ -1,0 +1,98 @@
+use Prim.Native.Nat.{ℕ, _+_, _-_, _*_, _<_, _≤_}
+use mathlib.Core.Path.{_≡_, refl, ap, _∙_, sym}
+use mathlib.Core.List.{List, [], _∷_, _++_}
+use native.Mathlib.Nat.{mul-zero}
+use Rattle.rows.specs.Walk.{got, walkOf, many, firsts, firstsAt, plainRow, distinctRow, columnsOf}
+use Rattle.rows.proofs.Walks.{at-got}
+use Rattle.rows.proofs.Many.{Going, going-start, going-step, going-stop, going-end}
+use Rattle.rows.proofs.Distinct.{distinct-hit, distinct-miss, row-ends, row-first}
+use borrow.Author.Needs.{needs}
+use native.Mathlib.Omega.{arith}
+use Rattle.rows.proofs.distinct_rows.Statement.{statement}
+use Rattle.rows.proofs.distinct_rows.Tie as tie
+use Rattle.rows.proofs.distinct_rows.Reads as reads
+use Rattle.rows.proofs.distinct_rows.Lts as lts
+use Rattle.rows.proofs.repeats.Reads as repeats-reads
+use Rattle.rows.proofs.row.Reads as row-reads
+
+abbrev Inv-loop : tie.InvT-loop
+Inv-loop numbers at count width a b c k₀ q₀ k q = (done : List (List ℕ)) × (q ≡ at + width * k) × Going (distinctRow (columnsOf width a b c) numbers) firsts count [] at k q (firstsAt numbers at width k) done
+
+abbrev μ-loop : tie.MeasureT-loop
+μ-loop numbers at count width a b c k₀ q₀ k q = count - k
+
+-- the row that a turn read
+turned : (c : tie.After-known-told2 Inv-loop μ-loop) → (row : List ℕ) × (plainRow (columnsOf (c .before .before .before .before .before .before .before .before .before .args .width) (c .before .before .before .before .before .before .before .before .before .args .a) (c .before .before .before .before .before .before .before .before .before .args .b) (c .before .before .before .before .before .before .before .before .before .args .c)) (c .before .before .before .before .before .before .before .before .before .args .numbers .now) [] (c .before .before .before .before .before .before .before .loop .q) ≡ got row (c .before .next .given .0 .0))
+turned c = at-got _ _ (sym (c .before .before .before .row .ensures) ∙ c .before .next .given .1)
+
+-- src/lib.rt:138:5
+loop-holds : tie.Need-loop-holds Inv-loop μ-loop
+unfolding firstsAt
+loop-holds c = ([], omega (arith, mul-zero (c .before .args .width)), going-start _ _ _ _ _)
+
+-- src/lib.rt:139:12
+repeats-requires : tie.Need-repeats-requires Inv-loop μ-loop
+repeats-requires c κs = (c .before .before .before .pre .0, c .before .loop .inv .1)
+
+-- src/lib.rt:140:13
+returns : tie.Need-returns Inv-loop μ-loop
+unfolding walkOf
+returns c = let l = c .before .before .before .loop .inv in going-stop _ _ _ _ _ (l .2) (c .before .before .loop-test .taken) (ap walkOf (distinct-hit _ _ _ _ (sym (c .before .repeats .ensures) ∙ c .if1 .taken)))
+
+-- src/lib.rt:142:15
+row-requires : tie.Need-row-requires Inv-loop μ-loop
+row-requires c κs = search needs
+
+-- src/lib.rt:143:25
+enum-known-n : tie.Need-enum-known-n Inv-loop μ-loop
+enum-known-n c = search needs
+
+-- src/lib.rt:144:17
+returns-2 : tie.Need-returns-2 Inv-loop μ-loop
+returns-2 c = let l = c .before .before .before .before .before .before .before .loop .inv in going-stop _ _ _ _ _ (l .2) (c .before .before .before .before .before .before .loop-test .taken) (ap walkOf (distinct-miss _ _ _ _ (sym (c .before .before .before .before .before .repeats .ensures) ∙ c .before .before .before .before .if1 .left)) ∙ sym (c .before .before .before .row .ensures) ∙ c .before .n .given .1)
+
+-- src/lib.rt:146:22
+enum-known-next : tie.Need-enum-known-next Inv-loop μ-loop
+enum-known-next c = search needs
+
+-- src/lib.rt:150:9
+add-k : tie.Need-add-k Inv-loop μ-loop
+add-k c = search needs
+
+-- src/lib.rt:138:5
+loop-less : tie.Need-loop-less Inv-loop μ-loop
+loop-less c = search needs
+
+-- src/lib.rt:138:5
+loop-again : tie.Need-loop-again Inv-loop μ-loop
+loop-again c = let l = c .before .before .before .before .before .before .before .loop .inv in
+    let s = c .before .before .before .before .before .before .before .before .before in
+    let t = turned c in
+    let m = distinct-miss _ _ _ _ (sym (c .before .before .before .before .before .repeats .ensures) ∙ c .before .before .before .before .if1 .left) in
+    let g = going-step _ _ _ _ _ (l .2) (c .before .before .before .before .before .before .loop-test .taken) (m ∙ t .1) in (
+      l .0 ++ (t .0 ∷ []),
+      row-ends _ _ _ _ _ _ _ _ _ _ (s .pre .0) (s .pre .1) (l .1) (t .1),
+      rw (row-first _ _ _ _ _ _ _ _ _ _ (s .pre .0) (s .pre .1) (l .1) (t .1)) at g,
+    )
+
+-- src/lib.rt:132:1
+returns-3 : tie.Need-returns-3 Inv-loop μ-loop
+returns-3 c = going-end _ _ _ _ _ (c .before .loop .inv .2) (c .loop-test .left)
+
+pub distinct-rows-spec : {M : Type 1} → statement M
+distinct-rows-spec =
+    tie.close
+    (tie.spec
+    Inv-loop
+    μ-loop
+    loop-holds
+    repeats-requires
+    returns
+    row-requires
+    enum-known-n
+    returns-2
+    enum-known-next
+    add-k
+    loop-less
+    loop-again
+    returns-3)
