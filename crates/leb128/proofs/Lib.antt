@@ -1,0 +1,4 @@
+pub mod Scan
+pub mod Turn
+pub mod Counting
+pub mod Filling
