@@ -80,6 +80,12 @@ module _ (numbers : List ℕ) (at width a b c k q p : ℕ) (row : List ℕ) (som
       let s : width * (k + 1) ≡ width * k + width = rw (add-one k) (mul-suc width k) in
       omega (arith, read .next, l, s, is)
 
+  pub row-inside : q < length numbers
+  row-inside =
+      let l = columns-long width a b c some few in
+      let z : q + 0 ≡ q = add-zero q in
+      rw z at (read .inside 0 (omega (arith, l, some)))
+
   pub row-first : firsts (firstsAt numbers at width k) row ≡ firstsAt numbers at width (k + 1)
   unfolding firsts firstsAt
   row-first =

@@ -3,3 +3,5 @@ pub mod Columns
 pub mod Many
 pub mod Cells
 pub mod Distinct
+pub mod Chains
+pub mod Items

@@ -102,6 +102,9 @@ module _ (numbers : List ℕ) (at x : ℕ) (is : x ≡ getD numbers at 0) where
   unfolding obeys
   count-over most low limit h o = there (count most low limit) h ∙ rw (lt-ltb most x o, obeys)
 
+  pub count-missing : (most low limit : ℕ) → length numbers ≤ at → number (count most low limit) numbers at ≡ number (value low limit) numbers at
+  count-missing most low limit h = number-missing (count most low limit) h ∙ sym (number-missing (value low limit) h)
+
   -- a count that is not too large is a value
   pub count-value : (most low limit : ℕ) → at < length numbers → x ≤ most → number (count most low limit) numbers at ≡ number (value low limit) numbers at
   unfolding obeys

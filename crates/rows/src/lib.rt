@@ -5,6 +5,7 @@ ghost use mathlib.Core.List.{List, [], _∷_};
 ghost use mathlib.Core.Bool.{Bool, true, false};
 ghost use lib.ListN.{length, getD};
 ghost use Rattle.rows.specs.Walk.{Parsed, walkOf, number, value, count, cells, many, list, firsts, firstsAt, repeated, elem, plainRow, distinctRow, rowOf, columnsOf};
+ghost use Rattle.rows.specs.Chain.{Linked, Chained};
 
 // Where a walk stands: at the place of the next number, or at a fault with a refusal's number and its place.
 pub enum Walk {
@@ -39,20 +40,12 @@ pub fn within(numbers: &[u32], at: usize, low: usize, limit: usize) -> Walk
 pub fn counter(numbers: &[u32], at: usize, most: usize, low: usize, limit: usize) -> Walk
     ensures { λ r. ⌜ r ≡ walkOf (number (count most low limit) (now (numbers .entry)) at) ⌝ }
 {
-    if at >= numbers.len() {
-        return Walk::Fault(4, at);
+    if at < numbers.len() {
+        if wide(numbers[at]) > most {
+            return Walk::Fault(2, at);
+        }
     }
-    let x = wide(numbers[at]);
-    if x > most {
-        return Walk::Fault(2, at);
-    }
-    if x < low {
-        return Walk::Fault(3, at);
-    }
-    if x >= limit {
-        return Walk::Fault(3, at);
-    }
-    Walk::At(at + 1)
+    within(numbers, at, low, limit)
 }
 
 // A row of up to three columns, each below its limit.
@@ -93,9 +86,9 @@ pub fn plain_rows(
 ) -> Walk
     ensures { λ r. ⌜ r ≡ walkOf (many (plainRow (columnsOf width a b c) (now (numbers .entry))) firsts count [] at) ⌝ }
 {
-    let mut k: usize = 0;
+    let mut i: usize = 0;
     let mut q = at;
-    while k < count {
+    while i < count {
         match row(numbers, q, width, a, b, c) {
             Walk::Fault(n, p) => {
                 return Walk::Fault(n, p);
@@ -104,7 +97,7 @@ pub fn plain_rows(
                 q = next;
             }
         }
-        k += 1;
+        i += 1;
     }
     Walk::At(q)
 }
@@ -136,8 +129,8 @@ fn repeats(numbers: &[u32], at: usize, count: usize, width: usize, q: usize) -> 
     seen(numbers, at, count, width, numbers[q])
 }
 
-// `count` rows whose first numbers differ.
-pub fn distinct_rows(
+// `count` rows whose first numbers differ: each is looked for in all rows before it.
+fn short_distinct_rows(
     numbers: &[u32],
     at: usize,
     count: usize,
@@ -166,6 +159,115 @@ pub fn distinct_rows(
         k += 1;
     }
     Walk::At(q)
+}
+
+// Puts row `count` into its chain.
+fn link(
+    numbers: &[u32],
+    at: usize,
+    count: usize,
+    width: usize,
+    heads: &mut [u32; 1024],
+    nexts: &mut [u32; 16384],
+)
+    requires { ⌜ (at + width * count < length (now numbers)) × (count < 16384) × Chained (now numbers) at width count (now heads) (now nexts) ⌝ }
+    ensures { λ _. ⌜ Chained (now (numbers .entry)) at width (count + 1) (now (heads .exit)) (now (nexts .exit)) ⌝ }
+{
+    let h = (numbers[at + width * count] % 1024) as usize;
+    nexts[count] = heads[h];
+    heads[h] = (count + 1) as u32;
+}
+
+// Whether the first number of row `count` is that of a row before it: goes back along its chain.
+fn chained(numbers: &[u32], at: usize, count: usize, width: usize, nexts: &[u32; 16384]) -> bool
+    requires { ⌜ (0 < width) × (at + width * count < length (now numbers)) × (count < 16384) × Linked (now numbers) at width (count + 1) (now nexts) ⌝ }
+    ensures { λ r. ⌜ r ≡ elem (getD (now (numbers .entry)) (at + width * count) 0) (firstsAt (now (numbers .entry)) at width count) ⌝ }
+{
+    let x = numbers[at + width * count];
+    let mut v = nexts[count] as usize;
+    while v > 0 {
+        let j = v - 1;
+        if numbers[at + width * j] == x {
+            return true;
+        }
+        v = nexts[j] as usize;
+    }
+    false
+}
+
+// Whether the number at q is the first number of one of the `count` rows from `at` on, which end at q. Row `count` is put into its chain.
+fn chained_repeats(
+    numbers: &[u32],
+    at: usize,
+    count: usize,
+    width: usize,
+    q: usize,
+    heads: &mut [u32; 1024],
+    nexts: &mut [u32; 16384],
+) -> bool
+    requires { ⌜ (0 < width) × (q ≡ at + width * count) × (count < 16384) × Chained (now numbers) at width count (now heads) (now nexts) ⌝ }
+    ensures { λ r. ⌜ r ≡ repeated (now (numbers .entry)) (firstsAt (now (numbers .entry)) at width count) q ⌝ }
+    ensures { λ _. ⌜ (q < length (now (numbers .entry)) → Chained (now (numbers .entry)) at width (count + 1) (now (heads .exit)) (now (nexts .exit))) ⌝ }
+{
+    if q >= numbers.len() {
+        return false;
+    }
+    link(numbers, at, count, width, heads, nexts);
+    chained(numbers, at, count, width, nexts)
+}
+
+// `count` rows whose first numbers differ: each is looked for in the rows before it whose first number is the same modulo 1024.
+fn long_distinct_rows(
+    numbers: &[u32],
+    at: usize,
+    count: usize,
+    width: usize,
+    a: usize,
+    b: usize,
+    c: usize,
+) -> Walk
+    requires { ⌜ (0 < width) × (width ≤ 3) × (count ≤ 16384) ⌝ }
+    ensures { λ r. ⌜ r ≡ walkOf (many (distinctRow (columnsOf width a b c) (now (numbers .entry))) firsts count [] at) ⌝ }
+{
+    let mut heads = [0u32; 1024];
+    let mut nexts = [0u32; 16384];
+    let mut k: usize = 0;
+    let mut place = at;
+    while k < count {
+        if chained_repeats(numbers, at, k, width, place, &mut heads, &mut nexts) {
+            return Walk::Fault(3, place);
+        }
+        match row(numbers, place, width, a, b, c) {
+            Walk::Fault(n, p) => {
+                return Walk::Fault(n, p);
+            }
+            Walk::At(next) => {
+                place = next;
+            }
+        }
+        k += 1;
+    }
+    Walk::At(place)
+}
+
+// `count` rows whose first numbers differ.
+pub fn distinct_rows(
+    numbers: &[u32],
+    at: usize,
+    count: usize,
+    width: usize,
+    a: usize,
+    b: usize,
+    c: usize,
+) -> Walk
+    requires { ⌜ (0 < width) × (width ≤ 3) × (count ≤ 16384) ⌝ }
+    ensures { λ r. ⌜ r ≡ walkOf (many (distinctRow (columnsOf width a b c) (now (numbers .entry))) firsts count [] at) ⌝ }
+{
+    if count <= 64 {
+        short_distinct_rows(numbers, at, count, width, a, b, c)
+    } else {
+        long_distinct_rows(numbers, at, count, width, a, b, c)
+    }
 }
 
 // A list: a count below `counts`, then rows.

@@ -13,10 +13,10 @@ use Rattle.rows.proofs.plain_rows.Lts as lts
 use Rattle.rows.proofs.row.Reads as row-reads
 
 abbrev Inv-loop : tie.InvT-loop
-Inv-loop numbers at count width a b c k₀ q₀ k q = (s : List ℕ) × (done : List (List ℕ)) × Going (plainRow (columnsOf width a b c) numbers) firsts count [] at k q s done
+Inv-loop numbers at count width a b c i₀ q₀ i q = (s : List ℕ) × (done : List (List ℕ)) × Going (plainRow (columnsOf width a b c) numbers) firsts count [] at i q s done
 
 abbrev μ-loop : tie.MeasureT-loop
-μ-loop numbers at count width a b c k₀ q₀ k q = count - k
+μ-loop numbers at count width a b c i₀ q₀ i q = count - i
 
 -- src/lib.rt:90:5
 loop-holds : tie.Need-loop-holds Inv-loop μ-loop
@@ -40,8 +40,8 @@ enum-known-next : tie.Need-enum-known-next Inv-loop μ-loop
 enum-known-next c = search needs
 
 -- src/lib.rt:99:9
-add-k : tie.Need-add-k Inv-loop μ-loop
-add-k c = search needs
+add-i : tie.Need-add-i Inv-loop μ-loop
+add-i c = search needs
 
 -- src/lib.rt:90:5
 loop-less : tie.Need-loop-less Inv-loop μ-loop
@@ -67,7 +67,7 @@ plain-rows-spec =
     enum-known-n
     returns
     enum-known-next
-    add-k
+    add-i
     loop-less
     loop-again
     returns-2)

@@ -57,7 +57,10 @@ wide-requires c κs = search needs
 
 -- src/lib.rt:165:17
 distinct-rows-requires : tie.Need-distinct-rows-requires
-distinct-rows-requires c κs = search needs
+distinct-rows-requires c κs =
+    let w = c .before in
+    let s = w .before .before .before .before .before .before .before in
+    let t = there (w .before .before) in (s .pre .0, s .pre .1, omega (arith, t .good .0, t .same, w .wide .ensures))
 
 -- src/lib.rt:167:17
 plain-rows-requires : tie.Need-plain-rows-requires

@@ -35,7 +35,10 @@ returns-2 c = sym (ap walkOf (value-low _ _ _ (c .before .wide .ensures) _ _ (c 
 -- src/lib.rt:33:9
 returns-3 : tie.Need-returns-3
 unfolding walkOf
-returns-3 c = sym (ap walkOf (value-high _ _ _ (c .before .before .wide .ensures) _ _ (c .before .before .before .before .if1 .left) (c .before .if2 .left) (c .if3 .taken)))
+returns-3 c =
+    let w = c .before .before in
+    let h : c .before .before .before .before .before .before .args .limit ≤ w .wide .result = omega (arith, c .if3 .taken) in
+    sym (ap walkOf (value-high _ _ _ (w .wide .ensures) _ _ (w .before .before .if1 .left) (c .before .if2 .left) h))
 
 -- src/lib.rt:35:14
 add-t6 : tie.Need-add-t6

@@ -8,10 +8,10 @@ use Rattle.rows.proofs.Many.{Going, going-start, going-step, going-stop
 use Rattle.rows.proofs.Distinct.{distinct-hit, distinct-miss, row-ends, row-first}
 use borrow.Author.Needs.{needs}
 use native.Mathlib.Omega.{arith}
-use Rattle.rows.proofs.distinct_rows.Statement.{statement}
-use Rattle.rows.proofs.distinct_rows.Tie as tie
-use Rattle.rows.proofs.distinct_rows.Reads as reads
-use Rattle.rows.proofs.distinct_rows.Lts as lts
+use Rattle.rows.proofs.short_distinct_rows.Statement.{statement}
+use Rattle.rows.proofs.short_distinct_rows.Tie as tie
+use Rattle.rows.proofs.short_distinct_rows.Reads as reads
+use Rattle.rows.proofs.short_distinct_rows.Lts as lts
 use Rattle.rows.proofs.repeats.Reads as repeats-reads
 use Rattle.rows.proofs.row.Reads as row-reads
 
@@ -79,8 +79,8 @@ loop-again c = let l = c .before .before .before .before .before .before .before
 returns-3 : tie.Need-returns-3 Inv-loop μ-loop
 returns-3 c = going-end _ _ _ _ _ (c .before .loop .inv .2) (c .loop-test .left)
 
-pub distinct-rows-spec : {M : Type 1} → statement M
-distinct-rows-spec =
+pub short-distinct-rows-spec : {M : Type 1} → statement M
+short-distinct-rows-spec =
     tie.close
     (tie.spec
     Inv-loop

@@ -1,0 +1,4 @@
+pub mod Chains
+pub mod Limits
+pub mod Modules
+pub mod ReferenceParts

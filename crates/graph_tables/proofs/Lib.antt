@@ -1,0 +1,4 @@
+pub mod Facts
+pub mod Filling
+pub mod OneItem
+pub mod ByModule
