@@ -19,11 +19,11 @@ use Rattle.graph_format.specs.Format.{kindOf, statementsOf, recordsOf, relatedM
 use Rattle.graph_format.proofs.Chains.{lists-one}
 use Rattle.graph_tables.proofs.OneItem.{item-go, item-stop, item-place}
 
-then-fault : {A B : Type 0} {x : Parsed A} {n p : ℕ} (k : A → ℕ → Parsed B) → x ≡ fault n p → andThen x k ≡ fault n p
+pub then-fault : {A B : Type 0} {x : Parsed A} {n p : ℕ} (k : A → ℕ → Parsed B) → x ≡ fault n p → andThen x k ≡ fault n p
 unfolding andThen
 then-fault k e = rw e
 
-then-at : {A B : Type 0} {x : Parsed A} {a : A} {q : ℕ} (k : A → ℕ → Parsed B) → x ≡ got a q → andThen x k ≡ k a q
+pub then-at : {A B : Type 0} {x : Parsed A} {a : A} {q : ℕ} (k : A → ℕ → Parsed B) → x ≡ got a q → andThen x k ≡ k a q
 unfolding andThen
 then-at k e = rw e
 

@@ -20,7 +20,11 @@ fn related_module(numbers: &[u32], modules: &[usize], at: usize, h: Header) -> W
         Walk::At(q) => {
             let m = rows::wide(numbers[at]);
             let kind = graph_tables::module_number(numbers, modules, m, 0);
-            if kind == 1 { Walk::At(q) } else { Walk::Fault(3, at) }
+            if kind == 1 {
+                Walk::At(q)
+            } else {
+                Walk::Fault(3, at)
+            }
         }
     }
 }
@@ -37,7 +41,11 @@ fn related_record(numbers: &[u32], modules: &[usize], at: usize, m: usize) -> Wa
         Walk::At(q) => {
             let k = rows::wide(numbers[at]);
             let target = graph_tables::record_number(numbers, modules, m, k, 0);
-            if target == 0 { Walk::Fault(3, at) } else { Walk::At(q) }
+            if target == 0 {
+                Walk::Fault(3, at)
+            } else {
+                Walk::At(q)
+            }
         }
     }
 }
@@ -114,7 +122,13 @@ fn entry(numbers: &[u32], modules: &[usize], at: usize, h: Header) -> Walk
 }
 
 // Reads the entries from `at` on, and fills the table.
-pub fn entries(numbers: &[u32], modules: &[usize], at: usize, h: Header, table: &mut [usize]) -> Walk
+pub fn entries(
+    numbers: &[u32],
+    modules: &[usize],
+    at: usize,
+    h: Header,
+    table: &mut [usize],
+) -> Walk
     requires { ⌜ ModuleTable (now numbers) (now modules) ⌝ }
     requires { ⌜ (h ≡ headerIn (now numbers)) × (h .entries ≤ length (now table)) ⌝ }
     ensures { λ r. ⌜ (r ≡ walkOf (entriesAt h (modulesIn (now (numbers .entry))) (now (numbers .entry)) at)) × Filled (entriesAt h (modulesIn (now (numbers .entry))) (now (numbers .entry)) at) 0 (now (table .exit)) ⌝ }

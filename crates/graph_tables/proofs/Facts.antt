@@ -145,7 +145,7 @@ module _ (numbers table : List ℕ) (t : SymbolTable numbers table) where
     abbrev the-symbol : Item
     the-symbol = getD (symbolsIn numbers) s noItem
 
-    symbol-read : (q : ℕ) × ItemRead (symbolRules (headerIn numbers)) (λ head. symbolLists (headerIn numbers) numbers (statementsOf (getD (modulesIn numbers) (getD head 0 0) noItem))) numbers (the-symbol .place) the-symbol q
+    pub symbol-read : (q : ℕ) × ItemRead (symbolRules (headerIn numbers)) (λ head. symbolLists (headerIn numbers) numbers (statementsOf (getD (modulesIn numbers) (getD head 0 0) noItem))) numbers (the-symbol .place) the-symbol q
     unfolding symbolsRead symbolsAt symbolAt
     symbol-read =
         let o = many-each _ _ noItem _ _ _ (t .read) s h in
@@ -153,7 +153,7 @@ module _ (numbers table : List ℕ) (t : SymbolTable numbers table) where
         let p = r .place in
         (o .end, rw (sym p) at r)
 
-    symbol-place : getD table s 0 ≡ the-symbol .place
+    pub symbol-place : getD table s 0 ≡ the-symbol .place
     symbol-place =
         let e = t .places s (omega (arith, symbols-long, h)) in
         let z : 0 + s ≡ s = omega arith in

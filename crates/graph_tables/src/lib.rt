@@ -31,7 +31,13 @@ pub fn record_count(numbers: &[u32], module_at: &[usize], m: usize) -> usize
 }
 
 // Column `column` of record k of module m: 0 target+1, 1 kind, 2 bits.
-pub fn record_number(numbers: &[u32], module_at: &[usize], m: usize, k: usize, column: usize) -> usize
+pub fn record_number(
+    numbers: &[u32],
+    module_at: &[usize],
+    m: usize,
+    k: usize,
+    column: usize,
+) -> usize
     requires { ⌜ ModuleTable (now numbers) (now «module_at») ⌝ }
     requires { ⌜ (m < headerIn (now numbers) .modules) × (k < length (recordsOf (getD (modulesIn (now numbers)) m noItem))) × (column < 3) ⌝ }
     ensures { λ r. ⌜ r ≡ getD (getD (recordsOf (getD (modulesIn (now (numbers .entry))) m noItem)) k []) column 0 ⌝ }
@@ -86,7 +92,13 @@ fn symbol(numbers: &[u32], module_at: &[usize], at: usize, h: Header) -> Walk
 }
 
 // Reads the symbols from `at` on, and fills the table.
-pub fn symbols(numbers: &[u32], module_at: &[usize], at: usize, h: Header, symbol_at: &mut [usize]) -> Walk
+pub fn symbols(
+    numbers: &[u32],
+    module_at: &[usize],
+    at: usize,
+    h: Header,
+    symbol_at: &mut [usize],
+) -> Walk
     requires { ⌜ ModuleTable (now numbers) (now «module_at») ⌝ }
     requires { ⌜ (h ≡ headerIn (now numbers)) × (h .symbols < 4294967296) × (h .symbols ≤ length (now «symbol_at»)) ⌝ }
     ensures { λ r. ⌜ (r ≡ walkOf (symbolsAt h (modulesIn (now (numbers .entry))) (now (numbers .entry)) at)) × Filled (symbolsAt h (modulesIn (now (numbers .entry))) (now (numbers .entry)) at) 0 (now («symbol_at» .exit)) ⌝ }
@@ -119,7 +131,15 @@ pub fn symbol_number(numbers: &[u32], symbol_at: &[usize], s: usize, i: usize) -
 }
 
 // Reads the `count` statements of a module of `records` records from `at` on, and fills the table from `first` on.
-fn module_statements(numbers: &[u32], at: usize, h: Header, count: usize, records: usize, first: usize, statement_at: &mut [usize]) -> Walk
+fn module_statements(
+    numbers: &[u32],
+    at: usize,
+    h: Header,
+    count: usize,
+    records: usize,
+    first: usize,
+    statement_at: &mut [usize],
+) -> Walk
     requires { ⌜ first + count ≤ length (now «statement_at») ⌝ }
     ensures { λ r. ⌜ (r ≡ walkOf (many (statementAt h records (now (numbers .entry))) following count 0 at)) × Filled (many (statementAt h records (now (numbers .entry))) following count 0 at) first (now («statement_at» .exit)) × ((j : ℕ) → j < first → getD (now («statement_at» .exit)) j 0 ≡ getD (now («statement_at» .entry)) j 0) ⌝ }
 {
@@ -141,7 +161,14 @@ fn module_statements(numbers: &[u32], at: usize, h: Header, count: usize, record
 }
 
 // Reads the statements of all modules from `at` on, and fills both tables.
-pub fn statements(numbers: &[u32], module_at: &[usize], at: usize, h: Header, first_at: &mut [usize], statement_at: &mut [usize]) -> Walk
+pub fn statements(
+    numbers: &[u32],
+    module_at: &[usize],
+    at: usize,
+    h: Header,
+    first_at: &mut [usize],
+    statement_at: &mut [usize],
+) -> Walk
     requires { ⌜ ModuleTable (now numbers) (now «module_at») ⌝ }
     requires { ⌜ (h ≡ headerIn (now numbers)) × (h .modules ≤ length (now «first_at»)) × (h .statements ≤ length (now «statement_at»)) ⌝ }
     ensures { λ r. ⌜ (r ≡ walkOf (statementsAt h (modulesIn (now (numbers .entry))) (now (numbers .entry)) at)) × StatementsFilled (modulesIn (now (numbers .entry))) (statementsAt h (modulesIn (now (numbers .entry))) (now (numbers .entry)) at) (now («first_at» .exit)) (now («statement_at» .exit)) ⌝ }

@@ -72,8 +72,7 @@ loop-less c = search needs
 -- src/lib.rt:124:5
 loop-again : tie.Need-loop-again Inv-loop μ-loop
 loop-again c = let l = c .before .before .before .before .before .before .loop .inv in
-    let t = turned c in
-    (
+    let t = turned c in (
       l .0 ++ (t .0 ∷ []),
       rw length-set (l .1),
       from-start _ _ _ _ _ _ _ _ _ _ _ _ (l .2) (c .before .before .before .before .if1 .taken) (t .1) (entry-place _ _ _ _ _ (t .1)) (omega (arith, l .1, c .before .before .before .before .before .before .before .before .before .before .pre .1 .1, c .before .before .before .before .if1 .taken)),

@@ -86,8 +86,7 @@ loop-less c = search needs
 -- src/lib.rt:128:5
 loop-again : tie.Need-loop-again Inv-loop μ-loop
 loop-again c = let l = c .before .before .before .before .before .loop .inv in
-    let t = turned c in
-    (
+    let t = turned c in (
       l .0 ++ (t .0 ∷ []),
       rw length-set (l .1),
       filling-step _ _ _ _ _ _ _ _ _ _ _ _ _ (l .2) (c .before .before .before .before .loop-test .taken) (t .1) (placed _ _ _ _ _ (t .1)) (omega (arith, l .1, c .before .before .before .before .before .before .before .before .pre, c .before .before .before .before .loop-test .taken)),

@@ -105,8 +105,7 @@ loop-less c = search needs
 loop-again : tie.Need-loop-again Inv-loop μ-loop
 loop-again c = let l = c .before .before .before .before .before .before .before .before .before .loop .inv in
     let t = turned (c .before .before) in
-    let g = from-start _ _ _ _ _ _ _ _ _ _ _ _ (l .3) (c .before .before .before .before .before .before .before .if1 .taken) (t .1) (read-place _ _ _ _ (t .1)) (omega (arith, l .1, c .before .before .before .before .before .before .before .before .before .before .before .before .pre .0, c .before .before .before .before .before .before .before .if1 .taken)) in
-    (
+    let g = from-start _ _ _ _ _ _ _ _ _ _ _ _ (l .3) (c .before .before .before .before .before .before .before .if1 .taken) (t .1) (read-place _ _ _ _ (t .1)) (omega (arith, l .1, c .before .before .before .before .before .before .before .before .before .before .before .before .pre .0, c .before .before .before .before .before .before .before .if1 .taken)) in (
       l .0 ++ (t .0 ∷ []),
       rw length-set (l .1),
       omega (arith, l .2),

@@ -107,8 +107,7 @@ loop-again c = let l = c .before .before .before .before .before .before .before
     let few : c .before .before .before .before .before .before .before .before .before .before .before .loop .m < length (modulesIn (s .args .numbers .now)) = omega (arith, modules-long _ _ (s .pre .0), in-header (c .before .before .before .before .before .before .before .before .before)) in
     let room : c .before .before .before .before .before .before .before .before .before .before .before .loop .m < length (c .before .before .before .before .before .before .before .before .before .before .before .loop .first-at) = omega (arith, l .1, s .pre .1 .1, c .before .before .before .before .before .before .before .before .before .if1 .taken) in
     let placed = rw (this (c .before .before .before .before .before .before .before) ∙ t .1) at (c .before .before .before .before .before .module-statements .ensures .1) in
-    let o = outer-step _ _ _ _ _ _ _ _ _ _ _ _ _ _ (l .3) (c .before .before .before .before .before .before .before .before .before .if1 .taken) few (t .1) room (c .before .before .before .before .before .before .before .before .module-number .ensures) placed (c .before .before .before .before .before .module-statements .ensures .2) in
-    (
+    let o = outer-step _ _ _ _ _ _ _ _ _ _ _ _ _ _ (l .3) (c .before .before .before .before .before .before .before .before .before .if1 .taken) few (t .1) room (c .before .before .before .before .before .before .before .before .module-number .ensures) placed (c .before .before .before .before .before .module-statements .ensures .2) in (
       l .0 ++ (t .0 ∷ []),
       rw length-set (l .1),
       search needs,

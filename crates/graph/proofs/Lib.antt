@@ -1,0 +1,3 @@
+pub mod Loading
+pub mod LaterRules
+pub mod Checking
