@@ -1,0 +1,33 @@
+-- The answers as numbers.
+use Prim.Native.Nat.{ℕ}
+use mathlib.Core.Path.{_≡_, refl, ap, _∙_, sym}
+use native.Mathlib.Omega.{arith}
+use lib.ListN.{length}
+use Rattle.leb128.specs.declared.Answer.{Answer}
+use Rattle.leb128.specs.declared.Answer.the-variants.{Numbers, Refused}
+use Rattle.leb128.specs.Read.{Decoded, all, refused, answerOf}
+use Rattle.rows.specs.Walk.{Parsed, got, fault}
+use Rattle.graph.specs.Check.{Graph}
+use Rattle.host.specs.declared.ReadAnswer.{ReadAnswer}
+use Rattle.host.specs.declared.Refusal.{Refusal}
+use Rattle.host.specs.Answers.{readAnswerOf, refusalOf}
+
+pub as-count : (d : Decoded) (n : ℕ) → answerOf d ≡ Numbers n → _≡_ {A = ReadAnswer} (record { number = 0; place = 0; count = n }) (readAnswerOf d)
+unfolding answerOf readAnswerOf
+as-count (all xs) n e = cc
+as-count (refused m p) n e = let z : _≡_ {A = ℕ} 0 1 = cc in absurd (omega arith)
+
+pub as-refusal : (d : Decoded) (n p : ℕ) → answerOf d ≡ Refused n p → _≡_ {A = ReadAnswer} (record { number = n; place = p; count = 0 }) (readAnswerOf d)
+unfolding answerOf readAnswerOf
+as-refusal (all xs) n p e = let z : _≡_ {A = ℕ} 0 1 = cc in absurd (omega arith)
+as-refusal (refused m q) n p e = cc
+
+pub as-accepted : (x : Parsed Graph) → Rattle.graph.specs.Check.answerOf x ≡ Rattle.graph.specs.declared.Checked.the-variants.Accepted → _≡_ {A = Refusal} (record { number = 0; place = 0 }) (refusalOf x)
+unfolding Rattle.graph.specs.Check.answerOf refusalOf
+as-accepted (got g q) e = refl
+as-accepted (fault n p) e = let z : _≡_ {A = ℕ} 0 1 = cc in absurd (omega arith)
+
+pub as-refused : (x : Parsed Graph) (n p : ℕ) → Rattle.graph.specs.Check.answerOf x ≡ Rattle.graph.specs.declared.Checked.the-variants.Refused n p → _≡_ {A = Refusal} (record { number = n; place = p }) (refusalOf x)
+unfolding Rattle.graph.specs.Check.answerOf refusalOf
+as-refused (got g q) n p e = let z : _≡_ {A = ℕ} 0 1 = cc in absurd (omega arith)
+as-refused (fault m q) n p e = cc
