@@ -23,13 +23,13 @@ fn main() {
     }
 }
 
-/// One accepted graph, then faults at fields that had none so far, over and over.
+/// By turns an accepted graph, a fault by a rule, and three faults at fields that had none so far.
 fn check_cases(random: &mut Random, count: usize) {
     let mut shown = HashSet::new();
     for index in 0..count {
         let numbers = match index % 5 {
             0 => short_graph(random).numbers,
-            1 => rule_fault(random, &mut shown),
+            1 => rule_fault(random, RULES[index / 5 % RULES.len()]),
             _ => new_fault(random, &mut shown),
         };
         print_check(&numbers);
@@ -52,24 +52,46 @@ fn short_graph(random: &mut Random) -> Encoded {
     }
 }
 
-/// A value that is within its bound but against a rule, or a number too many.
-fn rule_fault(random: &mut Random, shown: &mut HashSet<String>) -> Vec<u32> {
-    fault_where(random, shown, |kind| kind.ends_with("by a rule") || kind == "4 past the end")
+/// Fields with a rule beyond a bound.
+const RULES: [&str; 9] = [
+    "runtime",
+    "namespace",
+    "root",
+    "resolved export name",
+    "CommonJS namespace symbol",
+    "statement count",
+    "related module",
+    "related record",
+    "statement count in all",
+];
+
+/// A value that is within its bound but against a rule.
+fn rule_fault(random: &mut Random, field: &str) -> Vec<u32> {
+    loop {
+        let encoded = short_graph(random);
+        let places: Vec<usize> = (0..encoded.fields.len()).filter(|&place| encoded.fields[place] == field).collect();
+        if places.is_empty() {
+            continue;
+        }
+        let (place, other) = (random.pick(&places), random.pick(&places));
+        let mut numbers = encoded.numbers;
+        let near = random.below(encoded.limits[place].min(20) + 1);
+        numbers[place] = if random.chance(50) { near } else { numbers[other].min(encoded.limits[place]) };
+        if reference::check(&numbers).is_err_and(|fault| fault.number == 3) {
+            return numbers;
+        }
+    }
 }
 
+/// A damaged graph, preferably with a kind of fault that was not shown before.
 fn new_fault(random: &mut Random, shown: &mut HashSet<String>) -> Vec<u32> {
-    fault_where(random, shown, |_| true)
-}
-
-/// A damaged graph whose kind of fault is wanted, preferably one that was not shown before.
-fn fault_where(random: &mut Random, shown: &mut HashSet<String>, wanted: impl Fn(&str) -> bool) -> Vec<u32> {
     for attempt in 0.. {
         let encoded = short_graph(random);
         let numbers = generate::damaged(random, &encoded);
         let Err(fault) = reference::check(&numbers) else { continue };
-        let kind = kind_of(fault, &encoded, &numbers);
+        let kind = kind_of(fault, &encoded);
         let new = attempt > 5_000 || !shown.contains(&kind);
-        if numbers.len() <= LONGEST && new && wanted(&kind) {
+        if numbers.len() <= LONGEST && new {
             shown.insert(kind);
             return numbers;
         }
@@ -77,14 +99,10 @@ fn fault_where(random: &mut Random, shown: &mut HashSet<String>, wanted: impl Fn
     unreachable!()
 }
 
-/// A word for the fault: number, field, and whether the value is within its bound. Approximate where numbers moved.
-fn kind_of(fault: Refused, encoded: &Encoded, numbers: &[u32]) -> String {
-    let place = fault.place as usize;
-    let Some(field) = encoded.fields.get(place) else {
-        return format!("{} past the end", fault.number);
-    };
-    let within = numbers.get(place).is_some_and(|&number| number <= encoded.limits[place]);
-    format!("{} {field}{}", fault.number, if within && fault.number == 3 { " by a rule" } else { "" })
+/// Number and field of a fault; the field is approximate where numbers moved.
+fn kind_of(fault: Refused, encoded: &Encoded) -> String {
+    let field = encoded.fields.get(fault.place as usize).copied().unwrap_or("past the end");
+    format!("{} {field}", fault.number)
 }
 
 fn read_cases(random: &mut Random, count: usize) {
