@@ -161,7 +161,7 @@ fn place_symbols(random: &mut Random, size: Size, graph: &mut Graph) {
     let symbols = owners.len() as u32;
     let selves: Vec<u32> = (0..symbols).filter(|_| random.chance(60)).collect();
     for (index, &owner) in (0..).zip(&owners) {
-        let root = if selves.is_empty() || selves.contains(&index) { index } else { random.pick(&selves) };
+        let root = if selves.is_empty() || selves.binary_search(&index).is_ok() { index } else { random.pick(&selves) };
         graph.symbols.push(Symbol { owner, root, ..Symbol::default() });
     }
     for (index, module) in (0..).zip(&mut graph.modules) {

@@ -31,7 +31,6 @@ pub const STACK: usize = 4 << 20;
 /// The answer of an operation that only refuses or passes.
 #[repr(C)]
 #[derive(Clone, Copy, Debug, PartialEq, Eq)]
-#[must_use]
 pub struct Refusal {
     /// Why it is refused; 0 if it is not.
     pub number: u32,
@@ -42,7 +41,6 @@ pub struct Refusal {
 /// The answer of [`read`].
 #[repr(C)]
 #[derive(Clone, Copy, Debug, PartialEq, Eq)]
-#[must_use]
 pub struct ReadAnswer {
     /// Why it is refused; 0 if it is not.
     pub number: u32,
@@ -121,6 +119,7 @@ mod boundary {
 /// If it is not refused, `count` numbers were written and those past them are as lent. For each number from the left, refusal 1
 /// at its first byte if it is faulty, else 5 at place 0 if `numbers` is full. A refusal leaves all of `numbers` as lent. No
 /// file has more numbers than bytes, so a row as long as the file is always enough.
+#[must_use]
 pub fn read(file: &[u8], numbers: &mut [u32]) -> ReadAnswer {
     // SAFETY: both slices are valid for their lengths and do not overlap, as Rust's references promise.
     unsafe { boundary::keep_read(file.as_ptr(), file.len(), numbers.as_mut_ptr(), numbers.len()) }
@@ -131,6 +130,7 @@ pub fn read(file: &[u8], numbers: &mut [u32]) -> ReadAnswer {
 /// The first fault from the left, placed by number: 4 a missing number, 2 a count over its limit, 3 a value or index
 /// outside its kind. Then 3 for the rules that read a later number (runtime, namespace owner, root), and last 4 at the
 /// first number left over.
+#[must_use]
 pub fn check(numbers: &[u32]) -> Refusal {
     // SAFETY: the slice is valid for its length and is only read.
     unsafe { boundary::keep_check(numbers.as_ptr(), numbers.len()) }
