@@ -7,9 +7,9 @@ use lizdakk::{with_stack, Refusal};
 use std::hint::black_box;
 use std::time::{Duration, Instant};
 
-const ROUNDS: usize = 25;
+const ROUNDS: usize = 200;
 /// How long one turn of a round lasts at least.
-const TURN: Duration = Duration::from_millis(4);
+const TURN: Duration = Duration::from_millis(1);
 
 fn main() {
     with_stack(|| {
@@ -29,8 +29,8 @@ fn bench_check(name: &str, numbers: &[u32]) {
     compare(
         name,
         numbers.len(),
-        || drop(black_box(lizdakk::check(black_box(numbers)))),
-        || drop(black_box(reference::check(black_box(numbers)))),
+        || lizdakk::check(black_box(numbers)),
+        || reference::check(black_box(numbers)),
     );
 }
 
@@ -42,13 +42,13 @@ fn bench_read(name: &str, numbers: &[u32]) {
     compare(
         name,
         numbers.len(),
-        || drop(black_box(lizdakk::read(black_box(&file), black_box(&mut row)))),
-        || drop(black_box(reference::read(black_box(&file), black_box(&mut expected_row)))),
+        || lizdakk::read(black_box(&file), black_box(&mut row)),
+        || reference::read(black_box(&file), black_box(&mut expected_row)),
     );
 }
 
 /// Measures both by turns and prints the best of each.
-fn compare(name: &str, numbers: usize, mut library: impl FnMut(), mut reference: impl FnMut()) {
+fn compare<L, R>(name: &str, numbers: usize, mut library: impl FnMut() -> L, mut reference: impl FnMut() -> R) {
     let times = repetitions(&mut library).max(repetitions(&mut reference));
     let (mut best_library, mut best_reference) = (f64::MAX, f64::MAX);
     for _ in 0..ROUNDS {
@@ -64,7 +64,7 @@ fn compare(name: &str, numbers: usize, mut library: impl FnMut(), mut reference:
 }
 
 /// How often to run so that a turn is long enough to be measured.
-fn repetitions(run: &mut impl FnMut()) -> u32 {
+fn repetitions<T>(run: &mut impl FnMut() -> T) -> u32 {
     let mut times = 1;
     while nanoseconds(times, run) * f64::from(times) < TURN.as_nanos() as f64 {
         times *= 2;
@@ -73,10 +73,10 @@ fn repetitions(run: &mut impl FnMut()) -> u32 {
 }
 
 /// The time of one run, on average over so many.
-fn nanoseconds(times: u32, run: &mut impl FnMut()) -> f64 {
+fn nanoseconds<T>(times: u32, run: &mut impl FnMut() -> T) -> f64 {
     let start = Instant::now();
     for _ in 0..times {
-        run();
+        black_box(run());
     }
     start.elapsed().as_nanos() as f64 / f64::from(times)
 }

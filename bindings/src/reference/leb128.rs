@@ -28,11 +28,11 @@ pub fn read(file: &[u8], numbers: &mut [u32]) -> ReadAnswer {
 fn first_number(bytes: &[u8]) -> Option<(u32, usize)> {
     let mut value = 0;
     for (index, &byte) in bytes.iter().take(GROUPS).enumerate() {
-        value |= u64::from(byte & 0x7f) << (7 * index);
+        value |= u32::from(byte & 0x7f) << (7 * index);
         if byte < 0x80 {
             let padded = byte == 0 && index > 0;
-            let number = u32::try_from(value).ok().filter(|_| !padded)?;
-            return Some((number, index + 1));
+            let over = byte > 0x0f && index + 1 == GROUPS;
+            return (!padded && !over).then_some((value, index + 1));
         }
     }
     None

@@ -11,7 +11,10 @@ pub struct Seen {
 impl Seen {
     /// Empties the set and makes room for `count` numbers.
     pub fn start(&mut self, count: usize) {
-        let size = (2 * count).next_power_of_two().max(2);
+        if count == 0 {
+            return;
+        }
+        let size = (2 * count).next_power_of_two();
         if self.slots.len() < size {
             self.slots = vec![(0, 0); size];
         }
