@@ -10,10 +10,12 @@ fn main() {
     let archive = folder.join("libhost.a");
     println!("cargo:rerun-if-changed={}", archive.display());
     if !archive.exists() {
-        panic!("{} is not there: build the static library first, or name its folder in KEEP_LIB_DIR", archive.display());
+        let archive = archive.display();
+        panic!("{archive} is not there: build the static library first, or name its folder in KEEP_LIB_DIR");
     }
     println!("cargo:rustc-link-search=native={}", folder.display());
     println!("cargo:rustc-link-lib=static=host");
+    println!("cargo:rustc-env=KEEP_LIBRARY_FOLDER={}", folder.display());
 }
 
 fn library_folder() -> PathBuf {

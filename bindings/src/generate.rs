@@ -49,17 +49,19 @@ impl Random {
         ((self.next() & 0xffff_ffff) >> width) as u32
     }
 
-    /// A list of up to `longest` elements.
-    fn list<T>(&mut self, longest: u32, mut element: impl FnMut(&mut Random) -> T) -> Vec<T> {
-        let length = if self.chance(35) { 0 } else { self.between(0, longest) };
+    /// A list of a length that `lists` allows.
+    fn list<T>(&mut self, lists: Lists, mut element: impl FnMut(&mut Random) -> T) -> Vec<T> {
+        let none = lists.shortest == 0 && self.chance(35);
+        let length = if none { 0 } else { self.between(lists.shortest, lists.longest) };
         (0..length).map(|_| element(self)).collect()
     }
 
-    fn indexes(&mut self, longest: u32, bound: u32) -> Vec<u32> {
+    /// A list of indexes below `bound`; empty if there are none.
+    fn indexes(&mut self, lists: Lists, bound: u32) -> Vec<u32> {
         if bound == 0 {
             return Vec::new();
         }
-        self.list(longest, |random| random.below(bound))
+        self.list(lists, |random| random.below(bound))
     }
 }
 
@@ -73,8 +75,21 @@ pub struct Size {
     pub more_statements: u32,
     pub entries: u32,
     pub helpers: u32,
-    /// The longest list.
-    pub list: u32,
+    pub lists: Lists,
+}
+
+/// How long lists are.
+#[derive(Clone, Copy, Debug)]
+pub struct Lists {
+    pub shortest: u32,
+    pub longest: u32,
+}
+
+impl Lists {
+    /// Up to `longest` elements; one graph in four has no empty list where it can be helped.
+    fn up_to(random: &mut Random, longest: u32) -> Lists {
+        Lists { shortest: u32::from(random.chance(25)), longest: random.between(1, longest) }
+    }
 }
 
 impl Size {
@@ -86,7 +101,7 @@ impl Size {
             more_statements: random.below(2),
             entries: random.below(2),
             helpers: random.below(2),
-            list: random.between(1, 2),
+            lists: Lists::up_to(random, 2),
         }
     }
 
@@ -98,7 +113,7 @@ impl Size {
             more_statements: random.below(6),
             entries: random.below(4),
             helpers: random.below(4),
-            list: random.between(1, 4),
+            lists: Lists::up_to(random, 4),
         }
     }
 
@@ -110,16 +125,34 @@ impl Size {
             more_statements: random.below(120),
             entries: random.below(40),
             helpers: random.below(HELPERS + 1),
-            list: random.between(1, 12),
+            lists: Lists::up_to(random, 12),
         }
     }
 
-    /// Mostly small, often tiny, seldom large.
+    /// A small graph with lists of some hundred elements.
+    pub fn long(random: &mut Random) -> Size {
+        Size { lists: Lists { shortest: 0, longest: random.between(20, 300) }, ..Size::tiny(random) }
+    }
+
+    /// The largest graph, with lists of a few elements.
+    pub fn largest() -> Size {
+        Size {
+            modules: MODULES,
+            more_symbols: SYMBOLS - MODULES,
+            more_statements: STATEMENTS - MODULES,
+            entries: ENTRIES,
+            helpers: HELPERS,
+            lists: Lists { shortest: 0, longest: 4 },
+        }
+    }
+
+    /// Mostly small, often tiny, seldom larger.
     pub fn usual(random: &mut Random) -> Size {
         match random.below(100) {
             0..=29 => Size::tiny(random),
-            30..=97 => Size::small(random),
-            _ => Size::large(random),
+            30..=96 => Size::small(random),
+            97..=98 => Size::large(random),
+            _ => Size::long(random),
         }
     }
 }
@@ -130,9 +163,9 @@ pub fn graph(random: &mut Random, size: Size) -> Graph {
     place_modules(random, size, &mut graph);
     place_symbols(random, size, &mut graph);
     graph.helpers = (0..size.helpers).map(|_| random.below(graph.symbols.len() as u32)).collect();
-    fill_modules(random, size.list, &mut graph);
-    fill_symbols(random, size.list, &mut graph);
-    fill_statements(random, size.list, &mut graph);
+    fill_modules(random, size.lists, &mut graph);
+    fill_symbols(random, size.lists, &mut graph);
+    fill_statements(random, size.lists, &mut graph);
     fill_entries(random, size, &mut graph);
     graph
 }
@@ -170,7 +203,7 @@ fn place_symbols(random: &mut Random, size: Size, graph: &mut Graph) {
     }
 }
 
-fn fill_modules(random: &mut Random, longest: u32, graph: &mut Graph) {
+fn fill_modules(random: &mut Random, lists: Lists, graph: &mut Graph) {
     let (modules, symbols) = (graph.modules.len() as u32, graph.symbols.len() as u32);
     let helpers = graph.helpers.len() as u32;
     for module in &mut graph.modules {
@@ -184,19 +217,19 @@ fn fill_modules(random: &mut Random, longest: u32, graph: &mut Graph) {
         module.reexports = random.any();
         module.scan_effects = random.below(5);
         module.scan_statements = random.any();
-        module.records = random.list(longest, |random| record(random, modules));
-        module.dependencies = random.indexes(longest, modules);
-        module.named_imports = random.indexes(longest, symbols);
-        module.own_exports = random.indexes(longest, symbols);
-        module.entry_references = random.indexes(longest, symbols);
-        module.commonjs_export_symbols = random.indexes(longest, symbols);
-        module.resolved_exports = random.list(longest, |random| [name(random), random.below(symbols), random.below(2)]);
+        module.records = random.list(lists, |random| record(random, modules));
+        module.dependencies = random.indexes(lists, modules);
+        module.named_imports = random.indexes(lists, symbols);
+        module.own_exports = random.indexes(lists, symbols);
+        module.entry_references = random.indexes(lists, symbols);
+        module.commonjs_export_symbols = random.indexes(lists, symbols);
+        module.resolved_exports = random.list(lists, |random| [name(random), random.below(symbols), random.below(2)]);
         drop_repeats(&mut module.resolved_exports);
-        module.commonjs_namespaces = random.list(longest, |random| [random.below(symbols), random.below(modules)]);
+        module.commonjs_namespaces = random.list(lists, |random| [random.below(symbols), random.below(modules)]);
         drop_repeats(&mut module.commonjs_namespaces);
-        module.enum_members = random.list(longest, |random| [name(random), name(random)]);
+        module.enum_members = random.list(lists, |random| [name(random), name(random)]);
         if helpers > 0 && statements > 0 {
-            module.helpers = random.list(longest, |random| [random.below(helpers), random.below(statements)]);
+            module.helpers = random.list(lists, |random| [random.below(helpers), random.below(statements)]);
         }
     }
 }
@@ -220,7 +253,7 @@ fn drop_repeats<const WIDTH: usize>(rows: &mut Vec<[u32; WIDTH]>) {
     rows.retain(|row| seen.insert(row[0]));
 }
 
-fn fill_symbols(random: &mut Random, longest: u32, graph: &mut Graph) {
+fn fill_symbols(random: &mut Random, lists: Lists, graph: &mut Graph) {
     let symbols = graph.symbols.len() as u32;
     for symbol in &mut graph.symbols {
         let statements = graph.modules[symbol.owner as usize].statements.len() as u32;
@@ -228,31 +261,33 @@ fn fill_symbols(random: &mut Random, longest: u32, graph: &mut Graph) {
         symbol.alias_namespace = if random.chance(50) { 0 } else { random.below(symbols + 1) };
         symbol.alias_name = name(random);
         symbol.constant = random.below(8);
-        symbol.chain = random.indexes(longest, symbols);
-        symbol.declaring = random.indexes(longest, statements);
-        symbol.written = random.indexes(longest, statements);
+        symbol.chain = random.indexes(lists, symbols);
+        symbol.declaring = random.indexes(lists, statements);
+        symbol.written = random.indexes(lists, statements);
     }
 }
 
-fn fill_statements(random: &mut Random, longest: u32, graph: &mut Graph) {
+fn fill_statements(random: &mut Random, lists: Lists, graph: &mut Graph) {
     let symbols = graph.symbols.len() as u32;
     for module in &mut graph.modules {
         let records = module.records.len() as u32;
         for statement in &mut module.statements {
             statement.bits = random.below(32);
-            statement.records = random.indexes(longest, records);
-            statement.references = random.list(longest, |random| reference(random, longest, symbols));
+            statement.records = random.indexes(lists, records);
+            statement.references = random.list(lists, |random| reference(random, lists, symbols));
         }
     }
 }
 
-fn reference(random: &mut Random, longest: u32, symbols: u32) -> Reference {
+fn reference(random: &mut Random, lists: Lists, symbols: u32) -> Reference {
     let symbol = random.below(symbols);
     match random.below(4) {
         0 => Reference::Symbol(symbol),
         1 => Reference::Nothing,
-        2 => Reference::Resolved { symbol, commonjs: random.below(2), depended: random.indexes(longest, symbols) },
-        _ => Reference::Member { object: symbol, write: random.below(2), properties: name(random), first: name(random) },
+        2 => Reference::Resolved { symbol, commonjs: random.below(2), depended: random.indexes(lists, symbols) },
+        _ => {
+            Reference::Member { object: symbol, write: random.below(2), properties: name(random), first: name(random) }
+        }
     }
 }
 
@@ -263,7 +298,7 @@ fn fill_entries(random: &mut Random, size: Size, graph: &mut Graph) {
         let related = if resolved.is_empty() {
             Vec::new()
         } else {
-            random.list(size.list, |random| {
+            random.list(size.lists, |random| {
                 let [module, record] = random.pick(&resolved);
                 let statements = graph.modules[module as usize].statements.len() as u32;
                 [module, random.below(statements), record, random.below(2)]
@@ -352,6 +387,16 @@ fn same_field(random: &mut Random, graph: &Encoded, place: usize) -> u32 {
     random.any()
 }
 
+/// Numbers that look like a graph for a while: a good header, then small numbers.
+pub fn noise(random: &mut Random) -> Vec<u32> {
+    let mut numbers = vec![random.below(64), random.below(2)];
+    numbers.extend((0..3).map(|_| random.between(1, 3)));
+    numbers.extend([random.below(3), 0]);
+    let largest = random.between(1, 3);
+    numbers.extend((0..random.below(120)).map(|_| random.below(largest + 1)));
+    numbers
+}
+
 /// The values to try at a number with this limit.
 pub fn boundary_values(number: u32, limit: u32) -> [u32; 7] {
     [0, 1, limit.wrapping_sub(1), limit, limit.wrapping_add(1), u32::MAX, number.wrapping_add(1)]
@@ -426,9 +471,4 @@ pub fn room(random: &mut Random, count: usize) -> usize {
         3 => count + 1,
         _ => random.index(count + 4),
     }
-}
-
-/// The largest sizes that a graph may have, with lists of a few elements.
-pub fn largest() -> Size {
-    Size { modules: MODULES, more_symbols: SYMBOLS - MODULES, more_statements: STATEMENTS - MODULES, entries: ENTRIES, helpers: HELPERS, list: 4 }
 }

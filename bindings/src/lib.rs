@@ -16,8 +16,8 @@
 //! The library takes no memory from the heap. A call uses at most [`STACK`] bytes (4 MiB) of the caller's stack. Rust
 //! gives a spawned thread 2 MiB unless told otherwise, so call from the main thread or through [`with_stack`].
 //!
-//! The modules [`reference`], [`model`] and [`generate`] are not wrappers: they are an independent implementation and a source of
-//! graphs, for the tests and the benchmark.
+//! The modules [`reference`], [`model`] and [`generate`] are not wrappers: they are an independent implementation and
+//! a source of graphs, for the tests and the benchmark.
 
 pub mod generate;
 pub mod model;
@@ -116,9 +116,9 @@ mod boundary {
 
 /// Reads the numbers of a file into `numbers`: unsigned LEB128, each in its shortest form and below 2^32.
 ///
-/// If it is not refused, `count` numbers were written and those past them are as lent. For each number from the left, refusal 1
-/// at its first byte if it is faulty, else 5 at place 0 if `numbers` is full. A refusal leaves all of `numbers` as lent. No
-/// file has more numbers than bytes, so a row as long as the file is always enough.
+/// If it is not refused, `count` numbers were written and those past them are as lent. For each number from the left,
+/// refusal 1 at its first byte if it is faulty, else 5 at place 0 if `numbers` is full. A refusal leaves all of
+/// `numbers` as lent. No file has more numbers than bytes, so a row as long as the file is always enough.
 #[must_use]
 pub fn read(file: &[u8], numbers: &mut [u32]) -> ReadAnswer {
     // SAFETY: both slices are valid for their lengths and do not overlap, as Rust's references promise.

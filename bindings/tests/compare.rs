@@ -1,7 +1,7 @@
 //! The linked library against the reference, on many inputs.
 //!
-//! KEEP_CASES is how many inputs each random test takes at least (400,000 if it is not set; some take a part of it), KEEP_SEED the first seed. To
-//! see one failing seed again: `KEEP_SEED=seed KEEP_CASES=1`.
+//! KEEP_CASES is how many inputs each random test takes at least (400,000 if it is not set; some take a part of it),
+//! KEEP_SEED the first seed. To see one failing seed again: `KEEP_SEED=seed KEEP_CASES=1`.
 
 use lizdakk::generate::{self, Random, Size};
 use lizdakk::model::{Encoded, Entry, Graph, Module, Record, Reference, Statement, Symbol};
@@ -84,6 +84,14 @@ fn random_graphs_whole_and_damaged() {
 }
 
 #[test]
+fn noise() {
+    for_seeds("noise", cases() / 5, |seed| {
+        compare_check(&generate::noise(&mut Random::new(seed)), "noise", seed);
+        1
+    });
+}
+
+#[test]
 fn graphs_cut_at_every_length() {
     for_seeds("cuts", cases() / 5, |seed| {
         let (_, graph) = accepted(seed, Size::small);
@@ -143,7 +151,7 @@ fn one_past_the_limit(numbers: &mut [u32], graph: &Encoded, place: usize, seed: 
 #[test]
 fn largest_graphs() {
     for_seeds("largest graphs", cases() / 2_000, |seed| {
-        let (mut random, graph) = accepted(seed, |_| generate::largest());
+        let (mut random, graph) = accepted(seed, |_| Size::largest());
         compare_check(&graph.numbers, "largest", seed);
         for _ in 0..50 {
             compare_check(&generate::damaged(&mut random, &graph), "largest, damaged", seed);
@@ -303,12 +311,20 @@ fn plain(modules: u32, symbols: u32, statements: u32) -> Graph {
     let module = |index| {
         let own = if index == 0 { statements + 1 - modules } else { 1 };
         let records = vec![Record { target: 1, kind: 0, bits: 0 }];
-        Module { normal: true, namespace: index + 1, statements: vec![Statement::default(); own as usize], records, ..Module::default() }
+        Module {
+            normal: true,
+            namespace: index + 1,
+            statements: vec![Statement::default(); own as usize],
+            records,
+            ..Module::default()
+        }
     };
     Graph {
         helpers: vec![0],
         modules: (0..modules).map(module).collect(),
-        symbols: (0..symbols).map(|index| Symbol { owner: index.min(modules - 1), root: index, ..Symbol::default() }).collect(),
+        symbols: (0..symbols)
+            .map(|index| Symbol { owner: index.min(modules - 1), root: index, ..Symbol::default() })
+            .collect(),
         entries: vec![Entry::default()],
         ..Graph::default()
     }
@@ -345,14 +361,17 @@ fn numbered<const WIDTH: usize>(count: u32, row: impl Fn(u32) -> [u32; WIDTH]) -
 /// The count's field, how to fill the list.
 fn lists() -> Vec<(&'static str, Fill)> {
     vec![
-        ("record count", |graph, count| graph.modules[0].records = vec![Record { target: 1, kind: 2, bits: 3 }; count as usize]),
+        ("record count", |graph, count| {
+            graph.modules[0].records = vec![Record { target: 1, kind: 2, bits: 3 }; count as usize]
+        }),
         ("dependency count", |graph, count| graph.modules[0].dependencies = vec![0; count as usize]),
         ("named import count", |graph, count| graph.modules[0].named_imports = vec![0; count as usize]),
         ("own export count", |graph, count| graph.modules[0].own_exports = vec![0; count as usize]),
         ("entry reference count", |graph, count| graph.modules[0].entry_references = vec![0; count as usize]),
         ("K5 count", |graph, count| graph.modules[0].commonjs_export_symbols = vec![0; count as usize]),
         ("resolved export count", |graph, count| {
-            graph.modules[0].resolved_exports = numbered(count, |index| [index.wrapping_mul(0x9e37_79b1), 0, index % 2]);
+            graph.modules[0].resolved_exports =
+                numbered(count, |index| [index.wrapping_mul(0x9e37_79b1), 0, index % 2]);
         }),
         ("CommonJS namespace count", |graph, count| {
             graph.modules[0].commonjs_namespaces = numbered(count, |index| [index * 7 % 16_384, 0]);
@@ -363,7 +382,9 @@ fn lists() -> Vec<(&'static str, Fill)> {
         ("declaring count", |graph, count| graph.symbols[0].declaring = vec![0; count as usize]),
         ("written count", |graph, count| graph.symbols[0].written = vec![0; count as usize]),
         ("statement record count", |graph, count| graph.modules[0].statements[0].records = vec![0; count as usize]),
-        ("reference count", |graph, count| graph.modules[0].statements[0].references = vec![Reference::Symbol(0); count as usize]),
+        ("reference count", |graph, count| {
+            graph.modules[0].statements[0].references = vec![Reference::Symbol(0); count as usize]
+        }),
         ("depended count", |graph, count| {
             let depended = vec![0; count as usize];
             graph.modules[0].statements[0].references = vec![Reference::Resolved { symbol: 0, commonjs: 1, depended }];
@@ -421,7 +442,7 @@ fn repeats_in_the_longest_lists() {
     });
 }
 
-/// The case that the scope paper prints.
+/// The case that document 01 prints.
 #[test]
 fn printed_case() {
     #[rustfmt::skip]

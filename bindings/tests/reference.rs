@@ -67,7 +67,7 @@ fn full() -> Vec<u32> {
     [&FRONT[..], &REST[..]].concat()
 }
 
-/// The case that the scope paper prints.
+/// The case that document 01 prints.
 #[rustfmt::skip]
 const PRINTED: [u32; 81] = [
     1, 0, 2, 2, 3, 1, 0,

@@ -14,7 +14,10 @@ const TURN: Duration = Duration::from_millis(1);
 fn main() {
     with_stack(|| {
         let bundle = bundle().numbers();
-        println!("{:<44} {:>8} {:>12} {:>12} {:>7} {:>7} {:>6}", "", "numbers", "library ns", "reference ns", "each", "each", "ratio");
+        println!(
+            "{:<44} {:>8} {:>12} {:>12} {:>7} {:>7} {:>6}",
+            "", "numbers", "library ns", "reference ns", "each", "each", "ratio"
+        );
         bench_check("check, bundle of 1,000 modules", &bundle);
         bench_check("check, printed case", &PRINTED);
         bench_check("check, 16,384 exports and CommonJS namespaces", &repeats().numbers());
@@ -26,12 +29,7 @@ fn bench_check(name: &str, numbers: &[u32]) {
     let expected = Refusal::from(reference::check(numbers));
     assert_eq!(expected, Refusal::PASSED, "{name}");
     assert_eq!(lizdakk::check(numbers), expected, "{name}");
-    compare(
-        name,
-        numbers.len(),
-        || lizdakk::check(black_box(numbers)),
-        || reference::check(black_box(numbers)),
-    );
+    compare(name, numbers.len(), || lizdakk::check(black_box(numbers)), || reference::check(black_box(numbers)));
 }
 
 fn bench_read(name: &str, numbers: &[u32]) {
@@ -81,7 +79,7 @@ fn nanoseconds<T>(times: u32, run: &mut impl FnMut() -> T) -> f64 {
     start.elapsed().as_nanos() as f64 / f64::from(times)
 }
 
-/// The case that the scope paper prints.
+/// The case that document 01 prints.
 #[rustfmt::skip]
 const PRINTED: [u32; 81] = [
     1, 0, 2, 2, 3, 1, 0,
@@ -146,7 +144,11 @@ fn fill_module(random: &mut Random, index: u32, module: &mut Module) {
 
 /// A record with a target.
 fn record(random: &mut Random) -> Record {
-    Record { target: random.between(1, MODULES), kind: if random.chance(80) { 0 } else { random.below(3) }, bits: random.below(4) }
+    Record {
+        target: random.between(1, MODULES),
+        kind: if random.chance(80) { 0 } else { random.below(3) },
+        bits: random.below(4),
+    }
 }
 
 fn indexes(random: &mut Random, count: u32, bound: u32) -> Vec<u32> {

@@ -1,5 +1,5 @@
-//! An independent implementation of the operations, in plain Rust, written from the project's scope paper. The tests
-//! compare the library with it, and the benchmark measures one against the other.
+//! An independent implementation of the operations in plain Rust, written from document 01. The tests compare the
+//! library with it, and the benchmark measures one against the other.
 
 pub mod graph;
 pub mod leb128;
