@@ -16,7 +16,7 @@
 //! The library takes no memory from the heap. A call uses at most [`STACK`] bytes (4 MiB) of the caller's stack. Rust
 //! gives a spawned thread 2 MiB unless told otherwise, so call from the main thread or through [`with_stack`].
 //!
-//! The modules [`reference`], [`model`] and [`generate`] are not wrappers: they are an independent implementation and
+//! The modules [`mod@reference`], [`model`] and [`generate`] are not wrappers: they are an independent implementation and
 //! a source of graphs, for the tests and the benchmark.
 
 pub mod generate;
