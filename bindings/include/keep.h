@@ -1,0 +1,66 @@
+/*
+ * The keep decision of a bundler: the C boundary of the static library `host` (link with -lhost).
+ *
+ * Slices are a pointer, then a length in elements (not bytes). A length may be anything from 0 up, in the lent rows
+ * too: a row that is too short is refused, not overrun. The pointer has to be aligned for its elements and valid for
+ * the whole length; with length 0 it still has to be aligned and not null. A slice that is written may not overlap
+ * another one.
+ *
+ * Answers: `number` 0 means not refused, and then `place` is 0. Refusals:
+ *   1  a number of a file that is not one: over five groups, 2^32 or more, padded, or the file ends within it
+ *   2  a count over its limit
+ *   3  a value or index outside its kind, or against a rule
+ *   4  a missing number, or numbers left over
+ *   5  a lent row is too short; its place is 0
+ * A refusal leaves the rows for answers as they were lent. Otherwise what is past an answer is as lent.
+ *
+ * No memory is taken from the heap, nothing is kept between calls, and calls from several threads do not meet. A call
+ * uses at most 4 MiB of the caller's stack: mind it in threads that have less.
+ */
+#ifndef KEEP_H
+#define KEEP_H
+
+#include <stddef.h>
+#include <stdint.h>
+
+#ifdef __cplusplus
+extern "C" {
+#endif
+
+/* The most stack that a call uses, in bytes. */
+#define KEEP_STACK ((size_t)4 << 20)
+
+struct keep_refusal {
+    uint32_t number; /* 0: not refused */
+    uint64_t place;  /* where the fault is */
+};
+
+struct keep_read_answer {
+    uint32_t number; /* 0: not refused */
+    uint64_t place;  /* the byte where the faulty number begins; 0 for a refusal 5 */
+    uint64_t count;  /* how many numbers were written; 0 if refused */
+};
+
+/*
+ * Reads the numbers of a file: unsigned LEB128, each in its shortest form and below 2^32.
+ *
+ * Not refused: `numbers` begins with `count` numbers, the rest of it is as lent. For each number from the left: 1 at
+ * its first byte if it is faulty, else 5 at place 0 if `numbers` is full. A refusal leaves all of `numbers` as lent. A
+ * row as long as the file is always enough.
+ */
+struct keep_read_answer keep_read(const uint8_t *file, size_t file_length, uint32_t *numbers, size_t numbers_length);
+
+/*
+ * Says whether numbers are a graph. Places are counted in numbers from 0.
+ *
+ * The first fault from the left: 4 a missing number (at the length), 2 a count over its limit, 3 a value or index
+ * outside its kind. Then 3 for the rules that read a later number (runtime, namespace owner, root), the leftmost, at
+ * the earlier number. Last 4 at the first number left over. Nothing is written.
+ */
+struct keep_refusal keep_check(const uint32_t *numbers, size_t numbers_length);
+
+#ifdef __cplusplus
+}
+#endif
+
+#endif
