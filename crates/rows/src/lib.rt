@@ -216,8 +216,8 @@ fn chained_repeats(
     chained(numbers, at, count, width, nexts)
 }
 
-// `count` rows whose first numbers differ: each is looked for in the rows before it whose first number is the same modulo 1024.
-fn long_distinct_rows(
+// `count` rows whose first numbers differ: each is looked for in the rows before it whose first number is the same modulo 1024. The tables are clear.
+fn chained_rows(
     numbers: &[u32],
     at: usize,
     count: usize,
@@ -225,16 +225,16 @@ fn long_distinct_rows(
     a: usize,
     b: usize,
     c: usize,
+    heads: &mut [u32; 1024],
+    nexts: &mut [u32; 16384],
 ) -> Walk
-    requires { ⌜ (0 < width) × (width ≤ 3) × (count ≤ 16384) ⌝ }
+    requires { ⌜ (0 < width) × (width ≤ 3) × (count ≤ 16384) × Chained (now numbers) at width 0 (now heads) (now nexts) ⌝ }
     ensures { λ r. ⌜ r ≡ walkOf (many (distinctRow (columnsOf width a b c) (now (numbers .entry))) firsts count [] at) ⌝ }
 {
-    let mut heads = [0u32; 1024];
-    let mut nexts = [0u32; 16384];
     let mut k: usize = 0;
     let mut place = at;
     while k < count {
-        if chained_repeats(numbers, at, k, width, place, &mut heads, &mut nexts) {
+        if chained_repeats(numbers, at, k, width, place, heads, nexts) {
             return Walk::Fault(3, place);
         }
         match row(numbers, place, width, a, b, c) {
@@ -248,6 +248,34 @@ fn long_distinct_rows(
         k += 1;
     }
     Walk::At(place)
+}
+
+// 0, since no slice is so long; a compiler cannot tell.
+pub fn apart(numbers: &[u32]) -> usize {
+    numbers.len() / 4611686018427387904
+}
+
+// chained_rows with tables of its own. `again` is 0: the call of itself keeps a compiler from merging this frame into its caller's (docs/DECISIONS.md).
+fn long_distinct_rows(
+    numbers: &[u32],
+    at: usize,
+    count: usize,
+    width: usize,
+    a: usize,
+    b: usize,
+    c: usize,
+    again: usize,
+) -> Walk
+    requires { ⌜ (0 < width) × (width ≤ 3) × (count ≤ 16384) ⌝ }
+    ensures { λ r. ⌜ r ≡ walkOf (many (distinctRow (columnsOf width a b c) (now (numbers .entry))) firsts count [] at) ⌝ }
+{
+    let mut heads = [0u32; 1024];
+    let mut nexts = [0u32; 16384];
+    let end = chained_rows(numbers, at, count, width, a, b, c, &mut heads, &mut nexts);
+    if again > 0 {
+        return long_distinct_rows(numbers, at, count, width, a, b, c, again - 1);
+    }
+    end
 }
 
 // `count` rows whose first numbers differ.
@@ -266,7 +294,7 @@ pub fn distinct_rows(
     if count <= 64 {
         short_distinct_rows(numbers, at, count, width, a, b, c)
     } else {
-        long_distinct_rows(numbers, at, count, width, a, b, c)
+        long_distinct_rows(numbers, at, count, width, a, b, c, apart(numbers))
     }
 }
 
