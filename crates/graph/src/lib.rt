@@ -263,11 +263,6 @@ pub fn fits(h: Header, modules: usize, symbols: usize, statements: usize, entrie
     true
 }
 
-// 0, since no slice is so long; a compiler cannot tell.
-fn apart(numbers: &[u32]) -> usize {
-    numbers.len() / 4611686018427387904
-}
-
 // The check with tables for a small graph.
 fn check_small(numbers: &[u32], h: Header) -> Checked
     requires { ⌜ HeaderRead (now numbers) h ⌝ }
@@ -355,9 +350,9 @@ pub fn check(numbers: &[u32]) -> Checked
                 return check_small(numbers, h);
             }
             if fits(h, 128, 1024, 1024, 128) {
-                return check_middle(numbers, h, apart(numbers));
+                return check_middle(numbers, h, rows::apart(numbers));
             }
-            check_large(numbers, h, apart(numbers))
+            check_large(numbers, h, rows::apart(numbers))
         }
     }
 }

@@ -1,0 +1,29 @@
+-- Where the lists of an item stand.
+use Prim.Native.Nat.{ℕ, zero, suc, _+_, _*_, _<_, _≤_}
+use mathlib.Core.Path.{_≡_}
+use mathlib.Core.List.{List, [], _∷_}
+use lib.ListN.{length, getD}
+use Rattle.rows.specs.Walk.{Item, noItem}
+
+-- the place of list j, where the first stands at `at` and list i has rows of as many numbers as `widths` says
+unfoldable pub placeOf : List ℕ → ℕ → List ℕ → ℕ → ℕ
+placeOf numbers at widths zero = at
+placeOf numbers at [] (suc j) = at
+placeOf numbers at (w ∷ ws) (suc j) = placeOf numbers (at + 1 + w * getD numbers at 0) ws j
+
+-- the lists up to list j, and list j's count, are inside the numbers
+pub record Inside (numbers : List ℕ) (at : ℕ) (widths : List ℕ) (j : ℕ) : Type 0 where
+  pub known : j < length widths
+  pub counted : (i : ℕ) → i ≤ j → placeOf numbers at widths i < length numbers
+
+-- how many numbers a row of each of a module's lists has
+unfoldable pub moduleWidths : List ℕ
+moduleWidths = 3 ∷ 1 ∷ 1 ∷ 1 ∷ 1 ∷ 1 ∷ 3 ∷ 2 ∷ 2 ∷ 2 ∷ []
+
+-- of a symbol's lists
+unfoldable pub symbolWidths : List ℕ
+symbolWidths = 1 ∷ 1 ∷ 1 ∷ []
+
+-- a symbol's canonical symbol: its root, which is its own root (L9 follows links here)
+unfoldable pub rootOf : List Item → ℕ → ℕ
+rootOf symbols s = getD (getD symbols s noItem .head) 2 0
