@@ -22,7 +22,7 @@ AllColumns numbers [] (w ∷ ws) = ⊥
 AllColumns numbers (r ∷ rs) [] = ⊥
 AllColumns numbers (r ∷ rs) (w ∷ ws) = Columns numbers r w × AllColumns numbers rs ws
 
-distinct-plain : (columns numbers seen : List ℕ) (at : ℕ) (x : List ℕ) (q : ℕ) → distinctRow columns numbers seen at ≡ got x q → plainRow columns numbers [] at ≡ got x q
+pub distinct-plain : (columns numbers seen : List ℕ) (at : ℕ) (x : List ℕ) (q : ℕ) → distinctRow columns numbers seen at ≡ got x q → plainRow columns numbers [] at ≡ got x q
 unfolding distinctRow plainRow
 distinct-plain columns numbers seen at x q e = go (repeated numbers seen at) refl
   where
@@ -31,13 +31,13 @@ distinct-plain columns numbers seen at x q e = go (repeated numbers seen at) ref
     go false u = rw (u, distinctRow) at e
 
 -- whatever its count may be
-pub plain-columns : (numbers columns : List ℕ) (counts : ℕ) → Columns numbers (record { counts = counts; row = plainRow columns numbers }) (length columns)
+abbrev pub plain-columns : (numbers columns : List ℕ) (counts : ℕ) → Columns numbers (record { counts = counts; row = plainRow columns numbers }) (length columns)
 plain-columns numbers columns counts = record { columns = columns; long = refl; plain = plain-plain columns numbers }
 
-pub of-plain : (numbers columns : List ℕ) → Columns numbers (plain numbers columns) (length columns)
+abbrev pub of-plain : (numbers columns : List ℕ) → Columns numbers (plain numbers columns) (length columns)
 of-plain numbers columns = plain-columns numbers columns 16385
 
-pub of-distinct : (numbers columns : List ℕ) → Columns numbers (distinct numbers columns) (length columns)
+abbrev pub of-distinct : (numbers columns : List ℕ) → Columns numbers (distinct numbers columns) (length columns)
 of-distinct numbers columns = record { columns = columns; long = refl; plain = distinct-plain columns numbers }
 
 -- a list of such rows, with its count at p

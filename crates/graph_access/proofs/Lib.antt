@@ -1,2 +1,3 @@
 pub mod Fixed
 pub mod OfItems
+pub mod Ranges

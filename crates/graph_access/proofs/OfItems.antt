@@ -13,7 +13,7 @@ use Rattle.graph_tables.proofs.Facts.{its-place, its-read, symbol-place, symbol
 use Rattle.graph_access.specs.Lists.{placeOf, Inside, moduleWidths, symbolWidths}
 use Rattle.graph_access.proofs.Fixed.{Columns, AllColumns, of-plain, of-distinct, plain-columns, Stands, each-stands, each-inside}
 
-module-columns : (h : Header) (numbers : List ℕ) (n : ℕ) → AllColumns numbers (moduleLists h numbers n) moduleWidths
+abbrev pub module-columns : (h : Header) (numbers : List ℕ) (n : ℕ) → AllColumns numbers (moduleLists h numbers n) moduleWidths
 unfolding moduleLists importLists exportLists nameLists moduleWidths
 module-columns h numbers n = (
   of-plain numbers ((h .modules + 1) ∷ 3 ∷ 4 ∷ []),
@@ -41,7 +41,7 @@ module-columns h numbers n = (
   ),
 )
 
-symbol-columns : (h : Header) (numbers : List ℕ) (n : ℕ) → AllColumns numbers (symbolLists h numbers n) symbolWidths
+abbrev pub symbol-columns : (h : Header) (numbers : List ℕ) (n : ℕ) → AllColumns numbers (symbolLists h numbers n) symbolWidths
 unfolding symbolLists symbolWidths
 symbol-columns h numbers n = (of-plain numbers (h .symbols ∷ []), (plain-columns numbers (n ∷ []) _, (plain-columns numbers (n ∷ []) _, tt)))
 

@@ -3,7 +3,8 @@ use Prim.Native.Nat.{ℕ, zero, suc, _+_, _*_, _<_, _≤_}
 use mathlib.Core.Path.{_≡_}
 use mathlib.Core.List.{List, [], _∷_}
 use lib.ListN.{length, getD}
-use Rattle.rows.specs.Walk.{Item, noItem}
+use Rattle.rows.specs.Walk.{Item, noItem, any}
+use Rattle.graph_format.specs.declared.Header.{Header}
 
 -- the place of list j, where the first stands at `at` and list i has rows of as many numbers as `widths` says
 unfoldable pub placeOf : List ℕ → ℕ → List ℕ → ℕ → ℕ
@@ -27,3 +28,21 @@ symbolWidths = 1 ∷ 1 ∷ 1 ∷ []
 -- a symbol's canonical symbol: its root, which is its own root (L9 follows links here)
 unfoldable pub rootOf : List Item → ℕ → ℕ
 rootOf symbols s = getD (getD symbols s noItem .head) 2 0
+
+-- The limits of the columns of a module's lists, where it has n statements; of a symbol's, where its owner has. Document 01, "The graph".
+unfoldable pub moduleLimits : Header → ℕ → List (List ℕ)
+moduleLimits h n =
+    ((h .modules + 1) ∷ 3 ∷ 4 ∷ [])
+    ∷ (h .modules ∷ [])
+    ∷ (h .symbols ∷ [])
+    ∷ (h .symbols ∷ [])
+    ∷ (h .symbols ∷ [])
+    ∷ (h .symbols ∷ [])
+    ∷ (any ∷ h .symbols ∷ 2 ∷ [])
+    ∷ (h .symbols ∷ h .modules ∷ [])
+    ∷ (any ∷ any ∷ [])
+    ∷ (h .helpers ∷ n ∷ [])
+    ∷ []
+
+unfoldable pub symbolLimits : Header → ℕ → List (List ℕ)
+symbolLimits h n = (h .symbols ∷ []) ∷ (n ∷ []) ∷ (n ∷ []) ∷ []

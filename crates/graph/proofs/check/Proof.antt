@@ -8,7 +8,7 @@ use Rattle.graph.proofs.check.Statement.{statement}
 use Rattle.graph.proofs.check.Tie as tie
 use Rattle.graph.proofs.check.Reads as reads
 use Rattle.graph.proofs.check.Lts as lts
-use Rattle.graph.proofs.apart.Reads as apart-reads
+use Rattle.rows.proofs.apart.Reads as apart-reads
 use Rattle.graph.proofs.check_large.Reads as check-large-reads
 use Rattle.graph.proofs.check_middle.Reads as check-middle-reads
 use Rattle.graph.proofs.check_small.Reads as check-small-reads
