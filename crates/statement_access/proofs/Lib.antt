@@ -1,0 +1,3 @@
+pub mod Column
+pub mod ReadReferences
+pub mod OfStatements
