@@ -4,6 +4,16 @@ use crate::model::{Encoded, Entry, Graph, Module, Record, Reference, Statement, 
 use crate::reference::graph::{ENTRIES, HELPERS, MODULES, STATEMENTS, SYMBOLS};
 use crate::reference::leb128;
 
+/// The case that document 01 prints.
+#[rustfmt::skip]
+pub const PRINTED: [u32; 81] = [
+    1, 0, 2, 2, 3, 1, 0,
+    1, 0, 0, 0, 0, 0, 0, 1, 0, 1, 0, 1,  0, 0, 0, 0, 0, 0, 0, 0, 0, 0,
+    1, 1, 0, 0, 0, 0, 0, 2, 0, 2, 1, 2,  0, 0, 0, 0, 0, 0, 0, 0, 0, 0,
+    0, 1, 0, 0, 0, 0, 0, 0, 0,   1, 1, 1, 0, 0, 0, 0, 0, 0,
+    0, 0, 0,   0, 0, 0,   1, 0, 0,   1, 0, 0,
+];
+
 /// The splitmix64 generator.
 pub struct Random(u64);
 

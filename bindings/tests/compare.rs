@@ -445,14 +445,7 @@ fn repeats_in_the_longest_lists() {
 /// The case that document 01 prints.
 #[test]
 fn printed_case() {
-    #[rustfmt::skip]
-    let file: [u8; 81] = [
-        1, 0, 2, 2, 3, 1, 0,
-        1, 0, 0, 0, 0, 0, 0, 1, 0, 1, 0, 1,  0, 0, 0, 0, 0, 0, 0, 0, 0, 0,
-        1, 1, 0, 0, 0, 0, 0, 2, 0, 2, 1, 2,  0, 0, 0, 0, 0, 0, 0, 0, 0, 0,
-        0, 1, 0, 0, 0, 0, 0, 0, 0,   1, 1, 1, 0, 0, 0, 0, 0, 0,
-        0, 0, 0,   0, 0, 0,   1, 0, 0,   1, 0, 0,
-    ];
+    let file = generate::PRINTED.map(|number| number as u8);
     with_stack(|| {
         let mut numbers = [0; 81];
         assert_eq!(lizdakk::read(&file, &mut numbers), ReadAnswer { number: 0, place: 0, count: 81 });

@@ -1,5 +1,6 @@
 //! The reference itself on cases made by hand, one or more for each kind of fault.
 
+use lizdakk::generate::PRINTED;
 use lizdakk::reference::{check, read};
 use lizdakk::{ReadAnswer, Refused};
 
@@ -66,16 +67,6 @@ const REST: [u32; 40] = [
 fn full() -> Vec<u32> {
     [&FRONT[..], &REST[..]].concat()
 }
-
-/// The case that document 01 prints.
-#[rustfmt::skip]
-const PRINTED: [u32; 81] = [
-    1, 0, 2, 2, 3, 1, 0,
-    1, 0, 0, 0, 0, 0, 0, 1, 0, 1, 0, 1,  0, 0, 0, 0, 0, 0, 0, 0, 0, 0,
-    1, 1, 0, 0, 0, 0, 0, 2, 0, 2, 1, 2,  0, 0, 0, 0, 0, 0, 0, 0, 0, 0,
-    0, 1, 0, 0, 0, 0, 0, 0, 0,   1, 1, 1, 0, 0, 0, 0, 0, 0,
-    0, 0, 0,   0, 0, 0,   1, 0, 0,   1, 0, 0,
-];
 
 fn refusal(number: u32, place: u64) -> Result<(), Refused> {
     Err(Refused { number, place })

@@ -1,6 +1,6 @@
 //! The library against the reference: the same input, in the same run, by turns, best of several rounds.
 
-use lizdakk::generate::{self, Random};
+use lizdakk::generate::{self, Random, PRINTED};
 use lizdakk::model::{Entry, Graph, Module, Record, Reference, Statement, Symbol};
 use lizdakk::reference::{self, leb128};
 use lizdakk::{with_stack, Refusal};
@@ -78,16 +78,6 @@ fn nanoseconds<T>(times: u32, run: &mut impl FnMut() -> T) -> f64 {
     }
     start.elapsed().as_nanos() as f64 / f64::from(times)
 }
-
-/// The case that document 01 prints.
-#[rustfmt::skip]
-const PRINTED: [u32; 81] = [
-    1, 0, 2, 2, 3, 1, 0,
-    1, 0, 0, 0, 0, 0, 0, 1, 0, 1, 0, 1,  0, 0, 0, 0, 0, 0, 0, 0, 0, 0,
-    1, 1, 0, 0, 0, 0, 0, 2, 0, 2, 1, 2,  0, 0, 0, 0, 0, 0, 0, 0, 0, 0,
-    0, 1, 0, 0, 0, 0, 0, 0, 0,   1, 1, 1, 0, 0, 0, 0, 0, 0,
-    0, 0, 0,   0, 0, 0,   1, 0, 0,   1, 0, 0,
-];
 
 const MODULES: u32 = 1_000;
 const SYMBOLS: u32 = 16_000;
