@@ -62,7 +62,7 @@ module _ (numbers : List ℕ) {head : List ℕ} {q : ℕ} (e : cells headerRules
   unfolding headerRules headerIn headerOf
   few-helpers = omega (arith, first 6 (omega arith), read .good 6 (omega arith) .0)
 
-  walked-is : walked numbers ≡ graphAt (headerIn numbers) numbers 7
+  pub walked-is : walked numbers ≡ graphAt (headerIn numbers) numbers 7
   unfolding walked
   walked-is = then-at _ e ∙ rw (header-same, ends-at-seven)
 

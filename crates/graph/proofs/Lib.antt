@@ -1,3 +1,4 @@
 pub mod Loading
 pub mod LaterRules
 pub mod Checking
+pub mod WellFormed
