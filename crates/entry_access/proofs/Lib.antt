@@ -1,1 +1,2 @@
 pub mod OfEntries
+pub mod Ranges

@@ -24,7 +24,7 @@ tested r numbers at test {x} {q} kept e =
     moved : {y p z o : ℕ} → y ≡ z → p ≡ o → Number r numbers at y p → Number r numbers at z o
     moved i j n = rw (sym i, sym j) n
 
-module-got : (h : Header) (ms : List Item) (numbers : List ℕ) (at : ℕ) {x q : ℕ} → relatedModuleAt h ms numbers at ≡ got x q → Number (below (h .modules)) numbers at x q
+pub module-got : (h : Header) (ms : List Item) (numbers : List ℕ) (at : ℕ) {x q : ℕ} → relatedModuleAt h ms numbers at ≡ got x q → Number (below (h .modules)) numbers at x q
 unfolding relatedModuleAt
 module-got h ms numbers at {x} {q} e = tested _ numbers at _ (λ y p. go y p (eqb (kindOf (getD ms y noItem)) 1) refl) e
   where
@@ -33,7 +33,7 @@ module-got h ms numbers at {x} {q} e = tested _ numbers at _ (λ y p. go y p (eq
     go y p true u w = got-same (rw u at w)
     go y p false u w = absurd (no-fault (rw u at w))
 
-record-got : (records : List (List ℕ)) (numbers : List ℕ) (at : ℕ) {x q : ℕ} → relatedRecordAt records numbers at ≡ got x q → Number (below (length records)) numbers at x q
+pub record-got : (records : List (List ℕ)) (numbers : List ℕ) (at : ℕ) {x q : ℕ} → relatedRecordAt records numbers at ≡ got x q → Number (below (length records)) numbers at x q
 unfolding relatedRecordAt
 record-got records numbers at {x} {q} e = tested _ numbers at _ (λ y p. go y p (eqb (getD (getD records y []) 0 0) 0) refl) e
   where
@@ -116,7 +116,7 @@ module _ (numbers table : List ℕ) (t : EntryTable numbers table) where
     abbrev related : List (List ℕ)
     related = getD (its .rows) 0 []
 
-    entry-read : (q : ℕ) × ItemRead (below (headerIn numbers .modules) ∷ below 3 ∷ []) (λ head. relatedList (headerIn numbers) (modulesIn numbers) numbers ∷ []) numbers (its .place) its q
+    pub entry-read : (q : ℕ) × ItemRead (below (headerIn numbers .modules) ∷ below 3 ∷ []) (λ head. relatedList (headerIn numbers) (modulesIn numbers) numbers ∷ []) numbers (its .place) its q
     unfolding entriesRead entriesAt entryAt
     entry-read =
         let o = many-each _ _ noItem _ _ _ (t .read) e h in
@@ -130,7 +130,7 @@ module _ (numbers table : List ℕ) (t : EntryTable numbers table) where
         let z : 0 + e ≡ e = omega arith in
         rw z at i
 
-    related-read : (q : ℕ) × ListRead (relatedList (headerIn numbers) (modulesIn numbers) numbers) numbers (its .place + 2) related q
+    pub related-read : (q : ℕ) × ListRead (relatedList (headerIn numbers) (modulesIn numbers) numbers) numbers (its .place + 2) related q
     related-read =
         let f = lists-first _ _ numbers (its .place + 2) (entry-read .1 .rows) in
         let i = ap (λ l. getD l 0 []) (f .is) in

@@ -26,7 +26,7 @@ mul-wide c = let s = c .before .before .before in omega (arith, count-inside _ _
 
 -- src/lib.rt:26:16
 shared-slice-read-wide : tie.Need-shared-slice-read-wide
-shared-slice-read-wide c = let s = c .before .before .before .before in count-inside _ _ (s .pre .0) _ (s .pre .1)
+shared-slice-read-wide c = let s = c .before .before .before .before in omega (arith, count-inside _ _ (s .pre .0) _ (s .pre .1))
 
 -- src/lib.rt:26:5
 wide-requires : tie.Need-wide-requires

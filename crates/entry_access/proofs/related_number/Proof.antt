@@ -38,7 +38,7 @@ mul-wide-2 c = let s = c .before .before .before in omega (arith, related-inside
 
 -- src/lib.rt:42:16
 shared-slice-read-wide : tie.Need-shared-slice-read-wide
-shared-slice-read-wide c = let s = c .before .before .before .before in related-inside _ _ (s .pre .0) _ (s .pre .1 .0) _ (s .pre .1 .1) _ (s .pre .1 .2)
+shared-slice-read-wide c = let s = c .before .before .before .before in omega (arith, related-inside _ _ (s .pre .0) _ (s .pre .1 .0) _ (s .pre .1 .1) _ (s .pre .1 .2))
 
 -- src/lib.rt:42:5
 wide-requires : tie.Need-wide-requires
