@@ -1,3 +1,4 @@
 pub mod Column
 pub mod ReadReferences
 pub mod OfStatements
+pub mod Ranges

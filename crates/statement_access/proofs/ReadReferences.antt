@@ -49,7 +49,7 @@ module _ (numbers : List ℕ) (at : ℕ) where
   count-inside h e = omega (arith, width-2 e)
 
 -- the first numbers of rows
-first-number : (ds : List (List ℕ)) (k : ℕ) → getD (map (λ d. getD d 0 0) ds) k 0 ≡ getD (getD ds k []) 0 0
+pub first-number : (ds : List (List ℕ)) (k : ℕ) → getD (map (λ d. getD d 0 0) ds) k 0 ≡ getD (getD ds k []) 0 0
 first-number [] k = refl
 first-number (d ∷ ds) zero = refl
 first-number (d ∷ ds) (suc k) = first-number ds k
