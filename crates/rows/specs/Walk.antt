@@ -1,6 +1,6 @@
 -- Reading numbers from the left, up to the first fault. `numbers` is the whole input and `at` the place of the next number.
 use Prim.Native.Nat.{ℕ, zero, suc, _+_, _*_}
-use mathlib.Core.Bool.{Bool, true, false, _&&_, _||_}
+use mathlib.Core.Bool.{Bool, true, false}
 use mathlib.Core.List.{List, [], _∷_, map}
 use lib.Dec.{ltb, leb, eqb}
 use lib.ListN.{length, getD, take}
@@ -83,7 +83,7 @@ unfoldable pub distinctRow : List ℕ → List ℕ → List ℕ → ℕ → Pars
 distinctRow columns numbers seen at =
     elim (repeated numbers seen at) [ true ↦ fault 3 at | false ↦ plainRow columns numbers seen at ]
 
--- a list's rule where any count will do; where the list is to be empty unless `some`
+-- the rule of a list of such rows, with any count that lists may have
 abbrev pub plain : List ℕ → List ℕ → ListRule
 plain numbers columns = record { counts = 16385; row = plainRow columns numbers }
 
