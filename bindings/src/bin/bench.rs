@@ -8,6 +8,8 @@ use std::hint::black_box;
 use std::time::{Duration, Instant};
 
 const ROUNDS: usize = 200;
+/// After how long no further round begins, once there were three.
+const LONGEST: Duration = Duration::from_secs(5);
 /// How long one turn of a round lasts at least.
 const TURN: Duration = Duration::from_millis(1);
 
@@ -20,7 +22,8 @@ fn main() {
         );
         bench_check("check, bundle of 1,000 modules", &bundle);
         bench_check("check, printed case", &PRINTED);
-        bench_check("check, 16,384 exports and CommonJS namespaces", &repeats().numbers());
+        bench_check("check, 16,384 exports and CommonJS namespaces", &repeats(1).numbers());
+        bench_check("the same, export names equal modulo 1,024", &repeats(1_024).numbers());
         bench_read("read, file of the bundle", &bundle);
     });
 }
@@ -49,7 +52,11 @@ fn bench_read(name: &str, numbers: &[u32]) {
 fn compare<L, R>(name: &str, numbers: usize, mut library: impl FnMut() -> L, mut reference: impl FnMut() -> R) {
     let times = repetitions(&mut library).max(repetitions(&mut reference));
     let (mut best_library, mut best_reference) = (f64::MAX, f64::MAX);
-    for _ in 0..ROUNDS {
+    let begin = Instant::now();
+    for round in 0..ROUNDS {
+        if round >= 3 && begin.elapsed() > LONGEST {
+            break;
+        }
         best_library = best_library.min(nanoseconds(times, &mut library));
         best_reference = best_reference.min(nanoseconds(times, &mut reference));
     }
@@ -189,8 +196,8 @@ fn entry(random: &mut Random, index: u32) -> Entry {
     Entry { module: random.below(50) * 20 + 1, kind: if index < 2 { 0 } else { 2 }, related }
 }
 
-/// One module with the longest lists in which repeats are looked for.
-fn repeats() -> Graph {
+/// One module with the longest lists in which repeats are looked for; the export names are multiples of `step`.
+fn repeats(step: u32) -> Graph {
     let mut random = Random::new(2);
     let count = 16_384;
     let mut exports: Vec<u32> = (0..count).collect();
@@ -200,7 +207,7 @@ fn repeats() -> Graph {
     let module = Module {
         normal: true,
         namespace: 1,
-        resolved_exports: exports.into_iter().map(|name| [name, name, 0]).collect(),
+        resolved_exports: exports.into_iter().map(|symbol| [symbol * step, symbol, 0]).collect(),
         commonjs_namespaces: namespaces.into_iter().map(|symbol| [symbol, 0]).collect(),
         statements: vec![Statement::default()],
         ..Module::default()
