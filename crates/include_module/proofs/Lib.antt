@@ -1,0 +1,3 @@
+pub mod Sweeping
+pub mod Following
+pub mod InOrder

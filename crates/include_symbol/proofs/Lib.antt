@@ -1,0 +1,6 @@
+pub mod Tabled
+pub mod Bailouts
+pub mod Demands
+pub mod ByName
+pub mod OfTarget
+pub mod InOrder

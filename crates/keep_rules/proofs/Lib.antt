@@ -1,0 +1,4 @@
+pub mod Picks
+pub mod Forwards
+pub mod Segments
+pub mod Verdicts
