@@ -1,0 +1,11 @@
+pub mod Going
+pub mod Declared
+pub mod Followed
+pub mod Joined
+pub mod Handled
+pub mod Ends
+pub mod Draining
+pub mod Linking
+pub mod Entering
+pub mod LinkRow
+pub mod Joining
