@@ -1,0 +1,44 @@
+use Rattle.inclusion.proofs.OfUses.{strange-none, strange-this}
+use Rattle.inclusion.proofs.Listed.{set-none, set-one}
+use Rattle.facts.specs.Words.{normal}
+use mathlib.Core.Bool.{not}
+use Rattle.graph.specs.Check.{graphIn}
+use native.Mathlib.Omega.{arith}
+use mathlib.Core.Path.{_≡_, refl, ap, _∙_, sym}
+use borrow.Author.Needs.{needs}
+use Rattle.inclusion.proofs.show_if_external.Statement.{statement}
+use Rattle.inclusion.proofs.show_if_external.Tie as tie
+use Rattle.inclusion.proofs.show_if_external.Reads as reads
+use Rattle.inclusion.proofs.show_if_external.Lts as lts
+use Rattle.bit_row.proofs.set.Reads as set-reads
+use Rattle.linking_metadata.proofs.is_normal.Reads as is-normal-reads
+use Rattle.linking_metadata.proofs.owner.Reads as owner-reads
+
+-- src/lib.rt:129:9
+owner-requires : tie.Need-owner-requires
+owner-requires c κs = (c .before .before .before .before .before .before .before .before .before .before .pre .0 .loaded, c .before .before .before .before .before .before .before .before .before .before .pre .1 .0)
+
+-- src/lib.rt:130:8
+is-normal-requires : tie.Need-is-normal-requires
+is-normal-requires c κs = (c .before .before .before .before .before .before .before .before .before .before .before .pre .0 .loaded, c .owner .ensures .1)
+
+-- src/lib.rt:131:9
+returns : tie.Need-returns
+returns c = λ j. set-none j _ _ (strange-none (graphIn (c .before .before .before .before .before .before .before .before .before .before .before .before .before .args .numbers .now)) (c .before .before .before .before .before .before .before .before .before .before .before .before .before .args .s .0) _ _ (c .before .before .owner .ensures .0) (c .before .is-normal .ensures) (c .if1 .taken))
+
+-- src/lib.rt:133:5
+set-requires : tie.Need-set-requires
+set-requires c κs = omega (arith, c .before .before .before .before .before .before .before .before .before .before .before .before .before .before .pre .1 .0, c .before .before .before .before .before .before .before .before .before .before .before .before .before .before .pre .1 .1)
+
+-- src/lib.rt:112:1
+same-length : tie.Need-same-length
+same-length c = c .before .before .set .kept .0
+
+-- src/lib.rt:112:1
+returns-2 : tie.Need-returns-2
+returns-2 c = λ j. set-one j _ _ _ _ _ (strange-this (graphIn (c .before .before .before .before .before .before .before .before .before .before .before .before .before .before .before .before .before .args .numbers .now)) (c .before .before .before .before .before .before .before .before .before .before .before .before .before .before .before .before .before .args .s .0) _ _ (c .before .before .before .before .before .before .owner .ensures .0) (c .before .before .before .before .before .is-normal .ensures) (c .before .before .before .before .if1 .left)) refl (c .before .before .set .ensures j)
+
+pub show-if-external-spec : {M : Type 1} → statement M
+show-if-external-spec =
+    tie.close
+    (tie.spec owner-requires is-normal-requires returns set-requires same-length returns-2)
