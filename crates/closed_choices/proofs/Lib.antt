@@ -1,0 +1,6 @@
+pub mod GoodGives
+pub mod Every
+pub mod Reaching
+pub mod Handling
+pub mod Smallest
+pub mod Showing
