@@ -41,6 +41,12 @@ struct keep_read_answer {
     uint64_t count;  /* how many numbers were written; 0 if refused */
 };
 
+struct keep_drain_answer {
+    uint32_t number; /* 0: not refused */
+    uint64_t place;  /* where the fault is; 0 for a refusal 5 */
+    uint64_t lines;  /* how many record lines were written; 0 if refused */
+};
+
 /*
  * Reads the numbers of a file: unsigned LEB128, each in its shortest form and below 2^32.
  *
@@ -58,6 +64,43 @@ struct keep_read_answer keep_read(const uint8_t *file, size_t file_length, uint3
  * the earlier number. Last 4 at the first number left over. Nothing is written.
  */
 struct keep_refusal keep_check(const uint32_t *numbers, size_t numbers_length);
+
+/*
+ * Writes the last verdict of each module of a graph: 0 Analyzed(false), 1 Analyzed(true), 2 UserDefined(false),
+ * 3 UserDefined(true), 4 NoTreeshake.
+ *
+ * Refused as by keep_check, then 5 if `verdicts` is below one number a module.
+ */
+struct keep_refusal keep_effects(const uint32_t *numbers, size_t numbers_length, uint32_t *verdicts,
+                                 size_t verdicts_length);
+
+/*
+ * Works out what the starts keep in a graph: the smallest set of facts that holds them and is closed under the rules.
+ *
+ * Starts are triples, a fact's kind and its two parts: 1 module, 0; 2 module, statement; 3 use: symbol, reason;
+ * 4 checked use: symbol, reason; 6 bailout: module, 0. A reason is 1 to 31.
+ *
+ * Rows, with M modules, S statements and Y symbols, bits from bit 0 of byte 0:
+ *   marks       working row, a bit for each fact: 2M + S + 63Y bits
+ *   record      working row, six numbers a line: the fact, its rule (0 for a start), two earlier lines plus 1
+ *   modules     M bits: kept
+ *   statements  a bit for each statement, kept; each module's begin at a whole byte
+ *   used        Y bits: used
+ *   external    Y bits: used, of an external module
+ *   json        Y bits: of a Json module, used from elsewhere
+ *   reason      M bytes: why a namespace is kept, 1 Unknown, 2 ReExportDynamicExports, 3 both
+ *
+ * Refused as by keep_check; then 4 at the starts' length unless they come in threes, 3 at the first bad number of a
+ * start; then 5 for a row that is too short, the record last. A refusal leaves marks and record as lent, except that
+ * both are all zero if the record was found short during the work. Not refused: marks and record were cleared whole and
+ * then written from the front.
+ */
+struct keep_drain_answer keep_drain(const uint32_t *numbers, size_t numbers_length, const uint32_t *starts,
+                                    size_t starts_length, uint8_t *marks, size_t marks_length, uint32_t *record,
+                                    size_t record_length, uint8_t *modules, size_t modules_length,
+                                    uint8_t *statements, size_t statements_length, uint8_t *used, size_t used_length,
+                                    uint8_t *external, size_t external_length, uint8_t *json, size_t json_length,
+                                    uint8_t *reason, size_t reason_length);
 
 #ifdef __cplusplus
 }

@@ -53,6 +53,31 @@ impl Random {
         from[self.index(from.len())]
     }
 
+    /// The index of one of the weights, the oftener the larger it is.
+    fn weighted(&mut self, weights: &[u32]) -> u32 {
+        let mut rest = self.below(weights.iter().sum());
+        for (index, &weight) in (0..).zip(weights) {
+            if rest < weight {
+                return index;
+            }
+            rest -= weight;
+        }
+        unreachable!("the rest is below the sum")
+    }
+
+    /// A number with each bit set in so many of a hundred cases.
+    fn bits(&mut self, percents: &[u32]) -> u32 {
+        (0..).zip(percents).map(|(bit, &percent)| u32::from(self.chance(percent)) << bit).sum()
+    }
+
+    /// Mostly one of the preferred, if there are any; else any number below `bound`.
+    fn prefer(&mut self, preferred: &[u32], bound: u32) -> u32 {
+        if preferred.is_empty() || self.chance(20) {
+            return self.below(bound);
+        }
+        self.pick(preferred)
+    }
+
     /// Any 32-bit number, small ones and those of each width alike.
     pub fn any(&mut self) -> u32 {
         let width = self.below(33);
@@ -167,9 +192,9 @@ impl Size {
     }
 }
 
-/// A random graph that is accepted.
+/// A random graph that is accepted, such that the keep rules apply often.
 pub fn graph(random: &mut Random, size: Size) -> Graph {
-    let mut graph = Graph { options: random.below(64), ..Graph::default() };
+    let mut graph = Graph { options: random.bits(&[80, 50, 50, 50, 30, 50]), ..Graph::default() };
     place_modules(random, size, &mut graph);
     place_symbols(random, size, &mut graph);
     graph.helpers = (0..size.helpers).map(|_| random.below(graph.symbols.len() as u32)).collect();
@@ -177,7 +202,35 @@ pub fn graph(random: &mut Random, size: Size) -> Graph {
     fill_symbols(random, size.lists, &mut graph);
     fill_statements(random, size.lists, &mut graph);
     fill_entries(random, size, &mut graph);
+    if random.chance(30) {
+        place_bodies(random, &mut graph);
+    }
     graph
+}
+
+/// Makes some modules such that they are included on demand, with a gated statement, at times with a key in common.
+fn place_bodies(random: &mut Random, graph: &mut Graph) {
+    let symbols = graph.symbols.len();
+    let (key, percent) = (random.index(symbols) as u32, random.pick(&[50, 90]));
+    for (index, module) in (0..).zip(&mut graph.modules) {
+        if module.statements.len() < 2 || !random.chance(percent) {
+            continue;
+        }
+        (module.effects, module.scan_effects, module.exports) = (2, 2, 0);
+        module.flags &= !1;
+        let gated = random.index(module.statements.len() - 1) + 1;
+        let statement = &mut module.statements[gated];
+        statement.bits |= 1;
+        statement.records.clear();
+        if statement.references.is_empty() {
+            statement.references.push(Reference::Symbol(random.index(symbols) as u32));
+        }
+        if random.chance(70) {
+            module.own_exports.push(key);
+        }
+        let user_defined = graph.entries.iter_mut().filter(|entry| entry.module == index && random.chance(90));
+        user_defined.for_each(|entry| entry.kind = 2);
+    }
 }
 
 /// Kinds of modules, how many statements each has, and the runtime.
@@ -213,29 +266,31 @@ fn place_symbols(random: &mut Random, size: Size, graph: &mut Graph) {
     }
 }
 
+/// By module: the symbols that it owns.
+fn owned(graph: &Graph) -> Vec<Vec<u32>> {
+    let mut owned = vec![Vec::new(); graph.modules.len()];
+    for (index, symbol) in (0..).zip(&graph.symbols) {
+        owned[symbol.owner as usize].push(index);
+    }
+    owned
+}
+
 fn fill_modules(random: &mut Random, lists: Lists, graph: &mut Graph) {
     let (modules, symbols) = (graph.modules.len() as u32, graph.symbols.len() as u32);
     let helpers = graph.helpers.len() as u32;
-    for module in &mut graph.modules {
+    let owned = owned(graph);
+    for (module, own) in graph.modules.iter_mut().zip(&owned) {
         let statements = module.statements.len() as u32;
-        module.effects = random.below(5);
-        module.exports = random.below(3);
-        module.kind = random.below(4);
-        module.flags = random.below(64);
-        module.wrap = random.below(3);
-        module.wrapper = random.below(symbols + 1);
-        module.reexports = random.any();
-        module.scan_effects = random.below(5);
-        module.scan_statements = random.any();
+        fill_leading_numbers(random, module, own, symbols);
         module.records = random.list(lists, |random| record(random, modules));
         module.dependencies = random.indexes(lists, modules);
         module.named_imports = random.indexes(lists, symbols);
-        module.own_exports = random.indexes(lists, symbols);
+        module.own_exports = random.list(lists, |random| random.prefer(own, symbols));
         module.entry_references = random.indexes(lists, symbols);
         module.commonjs_export_symbols = random.indexes(lists, symbols);
         module.resolved_exports = random.list(lists, |random| [name(random), random.below(symbols), random.below(2)]);
         drop_repeats(&mut module.resolved_exports);
-        module.commonjs_namespaces = random.list(lists, |random| [random.below(symbols), random.below(modules)]);
+        module.commonjs_namespaces = random.list(lists, |random| [random.prefer(own, symbols), random.below(modules)]);
         drop_repeats(&mut module.commonjs_namespaces);
         module.enum_members = random.list(lists, |random| [name(random), name(random)]);
         if helpers > 0 && statements > 0 {
@@ -244,16 +299,29 @@ fn fill_modules(random: &mut Random, lists: Lists, graph: &mut Graph) {
     }
 }
 
+fn fill_leading_numbers(random: &mut Random, module: &mut Module, own: &[u32], symbols: u32) {
+    let statements = module.statements.len() as u32;
+    module.effects = random.weighted(&[40, 15, 30, 7, 8]);
+    module.exports = random.weighted(&[60, 30, 10]);
+    module.kind = random.weighted(&[45, 15, 25, 15]);
+    module.flags = random.bits(&[20, 40, 35, 40, 50, 15]);
+    module.wrap = random.weighted(&[40, 20, 40]);
+    module.wrapper = if random.chance(20) { 0 } else { random.prefer(own, symbols) + 1 };
+    module.reexports = if random.chance(80) { random.below(4) } else { random.any() };
+    module.scan_effects = random.weighted(&[30, 40, 20, 5, 5]);
+    module.scan_statements = if random.chance(70) { random.below(statements + 3) } else { random.any() };
+}
+
 fn record(random: &mut Random, modules: u32) -> Record {
     Record { target: random.below(modules + 1), kind: random.below(3), bits: random.below(4) }
 }
 
 /// Small names meet each other; large ones are good too.
 fn name(random: &mut Random) -> u32 {
-    if random.chance(70) {
-        random.below(20)
-    } else {
-        random.any()
+    match random.below(100) {
+        0..=59 => random.below(4),
+        60..=84 => random.below(20),
+        _ => random.any(),
     }
 }
 
@@ -265,38 +333,79 @@ fn drop_repeats<const WIDTH: usize>(rows: &mut Vec<[u32; WIDTH]>) {
 
 fn fill_symbols(random: &mut Random, lists: Lists, graph: &mut Graph) {
     let symbols = graph.symbols.len() as u32;
+    let namespaces = commonjs_namespaces(graph);
     for symbol in &mut graph.symbols {
         let statements = graph.modules[symbol.owner as usize].statements.len() as u32;
-        symbol.name = name(random);
-        symbol.alias_namespace = if random.chance(50) { 0 } else { random.below(symbols + 1) };
-        symbol.alias_name = name(random);
-        symbol.constant = random.below(8);
+        let enums = &graph.modules[symbol.owner as usize].enum_members;
+        symbol.name = if enums.is_empty() || random.chance(50) { name(random) } else { random.pick(enums)[0] };
+        (symbol.alias_namespace, symbol.alias_name) = alias(random, &graph.modules, &namespaces, symbols);
+        symbol.constant = if random.chance(60) { 0 } else { random.bits(&[80, 50, 30]) };
         symbol.chain = random.indexes(lists, symbols);
         symbol.declaring = random.indexes(lists, statements);
         symbol.written = random.indexes(lists, statements);
     }
 }
 
+/// Symbol and module of each CommonJS namespace that is in the list of the symbol's own owner.
+fn commonjs_namespaces(graph: &Graph) -> Vec<[u32; 2]> {
+    let mut found = Vec::new();
+    for (index, module) in (0..).zip(&graph.modules) {
+        let own = |row: &&[u32; 2]| graph.symbols[row[0] as usize].owner == index;
+        found.extend(module.commonjs_namespaces.iter().filter(own));
+    }
+    found
+}
+
+/// Namespace plus 1 and name of an alias; mostly in a CommonJS namespace, with a name that its module exports.
+fn alias(random: &mut Random, modules: &[Module], namespaces: &[[u32; 2]], symbols: u32) -> (u32, u32) {
+    if random.chance(50) {
+        return (0, name(random));
+    }
+    if namespaces.is_empty() || random.chance(30) {
+        return (random.below(symbols + 1), name(random));
+    }
+    let [namespace, module] = random.pick(namespaces);
+    let exports = &modules[module as usize].resolved_exports;
+    let exported = if exports.is_empty() || random.chance(30) { name(random) } else { random.pick(exports)[0] };
+    (namespace + 1, exported)
+}
+
 fn fill_statements(random: &mut Random, lists: Lists, graph: &mut Graph) {
-    let symbols = graph.symbols.len() as u32;
+    let symbols = &graph.symbols;
+    let members = enum_members(graph);
     for module in &mut graph.modules {
         let records = module.records.len() as u32;
         for statement in &mut module.statements {
-            statement.bits = random.below(32);
-            statement.records = random.indexes(lists, records);
-            statement.references = random.list(lists, |random| reference(random, lists, symbols));
+            statement.bits = random.bits(&[50, 50, 50, 30, 50]);
+            statement.records = if random.chance(40) { Vec::new() } else { random.indexes(lists, records) };
+            statement.references = random.list(lists, |random| reference(random, lists, symbols, &members));
         }
     }
 }
 
-fn reference(random: &mut Random, lists: Lists, symbols: u32) -> Reference {
-    let symbol = random.below(symbols);
-    match random.below(4) {
+/// Symbol and member, for each symbol that is an enum of its owner.
+fn enum_members(graph: &Graph) -> Vec<[u32; 2]> {
+    let mut found = Vec::new();
+    for (index, symbol) in (0..).zip(&graph.symbols) {
+        let members = &graph.modules[symbol.owner as usize].enum_members;
+        found.extend(members.iter().filter(|row| row[0] == symbol.name).map(|row| [index, row[1]]));
+    }
+    found
+}
+
+fn reference(random: &mut Random, lists: Lists, symbols: &[Symbol], members: &[[u32; 2]]) -> Reference {
+    let symbol = random.index(symbols.len()) as u32;
+    let all = symbols.len() as u32;
+    match random.weighted(&[35, 10, 30, 25]) {
         0 => Reference::Symbol(symbol),
         1 => Reference::Nothing,
-        2 => Reference::Resolved { symbol, commonjs: random.below(2), depended: random.indexes(lists, symbols) },
+        2 => Reference::Resolved { symbol, commonjs: random.below(2), depended: random.indexes(lists, all) },
         _ => {
-            Reference::Member { object: symbol, write: random.below(2), properties: name(random), first: name(random) }
+            let write = random.weighted(&[70, 30]);
+            let properties = if random.chance(80) { random.pick(&[1, 1, 1, 2]) } else { name(random) };
+            let known = !members.is_empty() && random.chance(60);
+            let [object, first] = if known { random.pick(members) } else { [symbol, name(random)] };
+            Reference::Member { object, write, properties, first }
         }
     }
 }
@@ -315,6 +424,77 @@ fn fill_entries(random: &mut Random, size: Size, graph: &mut Graph) {
             })
         };
         graph.entries.push(Entry { module: random.below(modules), kind: random.below(3), related });
+    }
+}
+
+/// Random starts of a graph: of every kind and reason, some of them repeated, at times none.
+pub fn starts(random: &mut Random, graph: &Graph) -> Vec<u32> {
+    let count = match random.below(20) {
+        0 => 0,
+        1..=15 => random.between(1, 3),
+        _ => random.between(4, 12),
+    };
+    let mut starts: Vec<[u32; 3]> = Vec::new();
+    for _ in 0..count {
+        let again = !starts.is_empty() && random.chance(15);
+        let start = if again { random.pick(&starts) } else { start(random, graph) };
+        starts.push(start);
+    }
+    starts.concat()
+}
+
+fn start(random: &mut Random, graph: &Graph) -> [u32; 3] {
+    let modules = graph.modules.len() as u32;
+    let normal: Vec<u32> = (0..modules).filter(|&index| graph.modules[index as usize].normal).collect();
+    let symbol = random.index(graph.symbols.len()) as u32;
+    let reason = if random.chance(30) { random.pick(&[1, 2, 4, 8, 16]) } else { random.between(1, 31) };
+    let module = random.pick(&normal);
+    match random.weighted(&[20, 25, 25, 25, 5]) {
+        0 => [1, module, 0],
+        1 => [2, module, random.index(graph.modules[module as usize].statements.len()) as u32],
+        2 => [3, symbol, reason],
+        3 => [4, symbol, reason],
+        _ => [6, random.below(modules), 0],
+    }
+}
+
+/// The starts with one fault or a few, though they may happen to be good still.
+pub fn damaged_starts(random: &mut Random, graph: &Graph, starts: &[u32]) -> Vec<u32> {
+    let mut damaged = starts.to_vec();
+    while damaged.len() < 3 {
+        damaged.extend(start(random, graph));
+    }
+    for _ in 0..random.between(1, 2) {
+        let place = random.index(damaged.len());
+        match random.below(10) {
+            0 => {
+                damaged.remove(place);
+            }
+            1 => damaged.insert(place, random.below(8)),
+            2 => damaged.push(random.any()),
+            _ => damaged[place] = other_part(random, graph, damaged[place]),
+        }
+    }
+    damaged
+}
+
+/// A number to put into a start, near a bound of some kind.
+fn other_part(random: &mut Random, graph: &Graph, part: u32) -> u32 {
+    let module = random.index(graph.modules.len());
+    let bounds = [
+        graph.modules.len() as u32,
+        graph.symbols.len() as u32,
+        graph.modules[module].statements.len() as u32,
+        module as u32,
+        32,
+        7,
+        5,
+        0,
+        part,
+    ];
+    match random.below(10) {
+        0 => random.any(),
+        _ => random.pick(&bounds).wrapping_add(random.below(3)).wrapping_sub(1),
     }
 }
 

@@ -1,7 +1,8 @@
 //! The keep decision of a bundler: safe wrappers of the C boundary.
 //!
 //! A graph is a list of numbers. [`read`] takes the numbers of a file (unsigned LEB128, shortest form), [`check`] says
-//! whether numbers are a graph. Both answer with a struct of the C boundary; its method `result` makes it a `Result`.
+//! whether numbers are a graph, [`effects`] which of its modules have effects, [`drain`] what some starts keep. All
+//! answer with a struct of the C boundary; its method `result` makes it a `Result`.
 //!
 //! ```no_run
 //! let file = [0x01, 0x80, 0x01];
@@ -48,6 +49,39 @@ pub struct ReadAnswer {
     pub place: u64,
     /// How many numbers were written; 0 if it is refused.
     pub count: u64,
+}
+
+/// The answer of [`drain`].
+#[repr(C)]
+#[derive(Clone, Copy, Debug, PartialEq, Eq)]
+pub struct DrainAnswer {
+    /// Why it is refused; 0 if it is not.
+    pub number: u32,
+    /// Where the fault is; 0 if it is not refused, and for a refusal 5.
+    pub place: u64,
+    /// How many record lines were written; 0 if it is refused.
+    pub lines: u64,
+}
+
+/// The rows that [`drain`] is lent, with M modules, S statements and Y symbols.
+#[derive(Debug)]
+pub struct Rows<'a> {
+    /// Working row, a bit for each fact: 2M + S + 63Y bits.
+    pub marks: &'a mut [u8],
+    /// Working row, six numbers a line: the fact, its rule (0 for a start), two earlier lines plus 1.
+    pub record: &'a mut [u32],
+    /// A bit for each module that is kept.
+    pub modules: &'a mut [u8],
+    /// A bit for each statement that is kept; each module's begin at a whole byte.
+    pub statements: &'a mut [u8],
+    /// A bit for each symbol that is used.
+    pub used: &'a mut [u8],
+    /// A bit for each symbol of an external module that is used.
+    pub external: &'a mut [u8],
+    /// A bit for each symbol of a Json module that is used from elsewhere.
+    pub json: &'a mut [u8],
+    /// A byte for each module: why its namespace is kept, 1 Unknown, 2 ReExportDynamicExports, 3 both.
+    pub reason: &'a mut [u8],
 }
 
 /// A refusal as an error: its number and its place.
@@ -97,6 +131,21 @@ impl ReadAnswer {
     }
 }
 
+impl DrainAnswer {
+    /// The answer of a drain that is refused.
+    pub fn refused(Refused { number, place }: Refused) -> DrainAnswer {
+        DrainAnswer { number, place, lines: 0 }
+    }
+
+    /// The answer as a `Result`: how many lines were written, or the refusal.
+    pub fn result(self) -> Result<usize, Refused> {
+        match self.number {
+            0 => Ok(self.lines as usize),
+            number => Err(Refused { number, place: self.place }),
+        }
+    }
+}
+
 impl fmt::Display for Refused {
     fn fmt(&self, f: &mut fmt::Formatter) -> fmt::Result {
         write!(f, "refused {} at {}", self.number, self.place)
@@ -106,11 +155,39 @@ impl fmt::Display for Refused {
 impl std::error::Error for Refused {}
 
 mod boundary {
-    use super::{ReadAnswer, Refusal};
+    use super::{DrainAnswer, ReadAnswer, Refusal};
 
     extern "C" {
         pub fn keep_read(file: *const u8, file_length: usize, numbers: *mut u32, numbers_length: usize) -> ReadAnswer;
         pub fn keep_check(numbers: *const u32, numbers_length: usize) -> Refusal;
+        pub fn keep_effects(
+            numbers: *const u32,
+            numbers_length: usize,
+            verdicts: *mut u32,
+            verdicts_length: usize,
+        ) -> Refusal;
+        pub fn keep_drain(
+            numbers: *const u32,
+            numbers_length: usize,
+            starts: *const u32,
+            starts_length: usize,
+            marks: *mut u8,
+            marks_length: usize,
+            record: *mut u32,
+            record_length: usize,
+            modules: *mut u8,
+            modules_length: usize,
+            statements: *mut u8,
+            statements_length: usize,
+            used: *mut u8,
+            used_length: usize,
+            external: *mut u8,
+            external_length: usize,
+            json: *mut u8,
+            json_length: usize,
+            reason: *mut u8,
+            reason_length: usize,
+        ) -> DrainAnswer;
     }
 }
 
@@ -134,6 +211,55 @@ pub fn read(file: &[u8], numbers: &mut [u32]) -> ReadAnswer {
 pub fn check(numbers: &[u32]) -> Refusal {
     // SAFETY: the slice is valid for its length and is only read.
     unsafe { boundary::keep_check(numbers.as_ptr(), numbers.len()) }
+}
+
+/// Writes the last verdict of each module of a graph into `verdicts`: which modules have effects.
+///
+/// 0 Analyzed(false), 1 Analyzed(true), 2 UserDefined(false), 3 UserDefined(true), 4 NoTreeshake. Refused as by
+/// [`check`], then 5 at place 0 if `verdicts` is below one number a module. A refusal leaves `verdicts` as lent; what
+/// is past the answer is as lent too.
+#[must_use]
+pub fn effects(numbers: &[u32], verdicts: &mut [u32]) -> Refusal {
+    // SAFETY: both slices are valid for their lengths and do not overlap, as Rust's references promise.
+    unsafe { boundary::keep_effects(numbers.as_ptr(), numbers.len(), verdicts.as_mut_ptr(), verdicts.len()) }
+}
+
+/// Works out what the starts keep in a graph: the smallest set of facts that holds them and is closed under the rules.
+///
+/// Starts are triples, a fact's kind and its two parts: 1 module, 0; 2 module, statement; 3 use: symbol, reason; 4
+/// checked use: symbol, reason; 6 bailout: module, 0. A reason is 1 to 31.
+///
+/// Refused as by [`check`]; then 4 at the starts' length unless they come in threes, 3 at the first bad number of a
+/// start; then 5 at place 0 for a row that is too short, the record last. A refusal leaves the answer rows as lent;
+/// marks and record too, except that both are all zero if the record was found short during the work. Otherwise marks
+/// and record were cleared whole and written from the front, and what is past the other answers is as lent.
+#[must_use]
+pub fn drain(numbers: &[u32], starts: &[u32], rows: &mut Rows) -> DrainAnswer {
+    // SAFETY: all slices are valid for their lengths and no two overlap, as Rust's references promise.
+    unsafe {
+        boundary::keep_drain(
+            numbers.as_ptr(),
+            numbers.len(),
+            starts.as_ptr(),
+            starts.len(),
+            rows.marks.as_mut_ptr(),
+            rows.marks.len(),
+            rows.record.as_mut_ptr(),
+            rows.record.len(),
+            rows.modules.as_mut_ptr(),
+            rows.modules.len(),
+            rows.statements.as_mut_ptr(),
+            rows.statements.len(),
+            rows.used.as_mut_ptr(),
+            rows.used.len(),
+            rows.external.as_mut_ptr(),
+            rows.external.len(),
+            rows.json.as_mut_ptr(),
+            rows.json.len(),
+            rows.reason.as_mut_ptr(),
+            rows.reason.len(),
+        )
+    }
 }
 
 /// Runs `work` on a thread with stack enough for the library and as much again for the caller.

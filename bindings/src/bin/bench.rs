@@ -2,8 +2,11 @@
 
 use lizdakk::generate::{self, Random, PRINTED};
 use lizdakk::model::{Entry, Graph, Module, Record, Reference, Statement, Symbol};
+use lizdakk::reference::drain::LINE;
+use lizdakk::reference::rows::Answer;
+use lizdakk::reference::rules::{Fact, Rules};
 use lizdakk::reference::{self, leb128};
-use lizdakk::{with_stack, Refusal};
+use lizdakk::{with_stack, DrainAnswer, Refusal, Rows};
 use std::hint::black_box;
 use std::time::{Duration, Instant};
 
@@ -15,16 +18,18 @@ const TURN: Duration = Duration::from_millis(1);
 
 fn main() {
     with_stack(|| {
-        let bundle = bundle().numbers();
+        let graph = bundle();
+        let bundle = graph.numbers();
         println!(
             "{:<44} {:>8} {:>12} {:>12} {:>7} {:>7} {:>6}",
-            "", "numbers", "library ns", "reference ns", "each", "each", "ratio"
+            "", "of", "library ns", "reference ns", "each", "each", "ratio"
         );
         bench_check("check, bundle of 1,000 modules", &bundle);
         bench_check("check, printed case", &PRINTED);
         bench_check("check, 16,384 exports and CommonJS namespaces", &repeats(1).numbers());
         bench_check("the same, export names equal modulo 1,024", &repeats(1_024).numbers());
         bench_read("read, file of the bundle", &bundle);
+        bench_drain("drain, all statements of the bundle, by lines", &graph);
     });
 }
 
@@ -48,8 +53,68 @@ fn bench_read(name: &str, numbers: &[u32]) {
     );
 }
 
-/// Measures both by turns and prints the best of each.
-fn compare<L, R>(name: &str, numbers: usize, mut library: impl FnMut() -> L, mut reference: impl FnMut() -> R) {
+/// A drain that starts with every statement; its time is given for each line.
+fn bench_drain(name: &str, graph: &Graph) {
+    let (numbers, starts) = (graph.numbers(), every_statement(graph));
+    let answer = reference::drain::answer(&numbers, &starts).expect("good starts of a good graph");
+    let (mut row, mut expected_row) = (DrainRows::new(&answer), DrainRows::new(&answer));
+    let library = lizdakk::drain(&numbers, &starts, &mut row.lend());
+    let expected = reference::drain(&numbers, &starts, &mut expected_row.lend());
+    assert_eq!(library, expected, "{name}");
+    assert_eq!(row, expected_row, "{name}");
+    compare(
+        name,
+        answer.lines.len(),
+        || lizdakk::drain(black_box(&numbers), black_box(&starts), &mut row.lend()),
+        || reference::drain(black_box(&numbers), black_box(&starts), &mut expected_row.lend()),
+    );
+    let facts: Vec<Fact> = starts.chunks_exact(3).map(|start| Fact::of([start[0], start[1], start[2]])).collect();
+    compare(
+        "the same, reference with a decoded graph",
+        answer.lines.len(),
+        || lizdakk::drain(black_box(&numbers), black_box(&starts), &mut row.lend()),
+        || drain_decoded(black_box(graph), black_box(&facts), &mut expected_row.lend()),
+    );
+}
+
+/// The drain of a graph that needs no check and no decoding.
+fn drain_decoded(graph: &Graph, starts: &[Fact], rows: &mut Rows) -> DrainAnswer {
+    let rules = Rules::new(graph);
+    let lines = reference::drain::lines(&rules, starts);
+    Answer::new(&rules, lines).put(rows)
+}
+
+/// The statements of every normal module, as starts.
+fn every_statement(graph: &Graph) -> Vec<u32> {
+    let mut starts = Vec::new();
+    for (index, module) in (0..).zip(&graph.modules) {
+        starts.extend((0..module.statements.len() as u32).flat_map(|number| [2, index, number]));
+    }
+    starts
+}
+
+/// Rows to lend to a drain, each exactly long enough.
+#[derive(PartialEq, Debug)]
+struct DrainRows {
+    record: Vec<u32>,
+    bytes: [Vec<u8>; 7],
+}
+
+impl DrainRows {
+    fn new(answer: &Answer) -> DrainRows {
+        let Answer { lines, marks, modules, statements, used, external, json, reason } = answer;
+        let bytes = [marks, modules, statements, used, external, json, reason].map(|row| vec![0; row.len()]);
+        DrainRows { record: vec![0; LINE * lines.len()], bytes }
+    }
+
+    fn lend(&mut self) -> Rows<'_> {
+        let [marks, modules, statements, used, external, json, reason] = self.bytes.each_mut().map(Vec::as_mut_slice);
+        Rows { marks, record: &mut self.record, modules, statements, used, external, json, reason }
+    }
+}
+
+/// Measures both by turns and prints the best of each, in all and for each of so many numbers or lines.
+fn compare<L, R>(name: &str, count: usize, mut library: impl FnMut() -> L, mut reference: impl FnMut() -> R) {
     let times = repetitions(&mut library).max(repetitions(&mut reference));
     let (mut best_library, mut best_reference) = (f64::MAX, f64::MAX);
     let begin = Instant::now();
@@ -61,9 +126,9 @@ fn compare<L, R>(name: &str, numbers: usize, mut library: impl FnMut() -> L, mut
         best_reference = best_reference.min(nanoseconds(times, &mut reference));
     }
     println!(
-        "{name:<44} {numbers:>8} {best_library:>12.0} {best_reference:>12.0} {:>7.2} {:>7.2} {:>6.2}",
-        best_library / numbers as f64,
-        best_reference / numbers as f64,
+        "{name:<44} {count:>8} {best_library:>12.0} {best_reference:>12.0} {:>7.2} {:>7.2} {:>6.2}",
+        best_library / count as f64,
+        best_reference / count as f64,
         best_library / best_reference
     );
 }

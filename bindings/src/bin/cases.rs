@@ -1,15 +1,22 @@
 //! Prints generated cases with the answers of the reference.
 //!
 //! `cases check COUNT [SEED]`: lines `number place | n0 n1 ...`; `cases read COUNT [SEED]`: lines
-//! `number place count | hex bytes | room`.
+//! `number place count | hex bytes | room`; `cases effects COUNT [SEED]`: lines `v0 v1 ... | n0 n1 ...`, the last
+//! verdict of each module; `cases drain COUNT [SEED]`: lines `n0 n1 ... | starts | record | used symbols | external
+//! symbols | json symbols | REASON of each module`.
 
 use lizdakk::generate::{self, Random, Size};
-use lizdakk::model::Encoded;
+use lizdakk::model::{Encoded, Graph};
+use lizdakk::reference::{drain, effects};
 use lizdakk::{reference, Refusal, Refused};
 use std::collections::HashSet;
 
 /// The most numbers of a printed graph, and the most bytes of a printed file.
 const LONGEST: usize = 120;
+/// The most numbers of a printed graph with verdicts or starts.
+const LONGEST_KEPT: usize = 160;
+/// The most lines of a printed record.
+const LINES: usize = 60;
 
 fn main() {
     let arguments: Vec<String> = std::env::args().skip(1).collect();
@@ -19,7 +26,9 @@ fn main() {
     match arguments.first().map(String::as_str) {
         Some("check") => check_cases(&mut random, count),
         Some("read") => read_cases(&mut random, count),
-        _ => eprintln!("cases check COUNT [SEED] | cases read COUNT [SEED]"),
+        Some("effects") => effects_cases(&mut random, count),
+        Some("drain") => drain_cases(&mut random, count),
+        _ => eprintln!("cases check|read|effects|drain COUNT [SEED]"),
     }
 }
 
@@ -38,8 +47,12 @@ fn check_cases(random: &mut Random, count: usize) {
 
 fn print_check(numbers: &[u32]) {
     let Refusal { number, place } = reference::check(numbers).into();
-    let words: Vec<String> = numbers.iter().map(u32::to_string).collect();
-    println!("{number} {place} | {}", words.join(" "));
+    println!("{number} {place} | {}", words(numbers));
+}
+
+fn words<T: ToString>(numbers: &[T]) -> String {
+    let words: Vec<String> = numbers.iter().map(T::to_string).collect();
+    words.join(" ")
 }
 
 fn short_graph(random: &mut Random) -> Encoded {
@@ -127,4 +140,87 @@ fn print_read(file: &[u8], room: usize) {
     let answer = reference::read(file, &mut vec![0; room]);
     let hex: Vec<String> = file.iter().map(|byte| format!("{byte:02x}")).collect();
     println!("{} {} {} | {} | {room}", answer.number, answer.place, answer.count, hex.join(" "));
+}
+
+fn short_kept_graph(random: &mut Random) -> (Graph, Vec<u32>) {
+    loop {
+        let size = if random.chance(30) { Size::tiny(random) } else { Size::small(random) };
+        let graph = generate::graph(random, size);
+        let numbers = graph.numbers();
+        if numbers.len() <= LONGEST_KEPT {
+            return (graph, numbers);
+        }
+    }
+}
+
+/// By turns any graph, and two in which a verdict changes.
+fn effects_cases(random: &mut Random, count: usize) {
+    for index in 0..count {
+        let (verdicts, numbers) = loop {
+            let (graph, numbers) = short_kept_graph(random);
+            let verdicts = effects::verdicts(&graph);
+            let changes = graph.modules.iter().zip(&verdicts).any(|(module, &verdict)| module.effects != verdict);
+            if changes || index % 3 == 0 {
+                break (verdicts, numbers);
+            }
+        };
+        println!("{} | {}", words(&verdicts), words(&numbers));
+    }
+}
+
+/// A drain to print.
+struct DrainCase {
+    numbers: Vec<u32>,
+    starts: Vec<u32>,
+    answer: reference::rows::Answer,
+}
+
+/// Of several drains each time the one with the rules that were shown least.
+fn drain_cases(random: &mut Random, count: usize) {
+    const CANDIDATES: usize = 20;
+    let mut shown = [0; 15];
+    for _ in 0..count {
+        let candidates = (0..CANDIDATES).map(|_| drain_case(random));
+        let worth = |case: &DrainCase| rules_of(case).map(|rule| 1_000_000 / (1 + shown[rule])).sum::<usize>();
+        let best = candidates.max_by_key(worth).expect("there are candidates");
+        for rule in rules_of(&best) {
+            shown[rule] += 1;
+        }
+        print_drain(&best);
+    }
+}
+
+fn drain_case(random: &mut Random) -> DrainCase {
+    loop {
+        let (graph, numbers) = short_kept_graph(random);
+        let starts = generate::starts(random, &graph);
+        let answer = drain::answer(&numbers, &starts).expect("graph and starts are good");
+        if answer.lines.len() <= LINES {
+            return DrainCase { numbers, starts, answer };
+        }
+    }
+}
+
+/// The rules of a drain's lines, each once.
+fn rules_of(case: &DrainCase) -> impl Iterator<Item = usize> {
+    let rules: HashSet<usize> = case.answer.lines.iter().map(|line| line.rule as usize).collect();
+    rules.into_iter()
+}
+
+fn print_drain(case: &DrainCase) {
+    let DrainCase { numbers, starts, answer } = case;
+    let symbols = [bits_of(&answer.used), bits_of(&answer.external), bits_of(&answer.json)].map(|row| words(&row));
+    println!(
+        "{} | {} | {} | {} | {}",
+        words(numbers),
+        words(starts),
+        words(&answer.record()),
+        symbols.join(" | "),
+        words(&answer.reason)
+    );
+}
+
+/// The bits that are set, ascending.
+fn bits_of(row: &[u8]) -> Vec<usize> {
+    (0..8 * row.len()).filter(|bit| row[bit / 8] >> (bit % 8) & 1 == 1).collect()
 }

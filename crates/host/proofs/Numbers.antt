@@ -8,9 +8,15 @@ use Rattle.leb128.specs.declared.Answer.the-variants.{Numbers, Refused}
 use Rattle.leb128.specs.Read.{Decoded, all, refused, answerOf}
 use Rattle.rows.specs.Walk.{Parsed, got, fault}
 use Rattle.graph.specs.Check.{Graph}
+use Rattle.graph.specs.declared.Checked.{Checked}
+use Rattle.graph.specs.declared.Checked.the-variants.{Accepted, Refused as Checked·Refused}
+use Rattle.drain.specs.declared.Drained.{Drained}
+use Rattle.drain.specs.declared.Drained.the-variants.{Lines, Refused as Drained·Refused}
+use Rattle.drain.specs.Operation.{Rows, Outcome, answered, Ends}
+use Rattle.host.specs.declared.DrainAnswer.{DrainAnswer}
 use Rattle.host.specs.declared.ReadAnswer.{ReadAnswer}
 use Rattle.host.specs.declared.Refusal.{Refusal}
-use Rattle.host.specs.Answers.{readAnswerOf, refusalOf}
+use Rattle.host.specs.Answers.{readAnswerOf, refusalOf, passedOf, drainAnswerOf}
 
 pub as-count : (d : Decoded) (n : ℕ) → answerOf d ≡ Numbers n → _≡_ {A = ReadAnswer} (record { number = 0; place = 0; count = n }) (readAnswerOf d)
 unfolding answerOf readAnswerOf
@@ -31,3 +37,38 @@ pub as-refused : (x : Parsed Graph) (n p : ℕ) → Rattle.graph.specs.Check.an
 unfolding Rattle.graph.specs.Check.answerOf refusalOf
 as-refused (got g q) n p e = let z : _≡_ {A = ℕ} 0 1 = cc in absurd (omega arith)
 as-refused (fault m q) n p e = cc
+
+pub as-passed : (c : Checked) → c ≡ Accepted → _≡_ {A = Refusal} (record { number = 0; place = 0 }) (passedOf c)
+unfolding passedOf
+as-passed Accepted e = refl
+as-passed (Checked·Refused n p) e = let z : _≡_ {A = ℕ} 0 1 = cc in absurd (omega arith)
+
+pub as-not-passed : (c : Checked) (n p : ℕ) → c ≡ Checked·Refused n p → _≡_ {A = Refusal} (record { number = n; place = p }) (passedOf c)
+unfolding passedOf
+as-not-passed Accepted n p e = let z : _≡_ {A = ℕ} 0 1 = cc in absurd (omega arith)
+as-not-passed (Checked·Refused m q) n p e = cc
+
+pub as-lines : (d : Drained) (n : ℕ) → d ≡ Lines n → _≡_ {A = DrainAnswer} (record { number = 0; place = 0; lines = n }) (drainAnswerOf d)
+unfolding drainAnswerOf
+as-lines (Lines m) n e = cc
+as-lines (Drained·Refused m p) n e = let z : _≡_ {A = ℕ} 0 1 = cc in absurd (omega arith)
+
+pub as-not-drained : (d : Drained) (n p : ℕ) → d ≡ Drained·Refused n p → _≡_ {A = DrainAnswer} (record { number = n; place = p; lines = 0 }) (drainAnswerOf d)
+unfolding drainAnswerOf
+as-not-drained (Lines m) n p e = let z : _≡_ {A = ℕ} 0 1 = cc in absurd (omega arith)
+as-not-drained (Drained·Refused m q) n p e = cc
+
+-- the rows of a drain, whatever its answer is called
+pub same-ends : (o : Outcome) (r : Drained) (lent after : Rows) → Ends o r lent after → Ends o (answered o) lent after
+same-ends o r lent after e =
+    record {
+      answer = refl;
+      marks-are = e .marks-are;
+      record-is = e .record-is;
+      modules-are = e .modules-are;
+      statements-are = e .statements-are;
+      used-are = e .used-are;
+      external-are = e .external-are;
+      json-are = e .json-are;
+      reasons-are = e .reasons-are;
+    }

@@ -6,6 +6,13 @@ use lib.ListN.{length}
 use Rattle.leb128.specs.Read.{Decoded, all, refused, readOf, lentOf}
 use Rattle.rows.specs.Walk.{Parsed, got, fault}
 use Rattle.graph.specs.Check.{Graph, checkOf}
+use Rattle.graph.specs.declared.Checked.{Checked}
+use Rattle.graph.specs.declared.Checked.the-variants.{Accepted, Refused}
+use Rattle.determine_side_effects.specs.Operation.{effectsAnswer, effectsRow}
+use Rattle.drain.specs.declared.Drained.{Drained}
+use Rattle.drain.specs.declared.Drained.the-variants.{Lines, Refused as DrainRefused}
+use Rattle.drain.specs.Operation.{Rows, roomsOf, outcomeOf, answered, Ends}
+use Rattle.host.specs.declared.DrainAnswer.{DrainAnswer}
 use Rattle.host.specs.declared.ReadAnswer.{ReadAnswer}
 use Rattle.host.specs.declared.Refusal.{Refusal}
 
@@ -19,6 +26,24 @@ unfoldable pub refusalOf : Parsed Graph → Refusal
 refusalOf (got g q) = record { number = 0; place = 0 }
 refusalOf (fault n p) = record { number = n; place = p }
 
+-- of an operation that passes or is refused
+unfoldable pub passedOf : Checked → Refusal
+passedOf Accepted = record { number = 0; place = 0 }
+passedOf (Refused n p) = record { number = n; place = p }
+
+-- of a drain: how many lines it wrote, or the refusal
+unfoldable pub drainAnswerOf : Drained → DrainAnswer
+drainAnswerOf (Lines n) = record { number = 0; place = 0; lines = n }
+drainAnswerOf (DrainRefused n p) = record { number = n; place = p; lines = 0 }
+
 pub record KeepRead (file lent : List ℕ) (answer : ReadAnswer) (numbers : List ℕ) : Type 0 where
   pub answers : answer ≡ readAnswerOf (readOf file (length lent))
   pub leaves : numbers ≡ lentOf (readOf file (length lent)) lent
+
+pub record KeepEffects (numbers lent : List ℕ) (answer : Refusal) (verdicts : List ℕ) : Type 0 where
+  pub answers : answer ≡ passedOf (effectsAnswer numbers (length lent))
+  pub leaves : verdicts ≡ effectsRow numbers lent
+
+pub record KeepDrain (numbers starts : List ℕ) (answer : DrainAnswer) (lent after : Rows) : Type 0 where
+  pub answers : answer ≡ drainAnswerOf (answered (outcomeOf numbers starts (roomsOf lent)))
+  pub leaves : Ends (outcomeOf numbers starts (roomsOf lent)) (answered (outcomeOf numbers starts (roomsOf lent))) lent after

@@ -1,7 +1,9 @@
 // The C boundary. Slices are a pointer and then a length; nothing is asked of the caller.
 ghost use mathlib.Core.Path.{_≡_};
 ghost use Rattle.graph.specs.Check.{checkOf};
-ghost use Rattle.host.specs.Answers.{KeepRead, refusalOf};
+ghost use Rattle.drain.specs.Operation.{rows as rowsOf};
+ghost use Rattle.host.specs.Answers.{KeepRead, KeepEffects, KeepDrain, refusalOf};
+use drain::Drained;
 use graph::Checked;
 use leb128::Answer;
 
@@ -18,6 +20,14 @@ pub struct ReadAnswer {
     pub number: u32,
     pub place: u64,
     pub count: u64,
+}
+
+// A refusal, and how many lines were written.
+#[repr(C)]
+pub struct DrainAnswer {
+    pub number: u32,
+    pub place: u64,
+    pub lines: u64,
 }
 
 // Reads the numbers of a file into the first of the lent numbers.
@@ -52,6 +62,64 @@ pub extern "C" fn keep_check(numbers: &[u32]) -> Refusal
         Checked::Refused(n, p) => Refusal {
             number: n,
             place: p as u64,
+        },
+    }
+}
+
+// The modules' last verdicts on side effects, into the first of the lent numbers.
+#[no_mangle]
+pub extern "C" fn keep_effects(numbers: &[u32], verdicts: &mut [u32]) -> Refusal
+    ensures { λ r. ⌜ KeepEffects (now (numbers .entry)) (now (verdicts .entry)) r (now (verdicts .exit)) ⌝ }
+{
+    match determine_side_effects::effects(numbers, verdicts) {
+        Checked::Accepted => Refusal {
+            number: 0,
+            place: 0,
+        },
+        Checked::Refused(n, p) => Refusal {
+            number: n,
+            place: p as u64,
+        },
+    }
+}
+
+// Keeps what the starts keep: marks, record and answer rows.
+#[no_mangle]
+pub extern "C" fn keep_drain(
+    numbers: &[u32],
+    starts: &[u32],
+    marks: &mut [u8],
+    lines: &mut [u32],
+    modules: &mut [u8],
+    statements: &mut [u8],
+    used: &mut [u8],
+    external: &mut [u8],
+    json: &mut [u8],
+    reason: &mut [u8],
+) -> DrainAnswer
+    ensures { λ r. ⌜ KeepDrain (now (numbers .entry)) (now (starts .entry)) r (rowsOf (now (marks .entry)) (now (lines .entry)) (now (modules .entry)) (now (statements .entry)) (now (used .entry)) (now (external .entry)) (now (json .entry)) (now (reason .entry))) (rowsOf (now (marks .exit)) (now (lines .exit)) (now (modules .exit)) (now (statements .exit)) (now (used .exit)) (now (external .exit)) (now (json .exit)) (now (reason .exit))) ⌝ }
+{
+    match drain::drain(
+        numbers,
+        starts,
+        marks,
+        lines,
+        modules,
+        statements,
+        used,
+        external,
+        json,
+        reason,
+    ) {
+        Drained::Lines(n) => DrainAnswer {
+            number: 0,
+            place: 0,
+            lines: n as u64,
+        },
+        Drained::Refused(n, p) => DrainAnswer {
+            number: n,
+            place: p as u64,
+            lines: 0,
         },
     }
 }
