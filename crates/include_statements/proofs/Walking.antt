@@ -107,7 +107,7 @@ no-zero : (n : ℕ) → n + 1 ≡ 0 → ⊥
 no-zero n e = omega (arith, e)
 
 module _ (numbers : List ℕ) (f : Fact) (j k : ℕ) where
-  pub seeks-found : (e : Fact) (i : ℕ) → left numbers f j k ≡ given (segmentIn numbers f j .rule) e ∷ left numbers f j (i + 1) → Good (graphIn numbers) e
+  pub seeks-found : (e : Fact) (i : ℕ) → left numbers f j k ≡ given (segmentIn numbers f j .rule) e ∷ left numbers f j i → Good (graphIn numbers) e
       → Seeks numbers f j k (Found e i)
   unfolding soughtFact soughtPlace
   seeks-found e i l g =

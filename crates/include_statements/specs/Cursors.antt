@@ -38,10 +38,10 @@ pub record Placed (numbers : List ℕ) (f : Fact) (j place : ℕ) : Type 0 where
 unfoldable pub left : List ℕ → Fact → ℕ → ℕ → List Given
 left numbers f j k = givenBy (drop j (segmentsIn numbers f)) k
 
--- The search for the first place from k on that gives a fact: found at place k', or none in this segment.
+-- The search for the first place from k on that gives a fact: found, in front of place i, or none in this segment.
 pub record Seeks (numbers : List ℕ) (f : Fact) (j k : ℕ) (r : Sought) : Type 0 where
   pub found : (e : Fact) (i : ℕ) → r ≡ Found e i
-      → (left numbers f j k ≡ record { rule = segmentIn numbers f j .rule; fact = e } ∷ left numbers f j (i + 1)) × Good (graphIn numbers) e
+      → (left numbers f j k ≡ record { rule = segmentIn numbers f j .rule; fact = e } ∷ left numbers f j i) × Good (graphIn numbers) e
   pub ended : r ≡ Ended → left numbers f j k ≡ left numbers f (j + 1) 0
 
 -- One consequence: what is left at the cursor is it, and what is left at the next cursor.

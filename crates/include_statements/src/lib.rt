@@ -15,7 +15,7 @@ use facts::StmtIdx;
 use facts::SymbolIdx;
 use keep_rules::Pick;
 
-// A place that gives a fact, by its number, or none left in the segment.
+// A fact that a place gives, and the number behind that place; or none is left in the segment.
 pub enum Sought {
     Found(Fact, usize),
     Ended,
@@ -410,7 +410,8 @@ fn seek(
             place,
         ) {
             Pick::Gives(f) => {
-                return Sought::Found(f, at);
+                let behind = at + 1;
+                return Sought::Found(f, behind);
             }
             Pick::Nothing => {
                 at += 1;
@@ -418,46 +419,6 @@ fn seek(
         }
     }
     Sought::Ended
-}
-
-// The index behind place `at` of segment j. No segment has a place behind the largest number: its end stands for that index.
-fn index_behind(
-    numbers: &[u32],
-    modules: &[usize],
-    symbols: &[usize],
-    firsts: &[usize],
-    statements: &[usize],
-    verdicts: &[u32],
-    demand: &[usize],
-    keys: &[usize],
-    namespaces: &[usize],
-    fact: Fact,
-    j: usize,
-    place: usize,
-    at: usize,
-) -> usize
-    requires { ⌜ Prepared (now numbers) (now modules) (now symbols) (now firsts) (now statements) (now verdicts) (now demand) (now keys) (now namespaces) ⌝ }
-    requires { ⌜ Good (graphIn (now numbers)) fact ⌝ }
-    requires { ⌜ (j < length (segmentsIn (now numbers) fact)) × Placed (now numbers) fact j place ⌝ }
-    ensures { λ r. ⌜ left (now (numbers .entry)) fact j r ≡ left (now (numbers .entry)) fact j (at + 1) ⌝ }
-{
-    if at < 18446744073709551615 {
-        return at + 1;
-    }
-    segment_places(
-        numbers,
-        modules,
-        symbols,
-        firsts,
-        statements,
-        verdicts,
-        demand,
-        keys,
-        namespaces,
-        fact,
-        j,
-        place,
-    )
 }
 
 // The next consequence of a fact from the cursor on.
@@ -510,7 +471,7 @@ pub fn next(
             k,
             place,
         ) {
-            Sought::Found(f, at) => {
+            Sought::Found(f, behind) => {
                 let rule = segment_rule(
                     numbers,
                     modules,
@@ -524,27 +485,12 @@ pub fn next(
                     fact,
                     j,
                 );
-                let index = index_behind(
-                    numbers,
-                    modules,
-                    symbols,
-                    firsts,
-                    statements,
-                    verdicts,
-                    demand,
-                    keys,
-                    namespaces,
-                    fact,
-                    j,
-                    place,
-                    at,
-                );
                 return Consequence::Yields(
                     rule,
                     f,
                     Cursor {
                         segment: j,
-                        index,
+                        index: behind,
                         place,
                     },
                 );

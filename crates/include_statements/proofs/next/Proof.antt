@@ -9,7 +9,6 @@ use Rattle.include_statements.proofs.next.Statement.{statement}
 use Rattle.include_statements.proofs.next.Tie as tie
 use Rattle.include_statements.proofs.next.Reads as reads
 use Rattle.include_statements.proofs.next.Lts as lts
-use Rattle.include_statements.proofs.index_behind.Reads as index-behind-reads
 use Rattle.include_statements.proofs.place_behind.Reads as place-behind-reads
 use Rattle.include_statements.proofs.seek.Reads as seek-reads
 use Rattle.include_statements.proofs.segment_count.Reads as segment-count-reads
@@ -41,15 +40,11 @@ enum-known-f c = search needs
 segment-rule-requires : tie.Need-segment-rule-requires Inv-loop μ-loop
 segment-rule-requires c κs = let s = c .before .before .before .before .before .before .before .before .before .before .before .before .before .before .before .before in (s .pre .0, (s .pre .1 .0, omega (arith, c .before .before .before .before .loop-test .taken, c .before .before .before .before .before .before .segment-count .ensures)))
 
--- src/lib.rt:527:21
-index-behind-requires : tie.Need-index-behind-requires Inv-loop μ-loop
-index-behind-requires c κs = let s = c .before .before .before .before .before .before .before .before .before .before .before .before .before .before .before .before .before in (s .pre .0, (s .pre .1 .0, (omega (arith, c .before .before .before .before .before .loop-test .taken, c .before .before .before .before .before .before .before .segment-count .ensures), c .before .before .before .before .before .before .loop .inv .1)))
-
 -- src/lib.rt:542:17
 returns : tie.Need-returns Inv-loop μ-loop
-returns c = let s = c .before .before .before .before .before .before .before .before .before .before .before .before .before .before .before .before .before .before in
-    let e = c .before .before .before .before .before .seek .ensures .found _ _ (c .before .before .before .f .given .1) in
-    nexts-yields _ _ _ _ _ _ (sym (c .before .before .before .before .before .before .before .loop .inv .0) ∙ e .0 ∙ same-given (c .before .segment-rule .ensures .0) (c .index-behind .ensures)) (e .1) (c .before .before .before .before .before .before .before .loop .inv .1) (c .before .segment-rule .ensures .1)
+returns c = let s = c .before .before .before .before .before .before .before .before .before .before .before .before .before .before .before .before .before in
+    let e = c .before .before .before .before .seek .ensures .found _ _ (c .before .before .f .given .1) in
+    nexts-yields _ _ _ _ _ _ (sym (c .before .before .before .before .before .before .loop .inv .0) ∙ e .0 ∙ same-given (c .segment-rule .ensures .0) refl) (e .1) (c .before .before .before .before .before .before .loop .inv .1) (c .segment-rule .ensures .1)
 
 -- src/lib.rt:553:17
 enum-told : tie.Need-enum-told Inv-loop μ-loop
@@ -86,7 +81,6 @@ next-spec =
     seek-requires
     enum-known-f
     segment-rule-requires
-    index-behind-requires
     returns
     enum-told
     place-behind-requires

@@ -34,6 +34,10 @@ enum-known-f : tie.Need-enum-known-f Inv-loop μ-loop
 enum-known-f c = search needs
 
 -- src/lib.rt:413:17
+add-behind : tie.Need-add-behind Inv-loop μ-loop
+add-behind c = search needs
+
+-- src/lib.rt:414:17
 returns : tie.Need-returns Inv-loop μ-loop
 returns c = let s = c .before .before .before .before .before .before .before .before .before .before .before .before .before .before .before .before in
     let e = c .before .before .before .pick .ensures in
@@ -71,6 +75,7 @@ seek-spec =
     loop-holds
     pick-requires
     enum-known-f
+    add-behind
     returns
     enum-told
     add-at
