@@ -4,3 +4,5 @@ pub mod Reaching
 pub mod Handling
 pub mod Smallest
 pub mod Showing
+pub mod Accepting
+pub mod OfDrains
