@@ -70,6 +70,7 @@ recomputed g m =
 unfoldable pub firstVerdict : Graph → ℕ → ℕ
 firstVerdict g m = elim (relaxed g) [ true ↦ recomputed g m | false ↦ effects (moduleOf g m) ]
 
+-- of all modules
 unfoldable pub firstVerdicts : Graph → List ℕ
 firstVerdicts g = tabulate (firstVerdict g) 0 (g .header .modules)
 

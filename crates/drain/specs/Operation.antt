@@ -58,6 +58,7 @@ outcomeIn g starts room =
       | false ↦ before 4 (length starts)
     ]
 
+-- "Drain and run: as check, then for a drain 4 at their length and 3, then 5"
 unfoldable pub outcomeOf : List ℕ → List ℕ → Rooms → Outcome
 outcomeOf numbers starts room = elim (checkOf numbers) [ got g q ↦ outcomeIn g starts room | fault n p ↦ before n p ]
 
@@ -96,6 +97,7 @@ pub record Rows : Type 0 where
   pub json : List ℕ
   pub reason : List ℕ
 
+-- their lengths
 unfoldable pub roomsOf : Rows → Rooms
 roomsOf r =
     record {

@@ -92,6 +92,7 @@ devNamespace g m = option g 4 && (not (eqb m (g .header .runtime)) && eqb (expor
 unfoldable pub devPick : Graph → ℕ → ℕ → Pick
 devPick g m k = when (devNamespace g m) (statementFact m 0)
 
+-- K2 to K6 in the order of 000:564-591
 unfoldable pub moduleSegments : Graph → List ℕ → ℕ → List Segment
 moduleSegments g v m =
     segment 2 (length (statementList g m)) (sweepPick g v m)
@@ -153,6 +154,7 @@ resolvedPick row x k =
       | false ↦ elim (eqb (referenceFlag row) 1) [ true ↦ Gives (useFact (referenceSymbol row) x) | false ↦ Gives (checkedFact (referenceSymbol row) x) ]
     ]
 
+-- K8 by the kind of the reference (000:1052-1088): how many places it has, and what each gives
 unfoldable pub referencePlaces : Graph → List ℕ → ℕ
 referencePlaces g row =
     elim (eqb (referenceKind row) 0) [
@@ -173,6 +175,7 @@ referencePick g x row k =
 unfoldable pub referenceSegment : Graph → ℕ → List ℕ → Segment
 referenceSegment g x row = segment 8 (referencePlaces g row) (referencePick g x row)
 
+-- K7, then K8 for each reference in turn (000:1037-1088)
 unfoldable pub statementSegments : Graph → List ℕ → ℕ → ℕ → List Segment
 statementSegments g v m i =
     segment 7 (length (statementRecords (statementOf g m i))) (recordPick g v m i)
@@ -284,6 +287,7 @@ writePlaces g s =
 unfoldable pub writePick : Graph → ℕ → ℕ → Pick
 writePick g s k = Gives (statementFact (owner (symbolOf g s)) (only (getD (writtenPropertyStatements (symbolOf g s)) k [])))
 
+-- K10 to K14 in the order of the rules; the symbol itself, its root and its target decide different ones, as said at each
 unfoldable pub useSegments : Graph → List ℕ → ℕ → ℕ → List Segment
 useSegments g v s x =
     segment 10 (demandPlaces g (demanded g v s x)) (demandPick g (demanded g v s x))

@@ -16,6 +16,7 @@ use Rattle.keep_record.specs.declared.Line.{Line}
 use Rattle.keep_record.specs.Lines.{added, adds}
 use Rattle.keep_rules.specs.Rules.{Given, gives}
 
+-- a line by its parts, and the fact of line k
 abbrev pub line : Fact → ℕ → ℕ → ℕ → Line
 line f rule first second = record { fact = f; rule = rule; first = first; second = second }
 
@@ -94,6 +95,7 @@ unfoldable pub drainedAll : Graph → List ℕ → List Fact → List Line → L
 drainedAll g v [] lines = lines
 drainedAll g v (f ∷ fs) lines = drainedAll g v fs (drained g v (markCount g) (length lines) (added g lines (line f 0 0 0)))
 
+-- the drain of a list of starts: "a drain's own starts are those it is given"
 unfoldable pub drainOf : Graph → List ℕ → List Fact → List Line
 drainOf g v starts = drainedAll g v starts []
 
