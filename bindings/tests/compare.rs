@@ -3,32 +3,18 @@
 //! KEEP_CASES is how many inputs each random test takes at least (400,000 if it is not set; some take a part of it),
 //! KEEP_SEED the first seed. To see one failing seed again: `KEEP_SEED=seed KEEP_CASES=1`.
 
+mod seeds;
+
 use lizdakk::generate::{self, Random, Size};
 use lizdakk::model::{Encoded, Entry, Graph, Module, Record, Reference, Statement, Symbol};
 use lizdakk::reference::{self, leb128};
 use lizdakk::{with_stack, ReadAnswer, Refusal};
+use seeds::for_seeds;
 
 const CASES: u64 = 400_000;
 
-fn from_environment(name: &str, default: u64) -> u64 {
-    std::env::var(name).map_or(default, |text| text.parse().unwrap_or_else(|_| panic!("{name} is a number")))
-}
-
-/// Calls `test` with one seed after another until it has counted enough inputs.
-fn for_seeds(what: &str, least: u64, test: impl Fn(u64) -> u64 + Sync) {
-    let first = from_environment("KEEP_SEED", 1);
-    with_stack(|| {
-        let (mut seed, mut inputs) = (first, 0);
-        while inputs < least.max(1) {
-            inputs += test(seed);
-            seed += 1;
-        }
-        println!("{what}: {inputs} inputs from seeds {first} to {}", seed - 1);
-    });
-}
-
 fn cases() -> u64 {
-    from_environment("KEEP_CASES", CASES)
+    seeds::cases(CASES)
 }
 
 /// Compares the answers of both; `from` says where the numbers come from.

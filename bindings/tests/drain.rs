@@ -3,11 +3,14 @@
 //! KEEP_CASES is how many drains there are at least (100,000 if it is not set; some tests take a part of it), KEEP_SEED
 //! the first seed. To see one failing seed again: `KEEP_SEED=seed KEEP_CASES=1`.
 
+mod seeds;
+
 use lizdakk::generate::{self, Random, Size, PRINTED};
 use lizdakk::model::Graph;
 use lizdakk::reference::drain::{self, LINE};
 use lizdakk::reference::rows::Answer;
 use lizdakk::{with_stack, DrainAnswer, Refused, Rows};
+use seeds::for_seeds;
 use std::fmt::Debug;
 
 const CASES: u64 = 100_000;
@@ -18,25 +21,8 @@ const ROWS: usize = 8;
 const MARKS: usize = 0;
 const RECORD: usize = 1;
 
-fn from_environment(name: &str, default: u64) -> u64 {
-    std::env::var(name).map_or(default, |text| text.parse().unwrap_or_else(|_| panic!("{name} is a number")))
-}
-
-/// Calls `test` with one seed after another until it has counted enough drains.
-fn for_seeds(what: &str, least: u64, test: impl Fn(u64) -> u64 + Sync) {
-    let first = from_environment("KEEP_SEED", 1);
-    with_stack(|| {
-        let (mut seed, mut drains) = (first, 0);
-        while drains < least.max(1) {
-            drains += test(seed);
-            seed += 1;
-        }
-        println!("{what}: {drains} drains from seeds {first} to {}", seed - 1);
-    });
-}
-
 fn cases() -> u64 {
-    from_environment("KEEP_CASES", CASES)
+    seeds::cases(CASES)
 }
 
 /// How long each row is: marks, record (in numbers), modules, statements, used, external, json, REASON.

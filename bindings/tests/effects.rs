@@ -3,33 +3,19 @@
 //! KEEP_CASES is how many graphs there are at least (200,000 if it is not set; some tests take a part of it), KEEP_SEED
 //! the first seed. To see one failing seed again: `KEEP_SEED=seed KEEP_CASES=1`.
 
+mod seeds;
+
 use lizdakk::generate::{self, Random, Size};
 use lizdakk::model::{Graph, Module, Record, Statement, Symbol};
 use lizdakk::{reference, with_stack, Refusal};
+use seeds::for_seeds;
 
 const CASES: u64 = 200_000;
 /// Words on either side of a lent row that no one may touch.
 const GUARD: usize = 3;
 
-fn from_environment(name: &str, default: u64) -> u64 {
-    std::env::var(name).map_or(default, |text| text.parse().unwrap_or_else(|_| panic!("{name} is a number")))
-}
-
-/// Calls `test` with one seed after another until it has counted enough graphs.
-fn for_seeds(what: &str, least: u64, test: impl Fn(u64) -> u64 + Sync) {
-    let first = from_environment("KEEP_SEED", 1);
-    with_stack(|| {
-        let (mut seed, mut graphs) = (first, 0);
-        while graphs < least.max(1) {
-            graphs += test(seed);
-            seed += 1;
-        }
-        println!("{what}: {graphs} graphs from seeds {first} to {}", seed - 1);
-    });
-}
-
 fn cases() -> u64 {
-    from_environment("KEEP_CASES", CASES)
+    seeds::cases(CASES)
 }
 
 /// Compares the answers of both and every word of the lent rows.

@@ -3,7 +3,7 @@
 use std::path::Path;
 use std::process::Command;
 
-const PROGRAM: &str = r#"
+const READ: &str = r#"
 #include "keep.h"
 #include <stdio.h>
 
@@ -23,11 +23,53 @@ int main(void) {
 }
 "#;
 
-#[test]
-fn c_program() {
+const DRAIN: &str = r#"
+#include "keep.h"
+#include <stdio.h>
+
+static const uint32_t numbers[] = {
+    1, 0, 2, 2, 3, 1, 0,
+    1, 0, 0, 0, 0, 0, 0, 1, 0, 1, 0, 1,  0, 0, 0, 0, 0, 0, 0, 0, 0, 0,
+    1, 1, 0, 0, 0, 0, 0, 2, 0, 2, 1, 2,  0, 0, 0, 0, 0, 0, 0, 0, 0, 0,
+    0, 1, 0, 0, 0, 0, 0, 0, 0,   1, 1, 1, 0, 0, 0, 0, 0, 0,
+    0, 0, 0,   0, 0, 0,   1, 0, 0,   1, 0, 0,
+};
+static const uint32_t starts[] = {4, 1, 2};
+
+int main(void) {
+    uint32_t verdicts[3] = {7, 7, 7}, record[31], i;
+    uint8_t marks[17], modules[1], statements[2], used[1], external[1], json[1], reason[2];
+    struct keep_refusal effects = keep_effects(numbers, 81, verdicts, 3);
+    printf("%u %u: ", (unsigned)effects.number, (unsigned)effects.place);
+    printf("%u %u %u\n", (unsigned)verdicts[0], (unsigned)verdicts[1], (unsigned)verdicts[2]);
+    struct keep_drain_answer full = keep_drain(numbers, 81, starts, 3, marks, 17, record, 17, modules, 1, statements, 2,
+                                               used, 1, external, 1, json, 1, reason, 2);
+    printf("%u %u %u\n", (unsigned)full.number, (unsigned)full.place, (unsigned)full.lines);
+    struct keep_drain_answer faulty = keep_drain(numbers, 81, starts, 2, marks, 17, record, 31, modules, 1, statements,
+                                                 2, used, 1, external, 1, json, 1, reason, 2);
+    printf("%u %u %u\n", (unsigned)faulty.number, (unsigned)faulty.place, (unsigned)faulty.lines);
+    struct keep_drain_answer drain = keep_drain(numbers, 81, starts, 3, marks, 17, record, 31, modules, 1, statements,
+                                                2, used, 1, external, 1, json, 1, reason, 2);
+    printf("%u %u %u:", (unsigned)drain.number, (unsigned)drain.place, (unsigned)drain.lines);
+    for (i = 0; i < 31; i++) printf(" %u", (unsigned)record[i]);
+    printf("\n%u, %u %u, ", modules[0], statements[0], statements[1]);
+    printf("%u, %u, %u, %u %u\n", used[0], external[0], json[0], reason[0], reason[1]);
+    return 0;
+}
+"#;
+
+const DRAINED: &str = "0 0: 0 1 7
+5 0 0
+4 2 0
+0 0 5: 4 1 2 0 0 0 3 1 2 9 1 0 6 1 0 9 1 0 1 1 0 13 2 0 2 1 1 2 4 0 0
+2, 0 2, 2, 0, 0, 0 1
+";
+
+/// What a C program prints that includes the header and links with the library.
+fn printed(name: &str, text: &str) -> String {
     let folder = Path::new(env!("CARGO_TARGET_TMPDIR"));
-    let (source, program) = (folder.join("header.c"), folder.join("header"));
-    std::fs::write(&source, PROGRAM).expect("the source can be written");
+    let (source, program) = (folder.join(format!("{name}.c")), folder.join(name));
+    std::fs::write(&source, text).expect("the source can be written");
     let compiler = std::env::var("CC").unwrap_or_else(|_| "cc".to_string());
     let compiled = Command::new(compiler)
         .args(["-std=c99", "-Wall", "-Wextra", "-Werror", "-pedantic", "-I"])
@@ -39,5 +81,16 @@ fn c_program() {
         .status();
     assert!(compiled.expect("a C compiler").success());
     let output = Command::new(&program).output().expect("the program runs");
-    assert_eq!(String::from_utf8_lossy(&output.stdout), "1 1 0, 5 0 0, 0 0 2, 2 128 7, 4 2\n");
+    String::from_utf8_lossy(&output.stdout).into_owned()
+}
+
+#[test]
+fn read_and_check() {
+    assert_eq!(printed("header", READ), "1 1 0, 5 0 0, 0 0 2, 2 128 7, 4 2\n");
+}
+
+/// The printed case: its effects and drains of it.
+#[test]
+fn effects_and_drain() {
+    assert_eq!(printed("header_drain", DRAIN), DRAINED);
 }
