@@ -29,7 +29,10 @@ fn main() {
         bench_check("check, 16,384 exports and CommonJS namespaces", &repeats(1).numbers());
         bench_check("the same, export names equal modulo 1,024", &repeats(1_024).numbers());
         bench_read("read, file of the bundle", &bundle);
-        bench_drain("drain, all statements of the bundle, by lines", &graph);
+        let statements = every_statement(&graph);
+        bench_drain("drain, all statements of the bundle, by lines", &bundle, &statements);
+        bench_decoded("the same, reference with a decoded graph", &graph, &statements);
+        bench_drain("drain, printed case from its entry, by lines", &PRINTED, &[1, 1, 0]);
     });
 }
 
@@ -53,26 +56,32 @@ fn bench_read(name: &str, numbers: &[u32]) {
     );
 }
 
-/// A drain that starts with every statement; its time is given for each line.
-fn bench_drain(name: &str, graph: &Graph) {
-    let (numbers, starts) = (graph.numbers(), every_statement(graph));
-    let answer = reference::drain::answer(&numbers, &starts).expect("good starts of a good graph");
+/// A drain; its time is given for each line.
+fn bench_drain(name: &str, numbers: &[u32], starts: &[u32]) {
+    let answer = reference::drain::answer(numbers, starts).expect("good starts of a good graph");
     let (mut row, mut expected_row) = (DrainRows::new(&answer), DrainRows::new(&answer));
-    let library = lizdakk::drain(&numbers, &starts, &mut row.lend());
-    let expected = reference::drain(&numbers, &starts, &mut expected_row.lend());
+    let library = lizdakk::drain(numbers, starts, &mut row.lend());
+    let expected = reference::drain(numbers, starts, &mut expected_row.lend());
     assert_eq!(library, expected, "{name}");
     assert_eq!(row, expected_row, "{name}");
     compare(
         name,
         answer.lines.len(),
-        || lizdakk::drain(black_box(&numbers), black_box(&starts), &mut row.lend()),
-        || reference::drain(black_box(&numbers), black_box(&starts), &mut expected_row.lend()),
+        || lizdakk::drain(black_box(numbers), black_box(starts), &mut row.lend()),
+        || reference::drain(black_box(numbers), black_box(starts), &mut expected_row.lend()),
     );
+}
+
+/// A drain against the reference's without its check and decoding.
+fn bench_decoded(name: &str, graph: &Graph, starts: &[u32]) {
+    let numbers = graph.numbers();
+    let answer = reference::drain::answer(&numbers, starts).expect("good starts of a good graph");
+    let (mut row, mut expected_row) = (DrainRows::new(&answer), DrainRows::new(&answer));
     let facts: Vec<Fact> = starts.chunks_exact(3).map(|start| Fact::of([start[0], start[1], start[2]])).collect();
     compare(
-        "the same, reference with a decoded graph",
+        name,
         answer.lines.len(),
-        || lizdakk::drain(black_box(&numbers), black_box(&starts), &mut row.lend()),
+        || lizdakk::drain(black_box(&numbers), black_box(starts), &mut row.lend()),
         || drain_decoded(black_box(graph), black_box(&facts), &mut expected_row.lend()),
     );
 }

@@ -1,10 +1,11 @@
 -- A property of every line of a list.
-use Prim.Native.Nat.{ℕ, zero, suc, _+_, _-_, _<_, _≤_}
-use mathlib.Core.Path.{_≡_, refl, ap, _∙_, sym, subst}
+use Prim.Native.Nat.{ℕ, zero, suc, _+_, _<_, _≤_}
+use mathlib.Core.Path.{_≡_, subst}
+use mathlib.Core.Bool.{Bool, true, false}
 use mathlib.Core.List.{List, [], _∷_, _++_, map}
 use native.Mathlib.Omega.{arith}
-use lib.ListN.{length, getD, take}
-use Rattle.facts.specs.Words.{tabulate}
+use lib.ListN.{length, getD, take, drop}
+use Rattle.graph_access.specs.Words.{tabulate}
 
 module _ {A : Type 0} (P : A → Type 0) where
   abbrev pub Every : List A → Type 0
@@ -31,6 +32,10 @@ module _ {A : Type 0} (P : A → Type 0) where
   pub every-by : (xs : List A) (d : A) → ((k : ℕ) → k < length xs → P (getD xs k d)) → Every xs
   every-by [] d h = tt
   every-by (x ∷ xs) d h = (h 0 (omega arith), every-by xs d (λ k u. h (suc k) (omega (arith, u))))
+
+  pub every-if : (b : Bool) (xs ys : List A) → Every xs → Every ys → Every (elim b [ true ↦ xs | false ↦ ys ])
+  every-if true xs ys a c = a
+  every-if false xs ys a c = c
 
   pub every-tabulate : (f : ℕ → A) (i n : ℕ) → ((k : ℕ) → i ≤ k → k < i + n → P (f k)) → Every (tabulate f i n)
   unfolding tabulate
@@ -62,3 +67,8 @@ module _ {A : Type 0} (P : A → Type 0) where
   every-take zero xs a = tt
   every-take (suc k) [] a = tt
   every-take (suc k) (x ∷ xs) a = (a .0, every-take k xs (a .1))
+
+  pub every-drop : (k : ℕ) (xs : List A) → Every xs → Every (drop k xs)
+  every-drop zero xs a = a
+  every-drop (suc k) [] a = tt
+  every-drop (suc k) (x ∷ xs) a = every-drop k xs (a .1)

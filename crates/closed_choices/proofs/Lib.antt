@@ -6,3 +6,6 @@ pub mod Smallest
 pub mod Showing
 pub mod Accepting
 pub mod OfDrains
+pub mod Spare
+pub mod Done
+pub mod OfOperation

@@ -1,15 +1,15 @@
 -- T5 and T6 over every accepted graph and all starts that are not refused.
-use Prim.Native.Nat.{ℕ, _*_, _/_, _%_, _<_, _≤_}
-use mathlib.Core.Path.{_≡_, refl, ap, _∙_, sym}
+use Prim.Native.Nat.{ℕ, _/_, _≤_}
+use mathlib.Core.Path.{_≡_}
 use mathlib.Core.List.{List}
 use lib.ListN.{length}
 use Rattle.graph.specs.declared.Checked.the-variants.{Accepted}
 use Rattle.graph.specs.Check.{graphIn, checkOf, answerOf}
 use Rattle.facts.specs.Facts.{markCount}
 use Rattle.determine_side_effects.specs.Effects.{lastVerdicts}
-use Rattle.worklist.specs.Drain.{drainOf, startsOf}
-use Rattle.drain.specs.Starts.{startsFault}
-use Rattle.drain.proofs.Starting.{starts-good}
+use Rattle.worklist.specs.Drain.{drainOf}
+use Rattle.starts.specs.Starts.{startsOf, startsFault}
+use Rattle.starts.proofs.Starting.{starts-good}
 use Rattle.closed_choices.specs.Choice.{Smallest, HasLine}
 use Rattle.closed_choices.proofs.Accepting.{accepted-tabled}
 use Rattle.closed_choices.proofs.Smallest.{drain-smallest, lines-suffice}

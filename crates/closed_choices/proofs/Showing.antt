@@ -1,37 +1,37 @@
 -- T6: the answer rows show what the facts of the lines give, and nothing else.
-use Prim.Native.Nat.{ℕ, zero, suc, _+_, _*_, _/_, _%_, _<_, _≤_}
+use Prim.Native.Nat.{ℕ, _+_, _*_, _/_, _%_, _<_, _≤_}
 use mathlib.Core.Path.{_≡_, refl, ap, _∙_, sym}
 use mathlib.Core.Bool.{Bool, true, false}
-use mathlib.Core.List.{List, [], _∷_, _++_}
+use mathlib.Core.List.{List, [], _++_, append-nil}
 use native.Mathlib.Omega.{arith}
 use lib.Dec.{eqb}
-use lib.ListN.{length, getD, drop, length-append, List·getD-append}
+use lib.ListN.{length, getD, drop, List·getD-append, List·getD-eq-default}
 use lib.Seq.{drop-append-seam}
 use Rattle.bit_row.specs.Row.{bitOf, bitAt}
+use Rattle.bit_row.proofs.Number.{bit-of-zero}
 use Rattle.bit_row.proofs.Place.{bit-in-byte}
 use Rattle.graph.specs.Check.{Graph}
 use Rattle.facts.specs.declared.Fact.{Fact}
-use Rattle.facts.specs.Words.{some}
 use Rattle.determine_side_effects.proofs.Lists.{some-found, some-holds}
 use Rattle.keep_record.specs.declared.Line.{Line}
 use Rattle.keep_record.specs.Lines.{elem}
 use Rattle.worklist.specs.Drain.{factAt}
-use Rattle.inclusion.specs.declared.Row.{Row}
-use Rattle.inclusion.specs.Shown.{shows, rowBytes, shown, byteOf, bytesOf, shownRow}
-use Rattle.inclusion.proofs.Bytes.{byte-bit}
-use Rattle.inclusion.proofs.Tabulated.{length-tabulate, getD-tabulate}
-use Rattle.closed_choices.specs.Choice.{Choice, HasLine, RowShows}
+use Rattle.answer_rows.specs.declared.Row.{Row}
+use Rattle.answer_rows.specs.Shown.{shows, rowBytes, shown, byteOf, bytesOf, shownRow}
+use Rattle.answer_rows.proofs.Bytes.{byte-bit}
+use Rattle.answer_rows.proofs.Tabulated.{length-tabulate, getD-tabulate}
+use Rattle.closed_choices.specs.Choice.{HasLine, RowShows}
 use Rattle.closed_choices.proofs.Handling.{noLine}
 
-module _ (p : ℕ → Bool) (n : ℕ) (rest : List ℕ) where
-  bytes-long : length (bytesOf p n) ≡ n
-  unfolding bytesOf
-  bytes-long = length-tabulate (byteOf p) 0 n
+pub bytes-long : (p : ℕ → Bool) (n : ℕ) → length (bytesOf p n) ≡ n
+unfolding bytesOf
+bytes-long p n = length-tabulate (byteOf p) 0 n
 
+module _ (p : ℕ → Bool) (n : ℕ) (rest : List ℕ) where
   byte-there : (i : ℕ) → i < n → getD (bytesOf p n ++ rest) i 0 ≡ byteOf p i
   unfolding bytesOf
   byte-there i l =
-      let h : i < length (bytesOf p n) = omega (arith, bytes-long) in
+      let h : i < length (bytesOf p n) = omega (arith, bytes-long p n) in
       let z : 0 + i ≡ i = omega arith in
       List·getD-append (bytesOf p n) rest 0 i h ∙ getD-tabulate (byteOf p) 0 n i 0 l ∙ ap (byteOf p) z
 
@@ -43,8 +43,18 @@ module _ (p : ℕ → Bool) (n : ℕ) (rest : List ℕ) where
       ap (λ m. bitAt (bytesOf p n ++ rest) m) (sym e) ∙ bit-in-byte (bytesOf p n ++ rest) (j / 8) (j % 8) k
       ∙ ap (λ x. eqb (bitOf (j % 8) x) 1) (byte-there (j / 8) i) ∙ byte-bit p (j / 8) (j % 8) k ∙ ap p e
 
+-- a row of such bytes, by its bits; behind a row every bit is 0
+pub bit-of-bytes : (p : ℕ → Bool) (n j : ℕ) → j < 8 * n → bitAt (bytesOf p n) j ≡ p j
+bit-of-bytes p n j l = ap (λ (row : List ℕ). bitAt row j) (sym (append-nil (bytesOf p n))) ∙ bit-there p n [] j l
+
+pub bit-behind : (row : List ℕ) (j : ℕ) → 8 * length row ≤ j → bitAt row j ≡ false
+unfolding bitAt
+bit-behind row j l =
+    let h : length row ≤ j / 8 = omega arith in
+    rw (List·getD-eq-default row 0 h, bit-of-zero (j % 8))
+
 drop-bytes : (p : ℕ → Bool) (n : ℕ) (rest : List ℕ) → drop n (bytesOf p n ++ rest) ≡ rest
-drop-bytes p n rest = ap (λ k. drop k (bytesOf p n ++ rest)) (sym (bytes-long p n rest)) ∙ drop-append-seam (bytesOf p n) rest
+drop-bytes p n rest = ap (λ k. drop k (bytesOf p n ++ rest)) (sym (bytes-long p n)) ∙ drop-append-seam (bytesOf p n) rest
 
 module _ (g : Graph) (row : Row) (lines : List Line) where
   -- bit j of the row is set exactly if some line shows it

@@ -9,14 +9,14 @@ use Rattle.graph.specs.Check.{Graph}
 use Rattle.graph_access.specs.Names.{owner, declaringStatements, only}
 use Rattle.facts.specs.declared.Fact.{Fact}
 use Rattle.facts.specs.Facts.{moduleFact, statementFact, forwardFact}
-use Rattle.facts.specs.Words.{symbolOf}
+use Rattle.graph_access.specs.Words.{symbolOf}
 use Rattle.determine_side_effects.specs.Effects.{lastVerdicts}
 use Rattle.keep_rules.specs.Rules.{Given, gives}
 use Rattle.keep_record.specs.declared.Line.{Line}
 use Rattle.keep_record.specs.Lines.{elem}
 use Rattle.worklist.specs.Drain.{factAt}
-use Rattle.inclusion.specs.declared.Row.{Row}
-use Rattle.inclusion.specs.Shown.{shows, rowBytes}
+use Rattle.answer_rows.specs.declared.Row.{Row}
+use Rattle.answer_rows.specs.Shown.{shows, rowBytes}
 
 -- a choice: any predicate on facts
 abbrev pub Choice : Type 1

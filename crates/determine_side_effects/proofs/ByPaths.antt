@@ -1,45 +1,46 @@
 -- Document 01, "Effects": a normal Analyzed(false) module becomes Analyzed(true) exactly if a path of resolved imports leads from it to
 -- effects; no other verdict changes. The order in which the passes take the modules plays no part in it.
-use Prim.Native.Nat.{ℕ, zero, suc, _+_, _-_, _<_, _≤_}
+use Prim.Native.Nat.{ℕ, zero, suc, _-_, _<_, _≤_}
 use mathlib.Core.Path.{_≡_, refl, ap, _∙_, sym}
-use mathlib.Core.Logic.{_⊎_, inl, inr, _↔_}
-use mathlib.Core.Bool.{Bool, true, false, _&&_, _||_, false≢true}
-use mathlib.Core.List.{List, [], _∷_}
+use mathlib.Core.Logic.{_⊎_, inl, inr}
+use mathlib.Core.Bool.{Bool, true, false, _||_, false≢true}
+use mathlib.Core.List.{List, []}
 use native.Mathlib.Nat.{zero-add}
 use native.Mathlib.Omega.{arith}
-use borrow.Author.Tests.{eqb-true, eqb-false, ltb-true, ltb-false, eq-eqb, ne-eqb}
-use lib.Dec.{eqb, ltb}
-use lib.Seq.{getD-set-same, getD-set-other, ext-getD}
-use lib.ListN.{length, getD, set, length-set}
+use borrow.Author.Tests.{eqb-true, eqb-false, ne-eqb}
+use lib.Dec.{eqb}
+use lib.Seq.{getD-set-same, getD-set-other}
+use lib.ListN.{length, getD}
 use Rattle.graph.specs.Check.{Graph}
-use Rattle.graph_access.specs.Names.{effects, flags, scanEffects, records, recordTarget}
-use Rattle.facts.specs.Words.{flag, moduleOf, normal, tabulate}
-use Rattle.determine_side_effects.specs.Effects.{effectful, seeds, reaches, moves, moved, pass, passes, settle, rescanned, recomputed, firstVerdict, firstVerdicts, lastVerdicts}
-use Rattle.determine_side_effects.specs.Paths.{Quiet, Imports, Leads, «effects» as begins, seeded, imports}
-use Rattle.determine_side_effects.proofs.Lists.{either, length-tabulate, getD-tabulate}
+use Rattle.graph_access.specs.Names.{effects, importRecords, importRecordTarget}
+use Rattle.graph_access.specs.Words.{moduleOf, normal}
+use Rattle.determine_side_effects.specs.Effects.{effectful, seeds, reaches, moves, moved, pass, passes, settle, relaxed, recomputed, firstVerdict, firstVerdicts, lastVerdicts}
+use Rattle.determine_side_effects.specs.Paths.{Quiet, Leads, «effects» as begins, seeded, imports, ByPaths}
+use Rattle.determine_side_effects.specs.Sequence.{givenVerdicts, recomputedFrom, rustVerdicts, RustSequence, LastByPaths}
+use Rattle.determine_side_effects.proofs.Lists.{either, length-tabulate, getD-tabulate, tabulate-same}
 use Rattle.determine_side_effects.proofs.Settled.{Moving, moving, moving-moves, moved-true, moved-false, moved-length, pass-length, pass-still, settle-length, settled-still}
 
 -- a record that reaches effects is resolved, to a module that has them
 record Reached (v row : List ℕ) : Type 0 where
   to : ℕ
-  target : recordTarget row ≡ suc to
+  target : importRecordTarget row ≡ suc to
   has : effectful (getD v to 0) ≡ true
 
 reached : (v row : List ℕ) → reaches v row ≡ true → Reached v row
 unfolding reaches
-reached v row e = go (eqb (recordTarget row) 0) refl
+reached v row e = go (eqb (importRecordTarget row) 0) refl
   where
-    go : (b : Bool) → eqb (recordTarget row) 0 ≡ b → Reached v row
+    go : (b : Bool) → eqb (importRecordTarget row) 0 ≡ b → Reached v row
     go true t = absurd (false≢true (rw (t, reaches) at e))
     go false t =
-        let n : recordTarget row ≡ suc (recordTarget row - 1) = omega (arith, eqb-false (recordTarget row) 0 t) in
-        record { to = recordTarget row - 1; target = n; has = rw (t, reaches) at e }
+        let n : importRecordTarget row ≡ suc (importRecordTarget row - 1) = omega (arith, eqb-false (importRecordTarget row) 0 t) in
+        record { to = importRecordTarget row - 1; target = n; has = rw (t, reaches) at e }
 
-reached-reaches : (v row : List ℕ) (t : ℕ) → recordTarget row ≡ suc t → effectful (getD v t 0) ≡ true → reaches v row ≡ true
+reached-reaches : (v row : List ℕ) (t : ℕ) → importRecordTarget row ≡ suc t → effectful (getD v t 0) ≡ true → reaches v row ≡ true
 unfolding reaches
 reached-reaches v row t e h =
-    let z : eqb (recordTarget row) 0 ≡ false = ne-eqb (recordTarget row) 0 (omega arith) in
-    let i : recordTarget row - 1 ≡ t = omega arith in
+    let z : eqb (importRecordTarget row) 0 ≡ false = ne-eqb (importRecordTarget row) 0 (omega arith) in
+    let i : importRecordTarget row - 1 ≡ t = omega arith in
     rw (z, reaches, i) h
 
 one-effectful : (x : ℕ) → x ≡ 1 → effectful x ≡ true
@@ -81,10 +82,10 @@ module _ (g : Graph) (v : List ℕ) where
       quiet (kept k) = record { inside = h; is-normal = i .is-normal; without = sym k ∙ i .without }
       quiet (turned q o l) = q
 
-      go : Quiet g v m → (seeds g (getD (records (moduleOf g m)) (i .by) []) ≡ true) ⊎ (reaches w (getD (records (moduleOf g m)) (i .by) []) ≡ true) → Leads g v m
+      go : Quiet g v m → (seeds g (getD (importRecords (moduleOf g m)) (i .by) []) ≡ true) ⊎ (reaches w (getD (importRecords (moduleOf g m)) (i .by) []) ≡ true) → Leads g v m
       go q (inl e) = seeded m (i .by) q (i .listed) e
       go q (inr e) =
-          let r = reached w (getD (records (moduleOf g m)) (i .by) []) e in
+          let r = reached w (getD (importRecords (moduleOf g m)) (i .by) []) e in
           imports m (i .by) (r .to) q (record { listed = i .listed; target = r .target }) (still-leads w s (r .to) (r .has))
 
   moved-sound : (w : List ℕ) → Sound w → (k : ℕ) → k < g .header .modules → k < length w → Sound (moved g w k)
@@ -117,8 +118,8 @@ module _ (g : Graph) (v : List ℕ) where
     nothing-moves m h = pass-still g (g .header .modules) (settle g v) (settled-still g v (omega arith)) m h (omega (arith, settle-length g v))
 
     -- a record that would move a module has moved it
-    arrives : (m k : ℕ) → Quiet g v m → k < length (records (moduleOf g m))
-        → (seeds g (getD (records (moduleOf g m)) k []) || reaches (settle g v) (getD (records (moduleOf g m)) k [])) ≡ true → getD (settle g v) m 0 ≡ 1
+    arrives : (m k : ℕ) → Quiet g v m → k < length (importRecords (moduleOf g m))
+        → (seeds g (getD (importRecords (moduleOf g m)) k []) || reaches (settle g v) (getD (importRecords (moduleOf g m)) k [])) ≡ true → getD (settle g v) m 0 ≡ 1
     arrives m k q l e = go (settled-sound m)
       where
         go : Turn g v m (getD (settle g v) m 0) → getD (settle g v) m 0 ≡ 1
@@ -135,7 +136,7 @@ module _ (g : Graph) (v : List ℕ) where
         go (turned q o l) = one-effectful _ o
     leads-effects m (seeded _ k q l e) = one-effectful _ (arrives m k q l (or-left _ _ e))
     leads-effects m (imports _ k t q i r) =
-        one-effectful _ (arrives m k q (i .listed) (or-right (seeds g (getD (records (moduleOf g m)) k [])) _ (reached-reaches (settle g v) _ t (i .target) (leads-effects t r))))
+        one-effectful _ (arrives m k q (i .listed) (or-right (seeds g (getD (importRecords (moduleOf g m)) k [])) _ (reached-reaches (settle g v) _ t (i .target) (leads-effects t r))))
 
     pub settled-leads : (m : ℕ) → Quiet g v m → getD (settle g v) m 0 ≡ 1 → Leads g v m
     settled-leads m q e = go (settled-sound m)
@@ -165,13 +166,7 @@ module _ (g : Graph) (v : List ℕ) where
         go (kept i) = i
         go (turned q o l) = absurd (n q)
 
--- w has the verdicts that document 01 tells of v
-pub record ByPaths (g : Graph) (v w : List ℕ) : Type 0 where
-  pub long : length w ≡ length v
-  pub becomes : (m : ℕ) → Quiet g v m → (getD w m 0 ≡ 1) ↔ Leads g v m
-  pub else-stays : (m : ℕ) → Quiet g v m → (Leads g v m → ⊥) → getD w m 0 ≡ 0
-  pub others : (m : ℕ) → (Quiet g v m → ⊥) → getD w m 0 ≡ getD v m 0
-
+-- settling gives the verdicts that document 01 tells of
 pub by-paths : (g : Graph) (v : List ℕ) → length v ≡ g .header .modules → ByPaths g v (settle g v)
 by-paths g v long =
     record {
@@ -186,32 +181,35 @@ by-paths g v long =
     stays m q n (inr o) = absurd (n (settled-leads g v long m q o))
 
 -- settling leaves external modules as they are
-pub externals-stay : (g : Graph) (m : ℕ) → m < g .header .modules → normal g m ≡ false
-    → getD (settle g (tabulate (λ i. effects (moduleOf g i)) 0 (g .header .modules))) m 0 ≡ effects (moduleOf g m)
+pub externals-stay : (g : Graph) (m : ℕ) → m < g .header .modules → normal g m ≡ false → getD (settle g (givenVerdicts g)) m 0 ≡ effects (moduleOf g m)
+unfolding givenVerdicts
 externals-stay g m h n =
-    others-stay g (tabulate (λ i. effects (moduleOf g i)) 0 (g .header .modules)) (length-tabulate (λ i. effects (moduleOf g i)) 0 (g .header .modules)) m (λ q. false≢true (sym n ∙ q .is-normal))
+    others-stay g (givenVerdicts g) (length-tabulate (λ i. effects (moduleOf g i)) 0 (g .header .modules)) m (λ q. false≢true (sym n ∙ q .is-normal))
     ∙ getD-tabulate (λ i. effects (moduleOf g i)) 0 (g .header .modules) m 0 h
     ∙ ap (λ i. effects (moduleOf g i)) (zero-add m)
 
--- 002's recomputation of module m, of verdicts that were settled before it
-unfoldable pub recomputedFrom : Graph → List ℕ → ℕ → ℕ
-recomputedFrom g v m =
-    elim (normal g m) [
-      | true ↦ elim (eqb (scanEffects (moduleOf g m)) 1 && flag 5 (flags (moduleOf g m))) [ true ↦ rescanned g m | false ↦ scanEffects (moduleOf g m) ]
-      | false ↦ getD v m 0
-    ]
-
--- that they were settled before it changes nothing
-pub recomputed-anyway : (g : Graph) (m : ℕ) → m < g .header .modules
-    → recomputedFrom g (settle g (tabulate (λ i. effects (moduleOf g i)) 0 (g .header .modules))) m ≡ recomputed g m
+-- that they were settled before the recomputation changes nothing
+pub recomputed-anyway : (g : Graph) (m : ℕ) → m < g .header .modules → recomputedFrom g (settle g (givenVerdicts g)) m ≡ recomputed g m
 unfolding recomputedFrom recomputed
 recomputed-anyway g m h = go (normal g m) refl
   where
-    go : (b : Bool) → normal g m ≡ b → recomputedFrom g (settle g (tabulate (λ i. effects (moduleOf g i)) 0 (g .header .modules))) m ≡ recomputed g m
+    go : (b : Bool) → normal g m ≡ b → recomputedFrom g (settle g (givenVerdicts g)) m ≡ recomputed g m
     go true n = rw (n, recomputedFrom, recomputed)
     go false n = rw (n, recomputedFrom, recomputed) (externals-stay g m h n)
 
 -- the last verdicts, by the ones before the settling
-pub last-by-paths : (g : Graph) → ByPaths g (firstVerdicts g) (lastVerdicts g)
+pub last-by-paths : LastByPaths
 unfolding lastVerdicts firstVerdicts
 last-by-paths g = by-paths g (firstVerdicts g) (length-tabulate (firstVerdict g) 0 (g .header .modules))
+
+-- the Rust's two settlings and the recomputation between them give the same verdicts as one settling
+pub rust-sequence : RustSequence
+unfolding rustVerdicts lastVerdicts firstVerdicts firstVerdict givenVerdicts
+rust-sequence g = go (relaxed g) refl
+  where
+    n : ℕ
+    n = g .header .modules
+
+    go : (b : Bool) → relaxed g ≡ b → rustVerdicts g ≡ lastVerdicts g
+    go true e = rw (e, rustVerdicts) (ap (settle g) (tabulate-same _ (firstVerdict g) 0 n (λ m h. recomputed-anyway g m (omega (arith, h)) ∙ rw (e, firstVerdict))))
+    go false e = rw (e, rustVerdicts) (ap (settle g) (tabulate-same _ (firstVerdict g) 0 n (λ m h. rw (e, firstVerdict))))

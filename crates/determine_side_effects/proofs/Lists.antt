@@ -1,14 +1,15 @@
 -- Tests of a list's elements, lists made of a function's values, and how many of a list's numbers are 0.
-use Prim.Native.Nat.{ℕ, zero, suc, _+_, _-_, _<_, _≤_}
+use Prim.Native.Nat.{ℕ, zero, suc, _+_, _<_, _≤_}
 use mathlib.Core.Path.{_≡_, refl, ap, _∙_, sym}
 use mathlib.Core.Logic.{_⊎_, inl, inr}
 use mathlib.Core.Bool.{Bool, true, false, _&&_, _||_, false≢true}
 use mathlib.Core.List.{List, [], _∷_, _++_}
 use native.Mathlib.Numerals.{add-one}
+use native.Mathlib.Nat.{zero-add}
 use native.Mathlib.Omega.{arith}
-use lib.Seq.{drop-cons}
+use lib.Seq.{drop-cons, ext-getD}
 use lib.ListN.{length, getD, drop, set, drop-of-length-le}
-use Rattle.facts.specs.Words.{some, tabulate}
+use Rattle.graph_access.specs.Words.{some, tabulate}
 
 pub both : (a b : Bool) → (a && b) ≡ true → (a ≡ true) × (b ≡ true)
 both true b e = (refl, e)
@@ -79,6 +80,16 @@ module _ {A : Type 0} (f : ℕ → A) where
   unfolding tabulate
   tabulate-snoc i zero = ap (λ k. f k ∷ []) (omega arith)
   tabulate-snoc i (suc n) = ap (λ l. f i ∷ l) (tabulate-snoc (i + 1) n ∙ ap (λ k. tabulate f (i + 1) n ++ (f k ∷ [])) (omega arith))
+
+-- the elements of a list, one by one
+pub tabulate-getD : (v : List ℕ) → tabulate (λ i. getD v i 0) 0 (length v) ≡ v
+tabulate-getD v = let l = length-tabulate (λ i. getD v i 0) 0 (length v) in ext-getD 0 _ _ l (λ j b. getD-tabulate (λ i. getD v i 0) 0 (length v) j 0 (omega (arith, b, l)) ∙ ap (λ i. getD v i 0) (zero-add j))
+
+-- two functions with the same values
+pub tabulate-same : {A : Type 0} (f h : ℕ → A) (i n : ℕ) → ((k : ℕ) → k < i + n → f k ≡ h k) → tabulate f i n ≡ tabulate h i n
+unfolding tabulate
+tabulate-same f h i zero e = refl
+tabulate-same f h i (suc n) e = rw (e i (omega arith), tabulate-same f h (i + 1) n (λ k l. e k (omega (arith, l))))
 
 -- how many of the numbers are 0
 unfoldable pub zeros : List ℕ → ℕ

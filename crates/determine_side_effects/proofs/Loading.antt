@@ -1,49 +1,24 @@
--- From what `load` tells to an accepted graph with its tables, and the operation's answer and row.
-use Prim.Native.Nat.{ℕ, _+_, _-_, _<_, _≤_}
+-- The operation's answer and row, by their cases.
+use Prim.Native.Nat.{ℕ, _<_, _≤_}
 use mathlib.Core.Path.{_≡_, refl, ap, _∙_, sym}
 use mathlib.Core.Bool.{Bool, true, false}
 use mathlib.Core.List.{List, _++_}
 use native.Mathlib.Omega.{arith}
-use borrow.Author.Tests.{lt-ltb, le-ltb, ltb-true, ltb-false}
+use borrow.Author.Tests.{lt-ltb, le-ltb, ltb-false}
 use lib.Dec.{ltb}
 use lib.Seq.{drop-at}
 use lib.ListN.{length, drop, length-append, length-drop}
 use Rattle.rows.specs.Walk.{Parsed, got, fault}
-use Rattle.rows.proofs.Walks.{at-got}
-use Rattle.graph_format.specs.declared.Header.{Header}
 use Rattle.graph_tables.specs.Tables.{headerIn}
 use Rattle.graph.specs.declared.Checked.{Checked}
 use Rattle.graph.specs.declared.Checked.the-variants.{Accepted, Refused}
-use Rattle.graph.specs.Check.{Graph, checkOf, answerOf, graphIn, HeaderRead, Tables, OnceAccepted}
-use Rattle.graph.proofs.Checking.{seven, bounded, once-refused}
+use Rattle.graph.specs.Check.{Graph, checkOf, answerOf, graphIn}
+use Rattle.graph.proofs.Checking.{once-refused}
 use Rattle.graph.proofs.WellFormed.{accepted-is}
-use Rattle.facts.specs.Loaded.{Loaded}
 use Rattle.determine_side_effects.specs.Effects.{firstVerdict, firstVerdicts, lastVerdicts}
 use Rattle.determine_side_effects.specs.Operation.{effectsAnswer, effectsRow}
 use Rattle.determine_side_effects.proofs.Lists.{length-tabulate}
 use Rattle.determine_side_effects.proofs.Settled.{settle-length}
-
-pub loaded : (numbers modules symbols firsts statements entries : List ℕ) (h : Header) → answerOf (checkOf numbers) ≡ Accepted → HeaderRead numbers h
-    → Tables numbers modules symbols firsts statements entries → Loaded numbers modules symbols firsts statements
-loaded numbers modules symbols firsts statements entries h a r t =
-    let b = bounded numbers h r in
-    let e = r .is in
-    record {
-      accepted = a;
-      long = seven numbers (at-got _ (r .end) (r .read) .1);
-      of-modules = t .of-modules;
-      of-symbols = t .of-symbols;
-      of-statements = t .of-statements;
-      few-modules = rw e at (b .0);
-      few-symbols = rw e at (b .1);
-      few-statements = rw e at (b .2);
-    }
-
--- the same of an answer that `load` gave
-pub once-loaded : (numbers modules symbols firsts statements entries : List ℕ) (h : Header) (r : Checked) → HeaderRead numbers h → r ≡ answerOf (checkOf numbers)
-    → OnceAccepted r (Tables numbers modules symbols firsts statements entries) → OnceAccepted r (Loaded numbers modules symbols firsts statements)
-once-loaded numbers modules symbols firsts statements entries h r good is tables =
-    record { known = λ e. loaded numbers modules symbols firsts statements entries h (sym is ∙ e) good (tables .known e) }
 
 pub last-length : (g : Graph) → length (lastVerdicts g) ≡ g .header .modules
 unfolding lastVerdicts firstVerdicts

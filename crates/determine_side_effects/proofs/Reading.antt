@@ -1,28 +1,23 @@
 -- What the functions read, against what the definitions say of the decoded graph.
-use Prim.Native.Nat.{ℕ, zero, suc, _+_, _-_, _*_, _<_, _≤_, min}
+use Prim.Native.Nat.{ℕ, suc, _+_, _-_, _<_, _≤_, min}
 use mathlib.Core.Path.{_≡_, refl, ap, _∙_, sym}
 use mathlib.Core.Logic.{_≢_}
 use mathlib.Core.Bool.{Bool, true, false, _&&_, _||_, not}
-use mathlib.Core.List.{List, [], _∷_, _++_}
+use mathlib.Core.List.{List, [], _∷_, _++_, append-nil}
 use native.Mathlib.Omega.{arith}
 use native.Mathlib.Nat.{zero-add}
 use native.Mathlib.Numerals.{add-one}
-use borrow.Author.Tests.{eq-eqb, ne-eqb, eqb-true, eqb-false}
+use borrow.Author.Tests.{eq-eqb, ne-eqb}
 use lib.Dec.{eqb}
 use lib.Seq.{drop-cons, set-at, getD-take, append-snoc}
-use lib.ListN.{length, getD, drop, take, set, length-take, length-append, length-drop}
+use lib.ListN.{length, getD, drop, drop-of-length-le, take, set, length-take}
 use Rattle.rows.specs.Walk.{Item, noItem}
-use Rattle.graph_format.specs.Format.{moduleRules}
-use Rattle.graph_tables.specs.Tables.{headerIn, modulesIn, ModuleTable}
-use Rattle.graph_tables.proofs.Facts.{its-read}
-use Rattle.graph.specs.Check.{Graph, graphIn}
-use Rattle.graph_access.specs.Names.{kind, effects, flags, wrap, scanEffects, scanStatementCount, records, recordTarget, recordKind, recordBits, statementBits}
-use Rattle.facts.specs.Words.{flag, tabulate, some, moduleOf, statementList, normal}
-use Rattle.facts.specs.Loaded.{Loaded}
-use Rattle.facts.proofs.Indexes.{record-target-below}
-use Rattle.determine_side_effects.specs.Effects.{effectful, seeds, reaches, moves, moved, pass, passes, settle, rescanned, recomputed, relaxed, firstVerdict, firstVerdicts, lastVerdicts}
+use Rattle.graph.specs.Check.{Graph}
+use Rattle.graph_access.specs.Names.{effects, flags, wrap, scanEffects, scanStatementCount, importRecords, importRecordTarget, importRecordKind, importRecordBits, statementBits}
+use Rattle.graph_access.specs.Words.{flag, tabulate, some, moduleOf, statementList, normal}
+use Rattle.determine_side_effects.specs.Effects.{effectful, seeds, reaches, moves, moved, pass, passes, rescanned, recomputed, relaxed, firstVerdict}
 use Rattle.determine_side_effects.proofs.Lists.{some-stop, some-go, some-end, length-tabulate, tabulate-snoc}
-use Rattle.determine_side_effects.proofs.Settled.{Targets, moved-true, moved-false, pass-none, settle-local}
+use Rattle.determine_side_effects.proofs.Settled.{moved-true, moved-false, pass-none}
 
 -- a verdict
 pub effectful-1 : (v : ℕ) → v ≡ 1 → true ≡ effectful v
@@ -37,93 +32,74 @@ pub effectful-4 : (v : ℕ) → v ≢ 1 → v ≢ 3 → eqb v 4 ≡ effectful v
 unfolding effectful
 effectful-4 v n k = rw (ne-eqb v 1 n, ne-eqb v 3 k)
 
-module _ {numbers modules symbols firsts statements : List ℕ} (o : Loaded numbers modules symbols firsts statements) where
-  pub targets : Targets (graphIn numbers)
-  unfolding graphIn
-  targets m k h l = record-target-below o m k h l
-
-  -- the module that a resolved record leads to
-  pub target-inside : (m k t : ℕ) → m < headerIn numbers .modules → k < length (records (moduleOf (graphIn numbers) m))
-      → t ≡ recordTarget (getD (records (moduleOf (graphIn numbers) m)) k []) → t ≢ 0 → t - 1 < headerIn numbers .modules
-  target-inside m k t h l e n = omega (arith, e, n, record-target-below o m k h l)
-
-  -- a module's verdicts are small numbers
-  pub verdict-small : (m : ℕ) → m < headerIn numbers .modules → getD (getD (modulesIn numbers) m noItem .head) 1 0 < 5
-  unfolding moduleRules
-  verdict-small m h = its-read numbers modules (o .of-modules) m h .read .head .good 1 (omega arith) .1
-
-  pub scan-small : (m : ℕ) → m < headerIn numbers .modules → getD (getD (modulesIn numbers) m noItem .head) 10 0 < 5
-  unfolding moduleRules
-  scan-small m h = its-read numbers modules (o .of-modules) m h .read .head .good 10 (omega arith) .1
-
 -- a record
 module _ (g : Graph) (row : List ℕ) where
-  pub seeds-none : recordTarget row ≡ 0 → false ≡ seeds g row
+  pub seeds-none : importRecordTarget row ≡ 0 → false ≡ seeds g row
   unfolding seeds
-  seeds-none z = rw (eq-eqb (recordTarget row) 0 z, seeds)
+  seeds-none z = rw (eq-eqb (importRecordTarget row) 0 z, seeds)
 
-  pub seeds-by : (t : ℕ) → t ≡ recordTarget row → t ≢ 0 → {a b c d e : Bool} → eqb (recordKind row) 0 ≡ a → flag 0 (recordBits row) ≡ b → eqb (kind (moduleOf g (t - 1))) 1 ≡ c
+  pub seeds-by : (t : ℕ) → t ≡ importRecordTarget row → t ≢ 0 → {a b c d e : Bool} → eqb (importRecordKind row) 0 ≡ a → flag 0 (importRecordBits row) ≡ b → normal g (t - 1) ≡ c
       → eqb (wrap (moduleOf g (t - 1))) 0 ≡ d → flag 3 (flags (moduleOf g (t - 1))) ≡ e → (a && (b && (c && (not d || e)))) ≡ seeds g row
-  unfolding seeds normal
+  unfolding seeds
   seeds-by t i n p q r s u =
-      let z : eqb (recordTarget row) 0 ≡ false = ne-eqb (recordTarget row) 0 (omega (arith, i, n)) in
+      let z : eqb (importRecordTarget row) 0 ≡ false = ne-eqb (importRecordTarget row) 0 (omega (arith, i, n)) in
       rw (z, seeds, ← i, p, q, r, s, u)
 
 -- the same, test by test
-module _ (g : Graph) (row : List ℕ) (t : ℕ) (is : t ≡ recordTarget row) (resolved : t ≢ 0) (k : ℕ) (of-kind : k ≡ recordKind row) where
+module _ (g : Graph) (row : List ℕ) (t : ℕ) (is : t ≡ importRecordTarget row) (resolved : t ≢ 0) (k : ℕ) (of-kind : k ≡ importRecordKind row) where
   pub seeds-other : k ≢ 0 → false ≡ seeds g row
-  seeds-other n = seeds-by g row t is resolved (ne-eqb (recordKind row) 0 (omega (arith, of-kind, n))) refl refl refl refl
+  seeds-other n = seeds-by g row t is resolved (ne-eqb (importRecordKind row) 0 (omega (arith, of-kind, n))) refl refl refl refl
 
-  module _ (import : k ≡ 0) {b : Bool} (bits : ℕ) (of-bits : bits ≡ recordBits row) (of-b : b ≡ flag 0 bits) where
-    star : eqb (recordKind row) 0 ≡ true
-    star = eq-eqb (recordKind row) 0 (sym of-kind ∙ import)
+  module _ (import : k ≡ 0) {b : Bool} (bits : ℕ) (of-bits : bits ≡ importRecordBits row) (of-b : b ≡ flag 0 bits) where
+    star : eqb (importRecordKind row) 0 ≡ true
+    star = eq-eqb (importRecordKind row) 0 (sym of-kind ∙ import)
 
-    first : flag 0 (recordBits row) ≡ b
+    first : flag 0 (importRecordBits row) ≡ b
     first = ap (λ x. flag 0 x) (sym of-bits) ∙ sym of-b
 
     pub seeds-unstarred : b ≡ false → false ≡ seeds g row
     seeds-unstarred n = seeds-by g row t is resolved star (first ∙ n) refl refl refl
 
-    module _ (starred : b ≡ true) (x : ℕ) (of-x : x ≡ kind (moduleOf g (t - 1))) where
-      pub seeds-external : x ≢ 1 → false ≡ seeds g row
-      seeds-external n = seeds-by g row t is resolved star (first ∙ starred) (ne-eqb (kind (moduleOf g (t - 1))) 1 (omega (arith, of-x, n))) refl refl
+    module _ (starred : b ≡ true) {y : Bool} (of-y : y ≡ normal g (t - 1)) where
+      pub seeds-external : y ≡ false → false ≡ seeds g row
+      seeds-external n = seeds-by g row t is resolved star (first ∙ starred) (sym of-y ∙ n) refl refl
 
-      module _ (one : x ≡ 1) (w : ℕ) (of-w : w ≡ wrap (moduleOf g (t - 1))) where
+      module _ (one : y ≡ true) (w : ℕ) (of-w : w ≡ wrap (moduleOf g (t - 1))) where
         pub seeds-wrapped : w ≢ 0 → true ≡ seeds g row
-        seeds-wrapped n = seeds-by g row t is resolved star (first ∙ starred) (eq-eqb (kind (moduleOf g (t - 1))) 1 (sym of-x ∙ one)) (ne-eqb (wrap (moduleOf g (t - 1))) 0 (omega (arith, of-w, n))) refl
+        seeds-wrapped n = seeds-by g row t is resolved star (first ∙ starred) (sym of-y ∙ one) (ne-eqb (wrap (moduleOf g (t - 1))) 0 (omega (arith, of-w, n))) refl
 
         pub seeds-dynamic : w ≡ 0 → (f : ℕ) → f ≡ flags (moduleOf g (t - 1)) → {e : Bool} → e ≡ flag 3 f → e ≡ seeds g row
         seeds-dynamic z f of-f of-e =
             of-e
             ∙ ap (λ y. flag 3 y) of-f
-            ∙ seeds-by g row t is resolved star (first ∙ starred) (eq-eqb (kind (moduleOf g (t - 1))) 1 (sym of-x ∙ one)) (eq-eqb (wrap (moduleOf g (t - 1))) 0 (sym of-w ∙ z)) refl
+            ∙ seeds-by g row t is resolved star (first ∙ starred) (sym of-y ∙ one) (eq-eqb (wrap (moduleOf g (t - 1))) 0 (sym of-w ∙ z)) refl
 
-pub reaches-none : (v row : List ℕ) → recordTarget row ≡ 0 → false ≡ reaches v row
+pub reaches-none : (v row : List ℕ) → importRecordTarget row ≡ 0 → false ≡ reaches v row
 unfolding reaches
-reaches-none v row z = rw (eq-eqb (recordTarget row) 0 z, reaches)
+reaches-none v row z = rw (eq-eqb (importRecordTarget row) 0 z, reaches)
 
-pub reaches-by : (v row : List ℕ) (t : ℕ) → t ≡ recordTarget row → t ≢ 0 → {b : Bool} → b ≡ effectful (getD v (t - 1) 0) → b ≡ reaches v row
+pub reaches-by : (v row : List ℕ) (t : ℕ) → t ≡ importRecordTarget row → t ≢ 0 → {b : Bool} → b ≡ effectful (getD v (t - 1) 0) → b ≡ reaches v row
 unfolding reaches
 reaches-by v row t i n e =
-    let z : eqb (recordTarget row) 0 ≡ false = ne-eqb (recordTarget row) 0 (omega (arith, i, n)) in
+    let z : eqb (importRecordTarget row) 0 ≡ false = ne-eqb (importRecordTarget row) 0 (omega (arith, i, n)) in
     rw (z, reaches, ← i) e
 
 -- whether a module moves
 module _ (g : Graph) (v : List ℕ) (m : ℕ) where
-  pub moves-external : kind (moduleOf g m) ≢ 1 → false ≡ moves g v m
-  unfolding moves normal
-  moves-external n = rw (ne-eqb (kind (moduleOf g m)) 1 n)
+  pub moves-external : normal g m ≡ false → false ≡ moves g v m
+  unfolding moves
+  moves-external n = rw n
 
-  module _ (is-normal : kind (moduleOf g m) ≡ 1) where
+  module _ (is-normal : normal g m ≡ true) where
     pub moves-other : getD v m 0 ≢ 0 → false ≡ moves g v m
-    unfolding moves normal
-    moves-other n = rw (eq-eqb (kind (moduleOf g m)) 1 is-normal, ne-eqb (getD v m 0) 0 n)
+    unfolding moves
+    moves-other n = rw (is-normal, ne-eqb (getD v m 0) 0 n)
 
-    pub moves-some : getD v m 0 ≡ 0 → some (λ row. seeds g row || reaches v row) (records (moduleOf g m)) ≡ moves g v m
-    unfolding moves normal
-    moves-some z = rw (eq-eqb (kind (moduleOf g m)) 1 is-normal, eq-eqb (getD v m 0) 0 z)
+    pub moves-some : getD v m 0 ≡ 0 → some (λ row. seeds g row || reaches v row) (importRecords (moduleOf g m)) ≡ moves g v m
+    unfolding moves
+    moves-some z = rw (is-normal, eq-eqb (getD v m 0) 0 z)
 
--- a walk over a module's records, from record k on
+-- a walk over a module's import records, from record k on
 module _ (g : Graph) (v : List ℕ) (rows : List (List ℕ)) (k : ℕ) (inside : k < length rows) {whole : Bool} (left : some (λ row. seeds g row || reaches v row) (drop k rows) ≡ whole) where
   pub rows-seeded : {b : Bool} → b ≡ seeds g (getD rows k []) → b ≡ true → true ≡ whole
   rows-seeded e t = sym (some-stop (λ row. seeds g row || reaches v row) [] rows k inside (ap (λ x. x || reaches v (getD rows k [])) (sym e ∙ t))) ∙ left
@@ -173,23 +149,23 @@ module _ (g : Graph) (m i : ℕ) (left : some (λ x. flag 1 (statementBits x)) (
 
 -- a module's verdict before the settling
 module _ (g : Graph) (m : ℕ) where
-  pub recomputed-external : kind (moduleOf g m) ≢ 1 → effects (moduleOf g m) ≡ recomputed g m
-  unfolding recomputed normal
-  recomputed-external n = rw (ne-eqb (kind (moduleOf g m)) 1 n, recomputed)
+  pub recomputed-external : normal g m ≡ false → effects (moduleOf g m) ≡ recomputed g m
+  unfolding recomputed
+  recomputed-external n = rw (n, recomputed)
 
-  module _ (is-normal : kind (moduleOf g m) ≡ 1) where
+  module _ (is-normal : normal g m ≡ true) where
     pub recomputed-other : scanEffects (moduleOf g m) ≢ 1 → scanEffects (moduleOf g m) ≡ recomputed g m
-    unfolding recomputed normal
-    recomputed-other n = rw (eq-eqb (kind (moduleOf g m)) 1 is-normal, recomputed, ne-eqb (scanEffects (moduleOf g m)) 1 n, recomputed)
+    unfolding recomputed
+    recomputed-other n = rw (is-normal, recomputed, ne-eqb (scanEffects (moduleOf g m)) 1 n, recomputed)
 
     module _ (one : scanEffects (moduleOf g m) ≡ 1) where
       pub recomputed-relaxed : flag 5 (flags (moduleOf g m)) ≡ true → rescanned g m ≡ recomputed g m
-      unfolding recomputed normal
-      recomputed-relaxed t = rw (eq-eqb (kind (moduleOf g m)) 1 is-normal, recomputed, eq-eqb (scanEffects (moduleOf g m)) 1 one, t, recomputed)
+      unfolding recomputed
+      recomputed-relaxed t = rw (is-normal, recomputed, eq-eqb (scanEffects (moduleOf g m)) 1 one, t, recomputed)
 
       pub recomputed-one : flag 5 (flags (moduleOf g m)) ≡ false → 1 ≡ recomputed g m
-      unfolding recomputed normal
-      recomputed-one t = rw (eq-eqb (kind (moduleOf g m)) 1 is-normal, recomputed, eq-eqb (scanEffects (moduleOf g m)) 1 one, t, recomputed) (sym one)
+      unfolding recomputed
+      recomputed-one t = rw (is-normal, recomputed, eq-eqb (scanEffects (moduleOf g m)) 1 one, t, recomputed) (sym one)
 
   pub first-again : {b : Bool} → b ≡ relaxed g → b ≡ true → recomputed g m ≡ firstVerdict g m
   unfolding firstVerdict
@@ -212,6 +188,9 @@ fill-step f v₀ v m x e l i =
     ∙ ap (λ y. tabulate f 0 m ++ (y ∷ []) ++ drop (suc m) v₀) (i ∙ ap f (sym (zero-add m)))
     ∙ ap (λ w. w ++ drop (suc m) v₀) (sym (tabulate-snoc f 0 m))
     ∙ ap (λ k. tabulate f 0 k ++ drop k v₀) (sym (add-one m))
+
+pub fill-done : (f : ℕ → ℕ) (v₀ v : List ℕ) (m : ℕ) → v ≡ tabulate f 0 m ++ drop m v₀ → length v₀ ≤ m → v ≡ tabulate f 0 m
+fill-done f v₀ v m e l = e ∙ ap (λ w. tabulate f 0 m ++ w) (drop-of-length-le v₀ l) ∙ append-nil (tabulate f 0 m)
 
 -- passes
 module _ (g : Graph) (v : List ℕ) (k : ℕ) (more : 0 < k) where
@@ -244,7 +223,3 @@ pass-done g v w k l e = let z : k ≡ 0 = omega arith in rw z at e
 pub passes-done : (g : Graph) (v w : List ℕ) (k : ℕ) → k ≤ 0 → passes g k v ≡ w → v ≡ w
 unfolding passes
 passes-done g v w k l e = let z : k ≡ 0 = omega arith in rw z at e
-
-pub last-is : (g : Graph) → Targets g → (v w rest : List ℕ) → v ≡ firstVerdicts g ++ rest → w ≡ settle g v → w ≡ lastVerdicts g ++ rest
-unfolding lastVerdicts firstVerdicts
-last-is g t v w rest e s = s ∙ ap (λ x. settle g x) e ∙ settle-local g t rest (firstVerdicts g) (omega (arith, length-tabulate (firstVerdict g) 0 (g .header .modules)))

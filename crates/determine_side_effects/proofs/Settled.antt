@@ -1,24 +1,18 @@
--- Passes over the modules: they keep the row's length, what stands behind it does not matter, and after as many as there are modules
--- nothing moves.
-use Prim.Native.Nat.{ℕ, zero, suc, _+_, _-_, _<_, _≤_}
+-- Passes over the modules: they keep the row's length, and after as many as there are modules nothing moves.
+use Prim.Native.Nat.{ℕ, zero, suc, _<_, _≤_}
 use mathlib.Core.Path.{_≡_, refl, ap, _∙_, sym}
-use mathlib.Core.Logic.{_⊎_, inl, inr}
-use mathlib.Core.Bool.{Bool, true, false, _&&_, _||_, false≢true}
-use mathlib.Core.List.{List, [], _∷_, _++_}
+use mathlib.Core.Bool.{Bool, true, false, _&&_, _||_}
+use mathlib.Core.List.{List, []}
 use native.Mathlib.Omega.{arith}
 use borrow.Author.Tests.{eqb-true, eqb-false, ltb-true, ltb-false, eq-eqb}
 use lib.Dec.{eqb, ltb}
-use lib.Seq.{set-out, getD-set-same, set-append-left}
-use lib.ListN.{length, getD, set, length-set, List·getD-append}
+use lib.Seq.{set-out, getD-set-same}
+use lib.ListN.{length, getD, set, length-set}
 use Rattle.graph.specs.Check.{Graph}
-use Rattle.graph_access.specs.Names.{records, recordTarget}
-use Rattle.facts.specs.Words.{some, moduleOf, normal}
-use Rattle.determine_side_effects.specs.Effects.{effectful, seeds, reaches, moves, moved, pass, passes, settle}
-use Rattle.determine_side_effects.proofs.Lists.{both, some-found, some-holds, some-same, zeros, zeros-length, zeros-set}
-
--- every record's target, if it has one, is a module
-abbrev pub Targets : Graph → Type 0
-Targets g = (m k : ℕ) → m < g .header .modules → k < length (records (moduleOf g m)) → recordTarget (getD (records (moduleOf g m)) k []) ≤ g .header .modules
+use Rattle.graph_access.specs.Names.{importRecords}
+use Rattle.graph_access.specs.Words.{some, moduleOf, normal}
+use Rattle.determine_side_effects.specs.Effects.{seeds, reaches, moves, moved, pass, passes, settle}
+use Rattle.determine_side_effects.proofs.Lists.{both, some-found, some-holds, zeros, zeros-length, zeros-set}
 
 -- a row is as it was, or has fewer zeros
 pub data Fell (v w : List ℕ) : Type 0 where
@@ -40,21 +34,21 @@ pub record Moving (g : Graph) (v : List ℕ) (m : ℕ) : Type 0 where
   pub is-normal : normal g m ≡ true
   pub without : getD v m 0 ≡ 0
   pub by : ℕ
-  pub listed : by < length (records (moduleOf g m))
-  pub why : (seeds g (getD (records (moduleOf g m)) by []) || reaches v (getD (records (moduleOf g m)) by [])) ≡ true
+  pub listed : by < length (importRecords (moduleOf g m))
+  pub why : (seeds g (getD (importRecords (moduleOf g m)) by []) || reaches v (getD (importRecords (moduleOf g m)) by [])) ≡ true
 
 module _ (g : Graph) where
   pub moving : (v : List ℕ) (m : ℕ) → moves g v m ≡ true → Moving g v m
   unfolding moves
   moving v m e =
-      let a = both (normal g m) (eqb (getD v m 0) 0 && some (λ row. seeds g row || reaches v row) (records (moduleOf g m))) e in
-      let b = both (eqb (getD v m 0) 0) (some (λ row. seeds g row || reaches v row) (records (moduleOf g m))) (a .1) in
-      let r = some-found (λ row. seeds g row || reaches v row) [] (records (moduleOf g m)) (b .1) in
+      let a = both (normal g m) (eqb (getD v m 0) 0 && some (λ row. seeds g row || reaches v row) (importRecords (moduleOf g m))) e in
+      let b = both (eqb (getD v m 0) 0) (some (λ row. seeds g row || reaches v row) (importRecords (moduleOf g m))) (a .1) in
+      let r = some-found (λ row. seeds g row || reaches v row) [] (importRecords (moduleOf g m)) (b .1) in
       record { is-normal = a .0; without = eqb-true _ _ (b .0); by = r .0; listed = r .1; why = r .2 }
 
   pub moving-moves : (v : List ℕ) (m : ℕ) → Moving g v m → moves g v m ≡ true
   unfolding moves
-  moving-moves v m w = rw (w .is-normal, eq-eqb (getD v m 0) 0 (w .without)) (some-holds (λ row. seeds g row || reaches v row) [] (records (moduleOf g m)) (w .by) (w .listed) (w .why))
+  moving-moves v m w = rw (w .is-normal, eq-eqb (getD v m 0) 0 (w .without)) (some-holds (λ row. seeds g row || reaches v row) [] (importRecords (moduleOf g m)) (w .by) (w .listed) (w .why))
 
   -- one module
   pub moved-true : (v : List ℕ) (m : ℕ) → moves g v m ≡ true → moved g v m ≡ set v m 1
@@ -143,45 +137,3 @@ module _ (g : Graph) where
   pub settled-still : (v : List ℕ) → length v ≤ g .header .modules → pass g (g .header .modules) (settle g v) ≡ settle g v
   unfolding settle
   settled-still v l = passes-still (g .header .modules) v (omega (arith, zeros-length v))
-
-  -- what stands behind the modules' verdicts does not matter
-  module _ (targets : Targets g) (w : List ℕ) where
-    reaches-local : (v : List ℕ) (row : List ℕ) → recordTarget row ≤ length v → reaches (v ++ w) row ≡ reaches v row
-    unfolding reaches
-    reaches-local v row l = go (eqb (recordTarget row) 0) refl
-      where
-        go : (b : Bool) → eqb (recordTarget row) 0 ≡ b → reaches (v ++ w) row ≡ reaches v row
-        go true e = rw (e, reaches)
-        go false e =
-            let i : recordTarget row - 1 < length v = omega (arith, eqb-false (recordTarget row) 0 e) in
-            rw (e, reaches) (ap effectful (List·getD-append v w 0 (recordTarget row - 1) i))
-
-    moves-local : (v : List ℕ) (m : ℕ) → g .header .modules ≤ length v → m < g .header .modules → moves g (v ++ w) m ≡ moves g v m
-    unfolding moves
-    moves-local v m l h =
-        let s = some-same (λ row. seeds g row || reaches (v ++ w) row) (λ row. seeds g row || reaches v row) [] (records (moduleOf g m)) (λ k i. ap (λ b. seeds g (getD (records (moduleOf g m)) k []) || b) (reaches-local v (getD (records (moduleOf g m)) k []) (omega (arith, targets m k h i)))) in
-        let z : getD (v ++ w) m 0 ≡ getD v m 0 = List·getD-append v w 0 m (omega arith) in
-        rw (z, s)
-
-    moved-local : (v : List ℕ) (m : ℕ) → g .header .modules ≤ length v → m < g .header .modules → moved g (v ++ w) m ≡ moved g v m ++ w
-    moved-local v m l h = go (moves g v m) refl
-      where
-        go : (b : Bool) → moves g v m ≡ b → moved g (v ++ w) m ≡ moved g v m ++ w
-        go true e = moved-true (v ++ w) m (moves-local v m l h ∙ e) ∙ set-append-left v w m 1 (omega arith) ∙ ap (λ x. x ++ w) (sym (moved-true v m e))
-        go false e = moved-false (v ++ w) m (moves-local v m l h ∙ e) ∙ ap (λ x. x ++ w) (sym (moved-false v m e))
-
-    pub pass-local : (k : ℕ) (v : List ℕ) → g .header .modules ≤ length v → k ≤ g .header .modules → pass g k (v ++ w) ≡ pass g k v ++ w
-    unfolding pass
-    pass-local zero v l h = refl
-    pass-local (suc k) v l h = ap (λ x. pass g k x) (moved-local v k l (omega arith)) ∙ pass-local k (moved g v k) (omega (arith, moved-length v k)) (omega arith)
-
-    passes-local : (n : ℕ) (v : List ℕ) → g .header .modules ≤ length v → passes g n (v ++ w) ≡ passes g n v ++ w
-    unfolding passes
-    passes-local zero v l = refl
-    passes-local (suc n) v l =
-        ap (λ x. passes g n x) (pass-local (g .header .modules) v l (omega arith))
-        ∙ passes-local n (pass g (g .header .modules) v) (omega (arith, pass-length (g .header .modules) v))
-
-    pub settle-local : (v : List ℕ) → g .header .modules ≤ length v → settle g (v ++ w) ≡ settle g v ++ w
-    unfolding settle
-    settle-local v l = passes-local (g .header .modules) v l

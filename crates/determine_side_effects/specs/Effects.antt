@@ -1,5 +1,5 @@
 -- The modules' verdicts on side effects, as 002 (determine_side_effects.rs) settles them.
-use Prim.Native.Nat.{ℕ, zero, suc, _+_, _-_, _<_, _≤_}
+use Prim.Native.Nat.{ℕ, zero, suc, _+_, _-_}
 use mathlib.Core.Path.{_≡_}
 use mathlib.Core.Bool.{Bool, true, false, _&&_, _||_, not}
 use mathlib.Core.List.{List, [], _∷_}
@@ -7,29 +7,29 @@ use lib.Dec.{eqb}
 use lib.ListN.{length, getD, take, set}
 use Rattle.rows.specs.Walk.{Item}
 use Rattle.graph.specs.Check.{Graph}
-use Rattle.graph_access.specs.Names.{kind, effects, flags, wrap, scanEffects, scanStatementCount, records, recordTarget, recordKind, recordBits, statementBits}
-use Rattle.facts.specs.Words.{flag, tabulate, some, moduleOf, statementList, normal}
+use Rattle.graph_access.specs.Names.{kind, effects, flags, wrap, scanEffects, scanStatementCount, importRecords, importRecordTarget, importRecordKind, importRecordBits, statementBits}
+use Rattle.graph_access.specs.Words.{flag, tabulate, some, moduleOf, statementList, normal}
 
 -- verdicts 1 Analyzed(true), 3 UserDefined(true) and 4 NoTreeshake are effects
 unfoldable pub effectful : ℕ → Bool
 effectful v = eqb v 1 || (eqb v 3 || eqb v 4)
 
--- a record that re-exports all of a normal module that is wrapped or has dynamic exports (002:42-51)
+-- an import record that re-exports all of a normal module that is wrapped or has dynamic exports (002:42-51)
 unfoldable pub seeds : Graph → List ℕ → Bool
 seeds g row =
-    elim (eqb (recordTarget row) 0) [
+    elim (eqb (importRecordTarget row) 0) [
       | true ↦ false
-      | false ↦ eqb (recordKind row) 0 && (flag 0 (recordBits row) && (normal g (recordTarget row - 1)
-          && (not (eqb (wrap (moduleOf g (recordTarget row - 1))) 0) || flag 3 (flags (moduleOf g (recordTarget row - 1))))))
+      | false ↦ eqb (importRecordKind row) 0 && (flag 0 (importRecordBits row) && (normal g (importRecordTarget row - 1)
+          && (not (eqb (wrap (moduleOf g (importRecordTarget row - 1))) 0) || flag 3 (flags (moduleOf g (importRecordTarget row - 1))))))
     ]
 
--- a record that is resolved to a module with effects
+-- an import record that is resolved to a module with effects
 unfoldable pub reaches : List ℕ → List ℕ → Bool
-reaches v row = elim (eqb (recordTarget row) 0) [ true ↦ false | false ↦ effectful (getD v (recordTarget row - 1) 0) ]
+reaches v row = elim (eqb (importRecordTarget row) 0) [ true ↦ false | false ↦ effectful (getD v (importRecordTarget row - 1) 0) ]
 
--- module m is normal and Analyzed(false), and one of its records seeds it or reaches effects
+-- module m is normal and Analyzed(false), and one of its import records seeds it or reaches effects
 unfoldable pub moves : Graph → List ℕ → ℕ → Bool
-moves g v m = normal g m && (eqb (getD v m 0) 0 && some (λ row. seeds g row || reaches v row) (records (moduleOf g m)))
+moves g v m = normal g m && (eqb (getD v m 0) 0 && some (λ row. seeds g row || reaches v row) (importRecords (moduleOf g m)))
 
 -- module m once: it becomes Analyzed(true) where it moves
 unfoldable pub moved : Graph → List ℕ → ℕ → List ℕ
@@ -81,8 +81,3 @@ lastVerdicts g = settle g (firstVerdicts g)
 -- module m has effects by these verdicts
 unfoldable pub hasEffects : List ℕ → ℕ → Bool
 hasEffects v m = effectful (getD v m 0)
-
--- a table that begins with the last verdicts
-pub record VerdictTable (g : Graph) (table : List ℕ) : Type 0 where
-  pub long : g .header .modules ≤ length table
-  pub has : (m : ℕ) → m < g .header .modules → getD table m 0 ≡ getD (lastVerdicts g) m 0

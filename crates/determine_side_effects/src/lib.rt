@@ -4,40 +4,36 @@ ghost use Prim.Native.Nat.{ℕ, _+_, _-_, _<_, _≤_};
 ghost use mathlib.Core.List.{List, [], _∷_, _++_};
 ghost use mathlib.Core.Bool.{Bool, true, false};
 ghost use lib.ListN.{length, getD, drop};
-ghost use Rattle.rows.specs.Walk.{noItem};
+ghost use Rattle.tables.specs.Layout.{startOf, Laid, Kept, verdictsIn, FitsSize};
+ghost use Rattle.tables.specs.declared.Size.the-variants.{Small, Middle, Large};
 ghost use Rattle.graph_tables.specs.Tables.{headerIn};
-ghost use Rattle.graph.specs.Check.{graphIn, checkOf, answerOf, OnceAccepted, Room, HeaderRead};
-ghost use Rattle.graph_access.specs.Names.{records};
-ghost use Rattle.facts.specs.Words.{moduleOf, statementList};
-ghost use Rattle.facts.specs.Loaded.{Loaded};
+ghost use Rattle.graph.specs.Check.{graphIn, checkOf, answerOf, OnceAccepted, HeaderRead};
+ghost use Rattle.graph.specs.Loaded.{Loaded};
+ghost use Rattle.graph_access.specs.Names.{importRecords};
+ghost use Rattle.graph_access.specs.Words.{moduleOf, statementList};
 ghost use Rattle.determine_side_effects.specs.Effects.{effectful as effectfulOf, seeds as seedsOf, reaches as reachesOf, moves as movesOf, pass as passOf, settle as settleOf, relaxed as relaxedOf, rescanned as rescannedOf, recomputed as recomputedOf, firstVerdict, firstVerdicts, lastVerdicts, hasEffects};
 ghost use Rattle.determine_side_effects.specs.Operation.{effectsAnswer, effectsRow};
-use facts::ModuleIdx;
+ghost use Rattle.determine_side_effects.specs.Tabled.{HasVerdicts, Settled};
 use graph::Checked;
+use graph_access::modules;
+use graph_access::modules::DYNAMIC_EXPORTS;
+use graph_access::modules::IS_EXPORT_STAR;
+use graph_access::modules::RELAXED;
+use graph_access::statements;
+use graph_access::statements::UNKNOWN_SIDE_EFFECT;
 use graph_format::Header;
+use index::ImportRecordIdx;
+use index::ModuleIdx;
+use index::StmtIdx;
 use rows::Walk;
-
-// A module's leading numbers, and a record's.
-const KIND: usize = 0;
-
-const EFFECTS: usize = 1;
-
-const FLAGS: usize = 4;
-
-const WRAP: usize = 5;
-
-const SCAN_EFFECTS: usize = 10;
-
-const SCAN_STATEMENTS: usize = 11;
-
-const TARGET: usize = 0;
-
-const RECORD_KIND: usize = 1;
-
-const RECORD_BITS: usize = 2;
+use tables::LARGE;
+use tables::MIDDLE;
+use tables::SMALL;
+use tables::Size;
+use tables::VERDICTS;
 
 // Whether a verdict is one of effects.
-pub fn effectful(v: u32) -> bool
+fn effectful(v: usize) -> bool
     ensures { λ r. ⌜ r ≡ effectfulOf v ⌝ }
 {
     if v == 1 {
@@ -49,112 +45,90 @@ pub fn effectful(v: u32) -> bool
     v == 4
 }
 
-// Whether module m has effects.
-pub fn has_effects(verdicts: &[u32], m: ModuleIdx) -> bool
-    requires { ⌜ m .0 < length (now verdicts) ⌝ }
-    ensures { λ r. ⌜ r ≡ hasEffects (now (verdicts .entry)) (m .0) ⌝ }
+// The last verdict of a module.
+pub fn verdict(numbers: &[u32], tables: &[usize], m: ModuleIdx) -> usize
+    requires { ⌜ Settled (now numbers) (now tables) ⌝ }
+    requires { ⌜ m .0 < headerIn (now numbers) .modules ⌝ }
+    ensures { λ r. ⌜ r ≡ getD (lastVerdicts (graphIn (now (numbers .entry)))) (m .0) 0 ⌝ }
 {
+    let verdicts = tables::section(tables, VERDICTS);
     let i = m.0;
-    effectful(verdicts[i])
+    verdicts[i]
 }
 
-// Whether record k of module m re-exports all of a module that is wrapped or has dynamic exports.
-fn seeds(
-    numbers: &[u32],
-    modules: &[usize],
-    symbols: &[usize],
-    firsts: &[usize],
-    statements: &[usize],
-    m: usize,
-    k: usize,
-) -> bool
-    requires { ⌜ Loaded (now numbers) (now modules) (now symbols) (now firsts) (now statements) ⌝ }
-    requires { ⌜ (m < headerIn (now numbers) .modules) × (k < length (records (moduleOf (graphIn (now numbers)) m))) ⌝ }
-    ensures { λ r. ⌜ r ≡ seedsOf (graphIn (now (numbers .entry))) (getD (records (moduleOf (graphIn (now (numbers .entry))) m)) k []) ⌝ }
+// Whether a module has effects.
+pub fn has_effects(numbers: &[u32], tables: &[usize], m: ModuleIdx) -> bool
+    requires { ⌜ Settled (now numbers) (now tables) ⌝ }
+    requires { ⌜ m .0 < headerIn (now numbers) .modules ⌝ }
+    ensures { λ r. ⌜ r ≡ hasEffects (lastVerdicts (graphIn (now (numbers .entry)))) (m .0) ⌝ }
 {
-    let target = graph_tables::record_number(numbers, modules, m, k, TARGET);
+    effectful(verdict(numbers, tables, m))
+}
+
+// Whether import record k of a module re-exports all of a module that is wrapped or has dynamic exports.
+fn seeds(numbers: &[u32], tables: &[usize], m: ModuleIdx, k: ImportRecordIdx) -> bool
+    requires { ⌜ Loaded (now numbers) (now tables) ⌝ }
+    requires { ⌜ (m .0 < headerIn (now numbers) .modules) × (k .0 < length (importRecords (moduleOf (graphIn (now numbers)) (m .0)))) ⌝ }
+    ensures { λ r. ⌜ r ≡ seedsOf (graphIn (now (numbers .entry))) (getD (importRecords (moduleOf (graphIn (now (numbers .entry))) (m .0))) (k .0) []) ⌝ }
+{
+    let target = modules::import_record_target(numbers, tables, m, k);
     if target == 0 {
         return false;
     }
-    if graph_tables::record_number(numbers, modules, m, k, RECORD_KIND) != 0 {
+    if modules::import_record_kind(numbers, tables, m, k) != 0 {
         return false;
     }
     if !facts::flag(
-        graph_tables::record_number(numbers, modules, m, k, RECORD_BITS),
-        0,
+        modules::import_record_bits(numbers, tables, m, k),
+        IS_EXPORT_STAR,
     ) {
         return false;
     }
-    if graph_tables::module_number(numbers, modules, target - 1, KIND) != 1 {
+    let t = ModuleIdx(target - 1);
+    if !modules::is_normal(numbers, tables, t) {
         return false;
     }
-    if graph_tables::module_number(numbers, modules, target - 1, WRAP) != 0 {
+    if modules::wrap(numbers, tables, t) != 0 {
         return true;
     }
-    facts::flag(
-        graph_tables::module_number(numbers, modules, target - 1, FLAGS),
-        3,
-    )
+    facts::flag(modules::flags(numbers, tables, t), DYNAMIC_EXPORTS)
 }
 
-// Whether record k of module m is resolved to a module with effects.
-fn reaches(
-    numbers: &[u32],
-    modules: &[usize],
-    symbols: &[usize],
-    firsts: &[usize],
-    statements: &[usize],
-    verdicts: &[u32],
-    m: usize,
-    k: usize,
-) -> bool
-    requires { ⌜ Loaded (now numbers) (now modules) (now symbols) (now firsts) (now statements) ⌝ }
-    requires { ⌜ (m < headerIn (now numbers) .modules) × (k < length (records (moduleOf (graphIn (now numbers)) m))) × (headerIn (now numbers) .modules ≤ length (now verdicts)) ⌝ }
-    ensures { λ r. ⌜ r ≡ reachesOf (now (verdicts .entry)) (getD (records (moduleOf (graphIn (now (numbers .entry))) m)) k []) ⌝ }
+// Whether import record k of a module is resolved to a module with effects, by the verdicts so far.
+fn reaches(numbers: &[u32], tables: &[usize], m: ModuleIdx, k: ImportRecordIdx) -> bool
+    requires { ⌜ HasVerdicts (now numbers) (now tables) ⌝ }
+    requires { ⌜ (m .0 < headerIn (now numbers) .modules) × (k .0 < length (importRecords (moduleOf (graphIn (now numbers)) (m .0)))) ⌝ }
+    ensures { λ r. ⌜ r ≡ reachesOf (verdictsIn (now (tables .entry))) (getD (importRecords (moduleOf (graphIn (now (numbers .entry))) (m .0))) (k .0) []) ⌝ }
 {
-    let target = graph_tables::record_number(numbers, modules, m, k, TARGET);
+    let target = modules::import_record_target(numbers, tables, m, k);
     if target == 0 {
         return false;
     }
+    let verdicts = tables::section(tables, VERDICTS);
     effectful(verdicts[target - 1])
 }
 
-// Whether module m moves: it is normal and Analyzed(false), and one of its records seeds it or reaches effects.
-fn moves(
-    numbers: &[u32],
-    modules: &[usize],
-    symbols: &[usize],
-    firsts: &[usize],
-    statements: &[usize],
-    verdicts: &[u32],
-    m: usize,
-) -> bool
-    requires { ⌜ Loaded (now numbers) (now modules) (now symbols) (now firsts) (now statements) ⌝ }
-    requires { ⌜ (m < headerIn (now numbers) .modules) × (headerIn (now numbers) .modules ≤ length (now verdicts)) ⌝ }
-    ensures { λ r. ⌜ r ≡ movesOf (graphIn (now (numbers .entry))) (now (verdicts .entry)) m ⌝ }
+// Whether a module moves: it is normal and Analyzed(false), and one of its import records seeds it or reaches effects.
+fn moves(numbers: &[u32], tables: &[usize], m: ModuleIdx) -> bool
+    requires { ⌜ HasVerdicts (now numbers) (now tables) ⌝ }
+    requires { ⌜ m .0 < headerIn (now numbers) .modules ⌝ }
+    ensures { λ r. ⌜ r ≡ movesOf (graphIn (now (numbers .entry))) (verdictsIn (now (tables .entry))) (m .0) ⌝ }
 {
-    if graph_tables::module_number(numbers, modules, m, KIND) != 1 {
+    if !modules::is_normal(numbers, tables, m) {
         return false;
     }
-    if verdicts[m] != 0 {
+    let verdicts = tables::section(tables, VERDICTS);
+    let i = m.0;
+    if verdicts[i] != 0 {
         return false;
     }
-    let count = graph_tables::record_count(numbers, modules, m);
+    let count = modules::import_record_count(numbers, tables, m);
     let mut k: usize = 0;
     while k < count {
-        if seeds(numbers, modules, symbols, firsts, statements, m, k) {
+        if seeds(numbers, tables, m, ImportRecordIdx(k)) {
             return true;
         }
-        if reaches(
-            numbers,
-            modules,
-            symbols,
-            firsts,
-            statements,
-            verdicts,
-            m,
-            k,
-        ) {
+        if reaches(numbers, tables, m, ImportRecordIdx(k)) {
             return true;
         }
         k += 1;
@@ -163,25 +137,18 @@ fn moves(
 }
 
 // Every module once, the last first. Whether one moved.
-fn pass(
-    numbers: &[u32],
-    modules: &[usize],
-    symbols: &[usize],
-    firsts: &[usize],
-    statements: &[usize],
-    verdicts: &mut [u32],
-) -> bool
-    requires { ⌜ Loaded (now numbers) (now modules) (now symbols) (now firsts) (now statements) ⌝ }
-    requires { ⌜ headerIn (now numbers) .modules ≤ length (now verdicts) ⌝ }
-    ensures { λ r. ⌜ (now (verdicts .exit) ≡ passOf (graphIn (now (numbers .entry))) (headerIn (now (numbers .entry)) .modules) (now (verdicts .entry))) × (r ≡ false → now (verdicts .exit) ≡ now (verdicts .entry)) ⌝ }
+fn pass(numbers: &[u32], tables: &mut [usize]) -> bool
+    requires { ⌜ HasVerdicts (now numbers) (now tables) ⌝ }
+    ensures { λ r. ⌜ (verdictsIn (now (tables .exit)) ≡ passOf (graphIn (now (numbers .entry))) ((headerIn (now (numbers .entry))) .modules) (verdictsIn (now (tables .entry)))) × (r ≡ false → verdictsIn (now (tables .exit)) ≡ verdictsIn (now (tables .entry))) × Kept (startOf (headerIn (now (numbers .entry))) 5) (now (tables .entry)) (now (tables .exit)) ⌝ }
 {
     let h = graph::header_of(numbers);
+    let base = tables[VERDICTS];
     let mut moved = false;
     let mut m = h.modules;
     while m > 0 {
         m -= 1;
-        if moves(numbers, modules, symbols, firsts, statements, verdicts, m) {
-            verdicts[m] = 1;
+        if moves(numbers, tables, ModuleIdx(m)) {
+            tables[base + m] = 1;
             moved = true;
         }
     }
@@ -189,43 +156,29 @@ fn pass(
 }
 
 // Passes until nothing moves.
-fn settle(
-    numbers: &[u32],
-    modules: &[usize],
-    symbols: &[usize],
-    firsts: &[usize],
-    statements: &[usize],
-    verdicts: &mut [u32],
-)
-    requires { ⌜ Loaded (now numbers) (now modules) (now symbols) (now firsts) (now statements) ⌝ }
-    requires { ⌜ headerIn (now numbers) .modules ≤ length (now verdicts) ⌝ }
-    ensures { λ _. ⌜ now (verdicts .exit) ≡ settleOf (graphIn (now (numbers .entry))) (now (verdicts .entry)) ⌝ }
+fn settle(numbers: &[u32], tables: &mut [usize])
+    requires { ⌜ HasVerdicts (now numbers) (now tables) ⌝ }
+    ensures { λ _. ⌜ (verdictsIn (now (tables .exit)) ≡ settleOf (graphIn (now (numbers .entry))) (verdictsIn (now (tables .entry)))) × Kept (startOf (headerIn (now (numbers .entry))) 5) (now (tables .entry)) (now (tables .exit)) ⌝ }
 {
     let h = graph::header_of(numbers);
     let mut left = h.modules;
     while left > 0 {
         left -= 1;
-        if !pass(numbers, modules, symbols, firsts, statements, verdicts) {
+        if !pass(numbers, tables) {
             return;
         }
     }
 }
 
 // Whether some module was relaxed.
-fn relaxed(
-    numbers: &[u32],
-    modules: &[usize],
-    symbols: &[usize],
-    firsts: &[usize],
-    statements: &[usize],
-) -> bool
-    requires { ⌜ Loaded (now numbers) (now modules) (now symbols) (now firsts) (now statements) ⌝ }
+fn relaxed(numbers: &[u32], tables: &[usize]) -> bool
+    requires { ⌜ Loaded (now numbers) (now tables) ⌝ }
     ensures { λ r. ⌜ r ≡ relaxedOf (graphIn (now (numbers .entry))) ⌝ }
 {
     let h = graph::header_of(numbers);
     let mut m: usize = 0;
     while m < h.modules {
-        if facts::flag(graph_tables::module_number(numbers, modules, m, FLAGS), 5) {
+        if facts::flag(modules::flags(numbers, tables, ModuleIdx(m)), RELAXED) {
             return true;
         }
         m += 1;
@@ -234,28 +187,21 @@ fn relaxed(
 }
 
 // The verdict of a relaxed module by its statements at scan time.
-fn rescanned(
-    numbers: &[u32],
-    modules: &[usize],
-    symbols: &[usize],
-    firsts: &[usize],
-    statements: &[usize],
-    m: usize,
-) -> u32
-    requires { ⌜ Loaded (now numbers) (now modules) (now symbols) (now firsts) (now statements) ⌝ }
-    requires { ⌜ m < headerIn (now numbers) .modules ⌝ }
-    ensures { λ r. ⌜ r ≡ rescannedOf (graphIn (now (numbers .entry))) m ⌝ }
+fn rescanned(numbers: &[u32], tables: &[usize], m: ModuleIdx) -> usize
+    requires { ⌜ Loaded (now numbers) (now tables) ⌝ }
+    requires { ⌜ m .0 < headerIn (now numbers) .modules ⌝ }
+    ensures { λ r. ⌜ r ≡ rescannedOf (graphIn (now (numbers .entry))) (m .0) ⌝ }
 {
-    let all = facts::statement_count(numbers, modules, symbols, firsts, statements, ModuleIdx(m));
-    let scanned = graph_tables::module_number(numbers, modules, m, SCAN_STATEMENTS);
+    let all = modules::statement_count(numbers, tables, m);
+    let scanned = modules::scan_statement_count(numbers, tables, m);
     let mut i: usize = 0;
     while i < all {
         if i >= scanned {
             return 0;
         }
         if facts::flag(
-            statement_access::statement_bits(numbers, modules, firsts, statements, m, i),
-            1,
+            statements::bits(numbers, tables, m, StmtIdx(i)),
+            UNKNOWN_SIDE_EFFECT,
         ) {
             return 1;
         }
@@ -265,233 +211,143 @@ fn rescanned(
 }
 
 // A module's verdict after the recomputation.
-fn recomputed(
-    numbers: &[u32],
-    modules: &[usize],
-    symbols: &[usize],
-    firsts: &[usize],
-    statements: &[usize],
-    m: usize,
-) -> u32
-    requires { ⌜ Loaded (now numbers) (now modules) (now symbols) (now firsts) (now statements) ⌝ }
-    requires { ⌜ m < headerIn (now numbers) .modules ⌝ }
-    ensures { λ r. ⌜ r ≡ recomputedOf (graphIn (now (numbers .entry))) m ⌝ }
+fn recomputed(numbers: &[u32], tables: &[usize], m: ModuleIdx) -> usize
+    requires { ⌜ Loaded (now numbers) (now tables) ⌝ }
+    requires { ⌜ m .0 < headerIn (now numbers) .modules ⌝ }
+    ensures { λ r. ⌜ r ≡ recomputedOf (graphIn (now (numbers .entry))) (m .0) ⌝ }
 {
-    if graph_tables::module_number(numbers, modules, m, KIND) != 1 {
-        return facts::narrow(graph_tables::module_number(numbers, modules, m, EFFECTS));
+    if !modules::is_normal(numbers, tables, m) {
+        return modules::effects(numbers, tables, m);
     }
-    let scan = graph_tables::module_number(numbers, modules, m, SCAN_EFFECTS);
+    let scan = modules::scan_effects(numbers, tables, m);
     if scan != 1 {
-        return facts::narrow(scan);
+        return scan;
     }
-    if facts::flag(graph_tables::module_number(numbers, modules, m, FLAGS), 5) {
-        return rescanned(numbers, modules, symbols, firsts, statements, m);
+    if facts::flag(modules::flags(numbers, tables, m), RELAXED) {
+        return rescanned(numbers, tables, m);
     }
     1
 }
 
 // A module's verdict before the settling: as it was given, or recomputed.
-fn first_verdict(
-    numbers: &[u32],
-    modules: &[usize],
-    symbols: &[usize],
-    firsts: &[usize],
-    statements: &[usize],
-    again: bool,
-    m: usize,
-) -> u32
-    requires { ⌜ Loaded (now numbers) (now modules) (now symbols) (now firsts) (now statements) ⌝ }
-    requires { ⌜ (again ≡ relaxedOf (graphIn (now numbers))) × (m < headerIn (now numbers) .modules) ⌝ }
-    ensures { λ r. ⌜ r ≡ firstVerdict (graphIn (now (numbers .entry))) m ⌝ }
+fn first_verdict(numbers: &[u32], tables: &[usize], again: bool, m: ModuleIdx) -> usize
+    requires { ⌜ Loaded (now numbers) (now tables) ⌝ }
+    requires { ⌜ (again ≡ relaxedOf (graphIn (now numbers))) × (m .0 < headerIn (now numbers) .modules) ⌝ }
+    ensures { λ r. ⌜ r ≡ firstVerdict (graphIn (now (numbers .entry))) (m .0) ⌝ }
 {
     if again {
-        return recomputed(numbers, modules, symbols, firsts, statements, m);
+        return recomputed(numbers, tables, m);
     }
-    facts::narrow(graph_tables::module_number(numbers, modules, m, EFFECTS))
+    modules::effects(numbers, tables, m)
 }
 
 // The verdicts before the settling: as they were given, or recomputed.
-fn first_verdicts(
-    numbers: &[u32],
-    modules: &[usize],
-    symbols: &[usize],
-    firsts: &[usize],
-    statements: &[usize],
-    verdicts: &mut [u32],
-)
-    requires { ⌜ Loaded (now numbers) (now modules) (now symbols) (now firsts) (now statements) ⌝ }
-    requires { ⌜ headerIn (now numbers) .modules ≤ length (now verdicts) ⌝ }
-    ensures { λ _. ⌜ now (verdicts .exit) ≡ firstVerdicts (graphIn (now (numbers .entry))) ++ drop (headerIn (now (numbers .entry)) .modules) (now (verdicts .entry)) ⌝ }
+fn first_verdicts(numbers: &[u32], tables: &mut [usize])
+    requires { ⌜ HasVerdicts (now numbers) (now tables) ⌝ }
+    ensures { λ _. ⌜ (verdictsIn (now (tables .exit)) ≡ firstVerdicts (graphIn (now (numbers .entry)))) × Kept (startOf (headerIn (now (numbers .entry))) 5) (now (tables .entry)) (now (tables .exit)) ⌝ }
 {
     let h = graph::header_of(numbers);
-    let again = relaxed(numbers, modules, symbols, firsts, statements);
+    let again = relaxed(numbers, tables);
+    let base = tables[VERDICTS];
     let mut m: usize = 0;
     while m < h.modules {
-        verdicts[m] = first_verdict(numbers, modules, symbols, firsts, statements, again, m);
+        tables[base + m] = first_verdict(numbers, tables, again, ModuleIdx(m));
         m += 1;
     }
 }
 
-// The last verdicts, in the first of the lent numbers.
-pub fn last_verdicts(
-    numbers: &[u32],
-    modules: &[usize],
-    symbols: &[usize],
-    firsts: &[usize],
-    statements: &[usize],
-    verdicts: &mut [u32],
-)
-    requires { ⌜ Loaded (now numbers) (now modules) (now symbols) (now firsts) (now statements) ⌝ }
-    requires { ⌜ headerIn (now numbers) .modules ≤ length (now verdicts) ⌝ }
-    ensures { λ _. ⌜ now (verdicts .exit) ≡ lastVerdicts (graphIn (now (numbers .entry))) ++ drop (headerIn (now (numbers .entry)) .modules) (now (verdicts .entry)) ⌝ }
+// The last verdicts, in their section.
+pub fn last_verdicts(numbers: &[u32], tables: &mut [usize])
+    requires { ⌜ HasVerdicts (now numbers) (now tables) ⌝ }
+    ensures { λ _. ⌜ (verdictsIn (now (tables .exit)) ≡ lastVerdicts (graphIn (now (numbers .entry)))) × Kept (startOf (headerIn (now (numbers .entry))) 5) (now (tables .entry)) (now (tables .exit)) ⌝ }
 {
-    first_verdicts(numbers, modules, symbols, firsts, statements, verdicts);
-    settle(numbers, modules, symbols, firsts, statements, verdicts);
+    first_verdicts(numbers, tables);
+    settle(numbers, tables);
 }
 
-// The answer for numbers that were checked, and the row where they were accepted.
-fn filled(
-    numbers: &[u32],
-    checked: Checked,
-    modules: &[usize],
-    symbols: &[usize],
-    firsts: &[usize],
-    statements: &[usize],
-    verdicts: &mut [u32],
-) -> Checked
-    requires { ⌜ (checked ≡ answerOf (checkOf (now numbers))) × OnceAccepted checked (Loaded (now numbers) (now modules) (now symbols) (now firsts) (now statements)) ⌝ }
-    ensures { λ r. ⌜ (r ≡ effectsAnswer (now (numbers .entry)) (length (now (verdicts .entry)))) × (now (verdicts .exit) ≡ effectsRow (now (numbers .entry)) (now (verdicts .entry))) ⌝ }
+// Writes the last verdicts into a row.
+fn write_row(numbers: &[u32], tables: &[usize], row: &mut [u32])
+    requires { ⌜ HasVerdicts (now numbers) (now tables) × (verdictsIn (now tables) ≡ lastVerdicts (graphIn (now numbers))) ⌝ }
+    requires { ⌜ headerIn (now numbers) .modules ≤ length (now row) ⌝ }
+    ensures { λ _. ⌜ now (row .exit) ≡ lastVerdicts (graphIn (now (numbers .entry))) ++ drop ((headerIn (now (numbers .entry))) .modules) (now (row .entry)) ⌝ }
 {
-    match checked {
+    let verdicts = tables::section(tables, VERDICTS);
+    let count = verdicts.len();
+    let mut m: usize = 0;
+    while m < count {
+        row[m] = facts::narrow(verdicts[m]);
+        m += 1;
+    }
+}
+
+// The operation with tables that hold a graph of the header's counts.
+fn effects_in(numbers: &[u32], h: Header, tables: &mut [usize], row: &mut [u32]) -> Checked
+    requires { ⌜ HeaderRead (now numbers) h ⌝ }
+    requires { ⌜ (startOf h 6 ≤ length (now tables)) × (length (now tables) < 4294967296) ⌝ }
+    ensures { λ r. ⌜ (r ≡ effectsAnswer (now (numbers .entry)) (length (now (row .entry)))) × (now (row .exit) ≡ effectsRow (now (numbers .entry)) (now (row .entry))) ⌝ }
+{
+    match graph::load(numbers, h, tables) {
         Checked::Refused(n, p) => Checked::Refused(n, p),
         Checked::Accepted => {
-            let h = graph::header_of(numbers);
-            if verdicts.len() < h.modules {
+            if row.len() < h.modules {
                 return Checked::Refused(5, 0);
             }
-            last_verdicts(numbers, modules, symbols, firsts, statements, verdicts);
+            last_verdicts(numbers, tables);
+            write_row(numbers, tables, row);
             Checked::Accepted
         }
     }
 }
 
 // The operation with tables for a small graph.
-fn effects_small(numbers: &[u32], h: Header, verdicts: &mut [u32]) -> Checked
-    requires { ⌜ HeaderRead (now numbers) h ⌝ }
-    requires { ⌜ Room h 16 64 16 64 16 ⌝ }
-    ensures { λ r. ⌜ (r ≡ effectsAnswer (now (numbers .entry)) (length (now (verdicts .entry)))) × (now (verdicts .exit) ≡ effectsRow (now (numbers .entry)) (now (verdicts .entry))) ⌝ }
+fn effects_small(numbers: &[u32], h: Header, row: &mut [u32]) -> Checked
+    requires { ⌜ HeaderRead (now numbers) h × FitsSize h Small ⌝ }
+    ensures { λ r. ⌜ (r ≡ effectsAnswer (now (numbers .entry)) (length (now (row .entry)))) × (now (row .exit) ≡ effectsRow (now (numbers .entry)) (now (row .entry))) ⌝ }
 {
-    let mut modules = [0usize; 16];
-    let mut symbols = [0usize; 64];
-    let mut firsts = [0usize; 16];
-    let mut statements = [0usize; 64];
-    let mut entries = [0usize; 16];
-    let checked = graph::load(
-        numbers,
-        h,
-        &mut modules,
-        &mut symbols,
-        &mut firsts,
-        &mut statements,
-        &mut entries,
-    );
-    filled(
-        numbers,
-        checked,
-        &modules,
-        &symbols,
-        &firsts,
-        &statements,
-        verdicts,
-    )
+    let mut tables = [0usize; SMALL];
+    effects_in(numbers, h, &mut tables, row)
 }
 
-// The operation with tables for a graph of middle size. `again` is 0: the call of itself keeps a compiler from merging this
-// frame into its caller's (docs/DECISIONS.md).
-fn effects_middle(numbers: &[u32], h: Header, verdicts: &mut [u32], again: usize) -> Checked
-    requires { ⌜ HeaderRead (now numbers) h ⌝ }
-    requires { ⌜ Room h 128 1024 128 1024 128 ⌝ }
-    ensures { λ r. ⌜ (r ≡ effectsAnswer (now (numbers .entry)) (length (now (verdicts .entry)))) × (now (verdicts .exit) ≡ effectsRow (now (numbers .entry)) (now (verdicts .entry))) ⌝ }
+// The operation with tables for a graph of middle size. `again` is 0 (`frames::apart`).
+fn effects_middle(numbers: &[u32], h: Header, row: &mut [u32], again: usize) -> Checked
+    requires { ⌜ HeaderRead (now numbers) h × FitsSize h Middle ⌝ }
+    ensures { λ r. ⌜ (r ≡ effectsAnswer (now (numbers .entry)) (length (now (row .entry)))) × (now (row .exit) ≡ effectsRow (now (numbers .entry)) (now (row .entry))) ⌝ }
 {
-    let mut modules = [0usize; 128];
-    let mut symbols = [0usize; 1024];
-    let mut firsts = [0usize; 128];
-    let mut statements = [0usize; 1024];
-    let mut entries = [0usize; 128];
-    let checked = graph::load(
-        numbers,
-        h,
-        &mut modules,
-        &mut symbols,
-        &mut firsts,
-        &mut statements,
-        &mut entries,
-    );
-    let answer = filled(
-        numbers,
-        checked,
-        &modules,
-        &symbols,
-        &firsts,
-        &statements,
-        verdicts,
-    );
+    let mut tables = [0usize; MIDDLE];
+    let answer = effects_in(numbers, h, &mut tables, row);
     if again > 0 {
-        return effects_middle(numbers, h, verdicts, again - 1);
+        return effects_middle(numbers, h, row, again - 1);
     }
     answer
 }
 
-// The operation with tables for the largest graph. `again` is 0: the call of itself keeps a compiler from merging this
-// frame into its caller's (docs/DECISIONS.md).
-fn effects_large(numbers: &[u32], h: Header, verdicts: &mut [u32], again: usize) -> Checked
-    requires { ⌜ HeaderRead (now numbers) h ⌝ }
-    ensures { λ r. ⌜ (r ≡ effectsAnswer (now (numbers .entry)) (length (now (verdicts .entry)))) × (now (verdicts .exit) ≡ effectsRow (now (numbers .entry)) (now (verdicts .entry))) ⌝ }
+// The operation with tables for the largest graph. `again` is 0 (`frames::apart`).
+fn effects_large(numbers: &[u32], h: Header, row: &mut [u32], again: usize) -> Checked
+    requires { ⌜ HeaderRead (now numbers) h × FitsSize h Large ⌝ }
+    ensures { λ r. ⌜ (r ≡ effectsAnswer (now (numbers .entry)) (length (now (row .entry)))) × (now (row .exit) ≡ effectsRow (now (numbers .entry)) (now (row .entry))) ⌝ }
 {
-    let mut modules = [0usize; 1024];
-    let mut symbols = [0usize; 16384];
-    let mut firsts = [0usize; 1024];
-    let mut statements = [0usize; 16384];
-    let mut entries = [0usize; 1024];
-    let checked = graph::load(
-        numbers,
-        h,
-        &mut modules,
-        &mut symbols,
-        &mut firsts,
-        &mut statements,
-        &mut entries,
-    );
-    let answer = filled(
-        numbers,
-        checked,
-        &modules,
-        &symbols,
-        &firsts,
-        &statements,
-        verdicts,
-    );
+    let mut tables = [0usize; LARGE];
+    let answer = effects_in(numbers, h, &mut tables, row);
     if again > 0 {
-        return effects_large(numbers, h, verdicts, again - 1);
+        return effects_large(numbers, h, row, again - 1);
     }
     answer
 }
 
 // The verdicts of the modules of a graph, in a lent row.
-pub fn effects(numbers: &[u32], verdicts: &mut [u32]) -> Checked
-    ensures { λ r. ⌜ (r ≡ effectsAnswer (now (numbers .entry)) (length (now (verdicts .entry)))) × (now (verdicts .exit) ≡ effectsRow (now (numbers .entry)) (now (verdicts .entry))) ⌝ }
+pub fn effects(numbers: &[u32], row: &mut [u32]) -> Checked
+    ensures { λ r. ⌜ (r ≡ effectsAnswer (now (numbers .entry)) (length (now (row .entry)))) × (now (row .exit) ≡ effectsRow (now (numbers .entry)) (now (row .entry))) ⌝ }
 {
     match graph::header(numbers) {
         Walk::Fault(n, p) => Checked::Refused(n, p),
         Walk::At(_) => {
             let h = graph::header_of(numbers);
-            if graph::fits(h, 16, 64, 64, 16) {
-                return effects_small(numbers, h, verdicts);
+            let size = graph::size_for(numbers, h);
+            match size {
+                Size::Small => effects_small(numbers, h, row),
+                Size::Middle => effects_middle(numbers, h, row, frames::apart(numbers)),
+                Size::Large => effects_large(numbers, h, row, frames::apart(numbers)),
             }
-            if graph::fits(h, 128, 1024, 1024, 128) {
-                return effects_middle(numbers, h, verdicts, rows::apart(numbers));
-            }
-            effects_large(numbers, h, verdicts, rows::apart(numbers))
         }
     }
 }

@@ -1,5 +1,2 @@
-pub mod Starting
-pub mod Preparing
-pub mod Working
-pub mod Ending
 pub mod Twice
+pub mod Tiers

@@ -1,22 +1,18 @@
--- A drain done once more changes nothing; and the tables that it begins with.
+-- A drain done once more changes nothing.
 use Prim.Native.Nat.{ℕ, _+_, _*_, _-_, _≤_}
 use mathlib.Core.Path.{_≡_, ap, _∙_, sym}
 use mathlib.Core.List.{List, _++_}
 use native.Mathlib.Omega.{arith}
 use lib.ListN.{length, drop, replicate, length-replicate}
 use lib.Seq.{drop-at}
-use Rattle.graph_format.specs.declared.Header.{Header}
-use Rattle.graph.specs.Check.{Room}
 use Rattle.determine_side_effects.proofs.Lists.{length-tabulate}
 use Rattle.keep_record.specs.Lines.{written, elem, marksOf}
-use Rattle.inclusion.specs.declared.Row.{Row}
-use Rattle.inclusion.specs.declared.Row.the-variants.{Modules, Statements, Used, External, Json, NamespaceReason}
-use Rattle.inclusion.specs.Shown.{rowBytes, byteOf, bytesOf, shown, shownRow}
-use Rattle.drain.specs.declared.Drained.{Drained}
-use Rattle.drain.specs.Operation.{Rows, roomsOf, Outcome, before, short, done, outcomeOf, marksAfter, recordAfter, rowAfter, Ends}
-use Rattle.drain.specs.Parts.{Fresh}
-use Rattle.drain.proofs.Preparing.{zeros-everywhere}
-use Rattle.drain.proofs.Ending.{ends-same}
+use Rattle.answer_rows.specs.declared.Row.{Row}
+use Rattle.answer_rows.specs.declared.Row.the-variants.{Modules, Statements, Used, External, Json, NamespaceReason}
+use Rattle.answer_rows.specs.Shown.{rowBytes, byteOf, bytesOf, shown, shownRow}
+use Rattle.drain_parts.specs.declared.Drained.{Drained}
+use Rattle.drain_parts.specs.Operation.{Rows, roomsOf, Outcome, before, short, done, outcomeOf, marksAfter, recordAfter, rowAfter, Ends}
+use Rattle.drain_parts.proofs.Ending.{ends-same}
 
 marks-again : (o : Outcome) (lent once : List ℕ) → length once ≡ length lent → once ≡ marksAfter o lent → marksAfter o once ≡ marksAfter o lent
 unfolding marksAfter
@@ -74,39 +70,3 @@ module _ (lent once : Rows) (l : Alike lent once) where
   ends-twice numbers starts r q twice a b =
       let o : outcomeOf numbers starts (roomsOf lent) ≡ outcomeOf numbers starts (roomsOf once) = ap (λ w. outcomeOf numbers starts w) (sym rooms-same) in
       ended-twice (outcomeOf numbers starts (roomsOf lent)) r q twice a (ends-same _ _ _ _ _ o b)
-
--- tables of zeros
-pub fresh-zeros : (h : Header) (a b n : ℕ) → n ≡ 3 * a + b → h .modules ≤ a → h .symbols ≤ b
-    → Fresh h (replicate a 0) (replicate a 0) (replicate b 0) (replicate b 0) (replicate n 0) × (h .modules ≤ length (replicate {A = ℕ} a 0))
-fresh-zeros h a b n e m s =
-    let la = length-replicate {A = ℕ} a 0 in
-    let lb = length-replicate {A = ℕ} b 0 in
-    let ln = length-replicate {A = ℕ} n 0 in (
-      record {
-        verdicts-long = omega (arith, la, m);
-        demand-long = omega (arith, la, m);
-        keys-long = omega (arith, lb, s);
-        namespaces-long = omega (arith, lb, s);
-        links-long = omega (arith, ln, e, m, s);
-        demand-zero = λ i. zeros-everywhere a i;
-        keys-zero = λ i. zeros-everywhere b i;
-        namespaces-zero = λ i. zeros-everywhere b i;
-        links-zero = λ i. zeros-everywhere n i;
-      },
-      omega (arith, la, m),
-    )
-
-pub room-zeros : (h : Header) (a b s e : ℕ) → Room h a b a s e
-    → Room h (length (replicate {A = ℕ} a 0)) (length (replicate {A = ℕ} b 0)) (length (replicate {A = ℕ} a 0)) (length (replicate {A = ℕ} s 0)) (length (replicate {A = ℕ} e 0))
-room-zeros h a b s e r =
-    record {
-      modules-fit = rw (length-replicate {A = ℕ} a 0) (r .modules-fit);
-      symbols-fit = rw (length-replicate {A = ℕ} b 0) (r .symbols-fit);
-      firsts-fit = rw (length-replicate {A = ℕ} a 0) (r .firsts-fit);
-      statements-fit = rw (length-replicate {A = ℕ} s 0) (r .statements-fit);
-      entries-fit = rw (length-replicate {A = ℕ} e 0) (r .entries-fit);
-    }
-
-pub fresh-read : (h q : Header) (verdicts demand keys namespaces links : List ℕ) (n : ℕ) → h ≡ q → Fresh h verdicts demand keys namespaces links × (h .modules ≤ n)
-    → Fresh q verdicts demand keys namespaces links × (q .modules ≤ n)
-fresh-read h q verdicts demand keys namespaces links n e f = rw (sym e) f

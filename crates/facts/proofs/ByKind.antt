@@ -1,9 +1,8 @@
 -- A fact by its kind.
 use Prim.Native.Nat.{ℕ}
-use mathlib.Core.Path.{_≡_, refl}
+use mathlib.Core.Path.{_≡_}
 use mathlib.Core.Logic.{_≢_}
-use native.Mathlib.Omega.{arith}
-use borrow.Author.Tests.{eq-eqb, ne-eqb}
+use borrow.Author.Tests.{ne-eqb}
 use Rattle.facts.specs.Facts.{factOf, moduleFact, statementFact, useFact, checkedFact, forwardFact, bailoutFact}
 
 module _ (k a b : ℕ) where

@@ -1,5 +1,5 @@
 -- Loops over a list: whether one of the elements that are left passes, what a table's entry becomes by those that do, and lists by number.
-use Prim.Native.Nat.{ℕ, zero, suc, _+_, _-_, _<_, _≤_}
+use Prim.Native.Nat.{ℕ, suc, _+_, _-_, _<_, _≤_}
 use mathlib.Core.Path.{_≡_, refl, ap, _∙_, sym}
 use mathlib.Core.Logic.{_≢_}
 use mathlib.Core.Bool.{Bool, true, false}
@@ -10,7 +10,7 @@ use borrow.Author.Tests.{eqb-true, eqb-false}
 use lib.Dec.{eqb}
 use lib.Seq.{drop-cons, getD-set-same, getD-set-other}
 use lib.ListN.{length, getD, set, drop, drop-of-length-le}
-use Rattle.facts.specs.Words.{some, tabulate}
+use Rattle.graph_access.specs.Words.{some, tabulate}
 
 -- element k, and those behind it
 module _ {A : Type 0} (test : A → Bool) (d : A) (xs : List A) (k : ℕ) where

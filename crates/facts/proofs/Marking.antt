@@ -1,19 +1,19 @@
 -- The mark of a fact, by its kind: what the code computes, where `h` is the header.
-use Prim.Native.Nat.{ℕ, _+_, _*_, _-_, _<_, _≤_}
-use mathlib.Core.Path.{_≡_, refl, ap, _∙_, sym}
+use Prim.Native.Nat.{ℕ, _+_, _*_, _-_, _<_}
+use mathlib.Core.Path.{_≡_}
 use mathlib.Core.List.{List}
 use native.Mathlib.Omega.{arith}
-use lib.ListN.{length, getD}
+use lib.ListN.{length}
 use Rattle.graph_format.specs.declared.Header.{Header}
-use Rattle.graph_tables.specs.Tables.{headerIn, modulesIn, firstOf}
+use Rattle.graph_tables.specs.Tables.{headerIn, firstOf}
 use Rattle.graph.specs.Check.{graphIn}
 use Rattle.facts.specs.declared.Fact.{Fact}
-use Rattle.facts.specs.Words.{statementList}
+use Rattle.graph_access.specs.Words.{statementList}
 use Rattle.facts.specs.Facts.{moduleFact, statementFact, useFact, checkedFact, forwardFact, bailoutFact, Good, markOf, markCount}
-use Rattle.facts.specs.Loaded.{Loaded}
-use Rattle.facts.proofs.OfStatements.{in-first, number-below}
+use Rattle.graph.specs.Loaded.{Loaded}
+use Rattle.graph_access.proofs.Indexes.{statement-number-below}
 
-module _ {numbers modules symbols firsts statements : List ℕ} (t : Loaded numbers modules symbols firsts statements) where
+module _ {numbers tables : List ℕ} (t : Loaded numbers tables) where
   -- a mark by the header that was read
   abbrev pub Marked : Fact → ℕ → Type 0
   Marked f x = (x ≡ markOf (graphIn numbers) f) × (x < markCount (graphIn numbers))
@@ -48,11 +48,9 @@ module _ {numbers modules symbols firsts statements : List ℕ} (t : Loaded numb
       unfolding graphIn
       good-statement m i is = rw is at good
 
-      pub good-number : (m i : ℕ) → f ≡ statementFact m i → getD firsts m 0 + i < h .statements
-      good-number m i is = let g = good-statement m i is in rw (e, in-first t m (g .0)) (number-below t m (g .0) i (g .1))
-
-      pub good-first : (m i : ℕ) → f ≡ statementFact m i → m < length firsts
-      good-first m i is = omega (arith, t .of-statements .long, good-statement m i is .0)
+      -- n is the statement's number among those of all modules
+      pub good-number : (m i n : ℕ) → f ≡ statementFact m i → n ≡ firstOf (graphIn numbers .modules) m + i → n < h .statements
+      good-number m i n is number = let g = good-statement m i is in rw (e, number) (statement-number-below t m i (g .0) (g .1))
 
       pub module-mark : (m : ℕ) → f ≡ moduleFact m → Marked f m
       unfolding markOf
@@ -62,9 +60,9 @@ module _ {numbers modules symbols firsts statements : List ℕ} (t : Loaded numb
       unfolding markOf graphIn
       bailout-mark m is = (rw (e, is), omega (arith, count-is, good-bailout m is))
 
-      pub statement-mark : (m i : ℕ) → f ≡ statementFact m i → Marked f (2 * h .modules + (getD firsts m 0 + i))
+      pub statement-mark : (m i n : ℕ) → f ≡ statementFact m i → n ≡ firstOf (graphIn numbers .modules) m + i → Marked f (2 * h .modules + n)
       unfolding markOf graphIn
-      statement-mark m i is = (rw (e, is, in-first t m (good-statement m i is .0)), omega (arith, count-is, good-number m i is))
+      statement-mark m i n is number = (rw (e, is, number), omega (arith, count-is, good-number m i n is number))
 
       pub forward-mark : (s : ℕ) → f ≡ forwardFact s → Marked f (2 * h .modules + h .statements + s)
       unfolding markOf graphIn

@@ -1,21 +1,19 @@
 -- Different facts have different marks, and each mark is one of those that are counted.
-use Prim.Native.Nat.{ℕ, zero, suc, _+_, _*_, _-_, _<_, _≤_}
+use Prim.Native.Nat.{ℕ, _+_, _*_, _-_, _<_, _≤_}
 use mathlib.Core.Path.{_≡_, refl, ap, _∙_, sym}
-use mathlib.Core.Bool.{Bool, true, false}
+use mathlib.Core.Bool.{true, false}
 use mathlib.Core.List.{List}
 use native.Mathlib.Omega.{arith}
 use borrow.Author.Tests.{lt-ltb, le-ltb}
 use lib.Dec.{ltb}
-use lib.ListN.{length, getD}
 use Rattle.graph_tables.specs.Tables.{headerIn, firstOf}
 use Rattle.graph.specs.Check.{graphIn}
 use Rattle.facts.specs.declared.Fact.{Fact}
-use Rattle.facts.specs.declared.Fact.the-variants.{Module, Statement, Use, Checked, Forward, Bailout}
+use Rattle.facts.specs.declared.Fact.the-variants.{Module, Statement, Use, CheckedUse, Forward, Bailout}
 use Rattle.facts.specs.Facts.{moduleFact, statementFact, useFact, checkedFact, forwardFact, bailoutFact, kindOf, firstPart, secondPart, factOf, Good, markOf, markCount}
-use Rattle.facts.specs.Loaded.{Loaded}
-use Rattle.facts.proofs.OfStatements.{in-first}
+use Rattle.graph.specs.Loaded.{Loaded}
 use Rattle.facts.proofs.Marking.{good-module, good-bailout, good-forward, good-use, good-checked, good-statement, good-number, module-mark, bailout-mark, statement-mark, forward-mark, use-mark, checked-mark}
-use Rattle.facts.proofs.Indexes.{statement-number-injective}
+use Rattle.graph_access.proofs.Indexes.{statement-number-injective}
 
 -- the kind of the facts that a mark may be of, where there are m modules, n statements and y symbols
 module _ (m n y x : ℕ) where
@@ -74,21 +72,21 @@ unfolding factOf
 fact-back (Module m) = refl
 fact-back (Statement m i) = refl
 fact-back (Use s x) = refl
-fact-back (Checked s x) = refl
+fact-back (CheckedUse s x) = refl
 fact-back (Forward s) = refl
 fact-back (Bailout m) = refl
 
 by-kind : (f : Fact) {k : ℕ} → k ≡ kindOf f → f ≡ factOf k (firstPart f) (secondPart f)
 by-kind f e = fact-back f ∙ ap (λ k. factOf k (firstPart f) (secondPart f)) (sym e)
 
-module _ {numbers modules symbols firsts statements : List ℕ} (t : Loaded numbers modules symbols firsts statements) where
+module _ {numbers tables : List ℕ} (t : Loaded numbers tables) where
   pub mark-below : (f : Fact) → Good (graphIn numbers) f → markOf (graphIn numbers) f < markCount (graphIn numbers)
   mark-below (Module m) g = let k = module-mark t (headerIn numbers) refl (Module m) g (m .0) refl in omega (arith, k .0, k .1)
   mark-below (Bailout m) g = let k = bailout-mark t (headerIn numbers) refl (Bailout m) g (m .0) refl in omega (arith, k .0, k .1)
-  mark-below (Statement m i) g = let k = statement-mark t (headerIn numbers) refl (Statement m i) g (m .0) (i .0) refl in omega (arith, k .0, k .1)
+  mark-below (Statement m i) g = let k = statement-mark t (headerIn numbers) refl (Statement m i) g (m .0) (i .0) _ refl refl in omega (arith, k .0, k .1)
   mark-below (Forward s) g = let k = forward-mark t (headerIn numbers) refl (Forward s) g (s .0) refl in omega (arith, k .0, k .1)
   mark-below (Use s x) g = let k = use-mark t (headerIn numbers) refl (Use s x) g (s .0) (x .bits) refl in omega (arith, k .0, k .1)
-  mark-below (Checked s x) g = let k = checked-mark t (headerIn numbers) refl (Checked s x) g (s .0) (x .bits) refl in omega (arith, k .0, k .1)
+  mark-below (CheckedUse s x) g = let k = checked-mark t (headerIn numbers) refl (CheckedUse s x) g (s .0) (x .bits) refl in omega (arith, k .0, k .1)
 
   -- the mark tells the kind
   kind-told : (f : Fact) → Good (graphIn numbers) f → kindOf f ≡ kindAt (headerIn numbers .modules) (headerIn numbers .statements) (headerIn numbers .symbols) (markOf (graphIn numbers) f)
@@ -102,8 +100,8 @@ module _ {numbers modules symbols firsts statements : List ℕ} (t : Loaded numb
       let q : markOf (graphIn numbers) (Bailout m) < 2 * headerIn numbers .modules = omega (arith, k, b) in
       at-bailout _ _ _ _ p q
   kind-told (Statement m i) g =
-      let k = statement-mark t (headerIn numbers) refl (Statement m i) g (m .0) (i .0) refl .0 in
-      let b = good-number t (headerIn numbers) refl (Statement m i) g (m .0) (i .0) refl in
+      let k = statement-mark t (headerIn numbers) refl (Statement m i) g (m .0) (i .0) _ refl refl .0 in
+      let b = good-number t (headerIn numbers) refl (Statement m i) g (m .0) (i .0) _ refl refl in
       let p : 2 * headerIn numbers .modules ≤ markOf (graphIn numbers) (Statement m i) = omega (arith, k) in
       let q : markOf (graphIn numbers) (Statement m i) < 2 * headerIn numbers .modules + headerIn numbers .statements = omega (arith, k, b) in
       at-statement _ _ _ _ p q
@@ -119,9 +117,9 @@ module _ {numbers modules symbols firsts statements : List ℕ} (t : Loaded numb
       let p : 2 * headerIn numbers .modules + headerIn numbers .statements + headerIn numbers .symbols ≤ markOf (graphIn numbers) (Use s x) = omega (arith, k) in
       let q : markOf (graphIn numbers) (Use s x) < 2 * headerIn numbers .modules + headerIn numbers .statements + 32 * headerIn numbers .symbols = omega (arith, k, b .0, b .1, b .2) in
       at-use _ _ _ _ p q
-  kind-told (Checked s x) g =
-      let k = checked-mark t (headerIn numbers) refl (Checked s x) g (s .0) (x .bits) refl .0 in
-      let p : 2 * headerIn numbers .modules + headerIn numbers .statements + 32 * headerIn numbers .symbols ≤ markOf (graphIn numbers) (Checked s x) = omega (arith, k) in
+  kind-told (CheckedUse s x) g =
+      let k = checked-mark t (headerIn numbers) refl (CheckedUse s x) g (s .0) (x .bits) refl .0 in
+      let p : 2 * headerIn numbers .modules + headerIn numbers .statements + 32 * headerIn numbers .symbols ≤ markOf (graphIn numbers) (CheckedUse s x) = omega (arith, k) in
       at-checked _ _ _ _ p
 
   same-kind : (f e : Fact) → Good (graphIn numbers) f → Good (graphIn numbers) e → markOf (graphIn numbers) f ≡ markOf (graphIn numbers) e → kindOf f ≡ kindOf e
@@ -146,10 +144,9 @@ module _ {numbers modules symbols firsts statements : List ℕ} (t : Loaded numb
       ap (λ a. forwardFact a) z ∙ sym is
   same-fact (Statement m i) e g h s k =
       let is : e ≡ statementFact (firstPart e) (secondPart e) = by-kind e k in
-      let b = statement-mark t (headerIn numbers) refl e h (firstPart e) (secondPart e) is .0 in
+      let b = statement-mark t (headerIn numbers) refl e h (firstPart e) (secondPart e) _ is refl .0 in
       let w = good-statement t (headerIn numbers) refl e h (firstPart e) (secondPart e) is in
-      let f = in-first t (firstPart e) (w .0) in
-      let n : firstOf (graphIn numbers .modules) (m .0) + i .0 ≡ firstOf (graphIn numbers .modules) (firstPart e) + secondPart e = omega (arith, s, b, f) in
+      let n : firstOf (graphIn numbers .modules) (m .0) + i .0 ≡ firstOf (graphIn numbers .modules) (firstPart e) + secondPart e = omega (arith, s, b) in
       let z = statement-number-injective t (m .0) (i .0) (firstPart e) (secondPart e) (g .0) (w .0) (g .1) (w .1) n in
       ap (λ a. statementFact a (i .0)) (z .0) ∙ ap (λ j. statementFact (firstPart e) j) (z .1) ∙ sym is
   same-fact (Use a x) e g h s k =
@@ -160,7 +157,7 @@ module _ {numbers modules symbols firsts statements : List ℕ} (t : Loaded numb
       let y : a .0 ≡ firstPart e = omega (arith, n, g .1, g .2, w .1, w .2) in
       let z : x .bits ≡ secondPart e = omega (arith, n, y) in
       ap (λ a. useFact a (x .bits)) y ∙ ap (λ j. useFact (firstPart e) j) z ∙ sym is
-  same-fact (Checked a x) e g h s k =
+  same-fact (CheckedUse a x) e g h s k =
       let is : e ≡ checkedFact (firstPart e) (secondPart e) = by-kind e k in
       let b = checked-mark t (headerIn numbers) refl e h (firstPart e) (secondPart e) is .0 in
       let w = good-checked t (headerIn numbers) refl e h (firstPart e) (secondPart e) is in

@@ -7,13 +7,13 @@ use lib.Dec.{eqb}
 use lib.ListN.{length}
 use Rattle.graph.specs.Check.{Graph}
 use Rattle.graph_tables.specs.Tables.{firstOf}
-use Rattle.facts.specs.declared.ModuleIdx.{ModuleIdx}
-use Rattle.facts.specs.declared.SymbolIdx.{SymbolIdx}
-use Rattle.facts.specs.declared.StmtIdx.{StmtIdx}
+use Rattle.index.specs.declared.ModuleIdx.{ModuleIdx}
+use Rattle.index.specs.declared.SymbolIdx.{SymbolIdx}
+use Rattle.index.specs.declared.StmtIdx.{StmtIdx}
 use Rattle.facts.specs.declared.Reason.{Reason}
 use Rattle.facts.specs.declared.Fact.{Fact}
-use Rattle.facts.specs.declared.Fact.the-variants.{Module, Statement, Use, Checked, Forward, Bailout}
-use Rattle.facts.specs.Words.{statementList, normal}
+use Rattle.facts.specs.declared.Fact.the-variants.{Module, Statement, Use, CheckedUse, Forward, Bailout}
+use Rattle.graph_access.specs.Words.{statementList, normal}
 
 -- The facts of plain numbers.
 abbrev pub moduleFact : ℕ → Fact
@@ -26,7 +26,7 @@ abbrev pub useFact : ℕ → ℕ → Fact
 useFact s x = Use (record { 0 = s }) (record { bits = x })
 
 abbrev pub checkedFact : ℕ → ℕ → Fact
-checkedFact s x = Checked (record { 0 = s }) (record { bits = x })
+checkedFact s x = CheckedUse (record { 0 = s }) (record { bits = x })
 
 abbrev pub forwardFact : ℕ → Fact
 forwardFact s = Forward (record { 0 = s })
@@ -39,7 +39,7 @@ abbrev pub kindOf : Fact → ℕ
 kindOf (Module m) = 1
 kindOf (Statement m i) = 2
 kindOf (Use s x) = 3
-kindOf (Checked s x) = 4
+kindOf (CheckedUse s x) = 4
 kindOf (Forward s) = 5
 kindOf (Bailout m) = 6
 
@@ -47,7 +47,7 @@ abbrev pub firstPart : Fact → ℕ
 firstPart (Module m) = m .0
 firstPart (Statement m i) = m .0
 firstPart (Use s x) = s .0
-firstPart (Checked s x) = s .0
+firstPart (CheckedUse s x) = s .0
 firstPart (Forward s) = s .0
 firstPart (Bailout m) = m .0
 
@@ -55,7 +55,7 @@ abbrev pub secondPart : Fact → ℕ
 secondPart (Module m) = 0
 secondPart (Statement m i) = i .0
 secondPart (Use s x) = x .bits
-secondPart (Checked s x) = x .bits
+secondPart (CheckedUse s x) = x .bits
 secondPart (Forward s) = 0
 secondPart (Bailout m) = 0
 
@@ -78,7 +78,7 @@ abbrev pub Good : Graph → Fact → Type 0
 Good g (Module m) = (m .0 < g .header .modules) × (normal g (m .0) ≡ true)
 Good g (Statement m i) = (m .0 < g .header .modules) × (i .0 < length (statementList g (m .0)))
 Good g (Use s x) = (s .0 < g .header .symbols) × (0 < x .bits) × (x .bits < 32)
-Good g (Checked s x) = (s .0 < g .header .symbols) × (0 < x .bits) × (x .bits < 32)
+Good g (CheckedUse s x) = (s .0 < g .header .symbols) × (0 < x .bits) × (x .bits < 32)
 Good g (Forward s) = s .0 < g .header .symbols
 Good g (Bailout m) = m .0 < g .header .modules
 
@@ -89,7 +89,7 @@ markOf g (Bailout m) = g .header .modules + m .0
 markOf g (Statement m i) = 2 * g .header .modules + (firstOf (g .modules) (m .0) + i .0)
 markOf g (Forward s) = 2 * g .header .modules + g .header .statements + s .0
 markOf g (Use s x) = 2 * g .header .modules + g .header .statements + g .header .symbols + (31 * s .0 + x .bits - 1)
-markOf g (Checked s x) = 2 * g .header .modules + g .header .statements + 32 * g .header .symbols + (31 * s .0 + x .bits - 1)
+markOf g (CheckedUse s x) = 2 * g .header .modules + g .header .statements + 32 * g .header .symbols + (31 * s .0 + x .bits - 1)
 
 unfoldable pub markCount : Graph → ℕ
 markCount g = 2 * g .header .modules + g .header .statements + 63 * g .header .symbols

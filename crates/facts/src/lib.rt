@@ -1,18 +1,16 @@
-// What can be kept: typed indexes, facts, and their numbers.
+// What can be kept: facts, their numbers and their marks.
 ghost use mathlib.Core.Path.{_≡_};
 ghost use Prim.Native.Nat.{ℕ, _+_, _*_, _<_, _≤_};
 ghost use lib.ListN.{length};
 ghost use Rattle.graph_tables.specs.Tables.{headerIn};
 ghost use Rattle.graph.specs.Check.{graphIn};
-ghost use Rattle.facts.specs.Words.{flag as flagOf, statementList};
+ghost use Rattle.graph_access.specs.Words.{flag as flagOf};
 ghost use Rattle.facts.specs.Facts.{kindOf, firstPart, secondPart, factOf, Good, markOf, markCount};
-ghost use Rattle.facts.specs.Loaded.{Loaded};
-
-pub struct ModuleIdx(pub usize);
-
-pub struct SymbolIdx(pub usize);
-
-pub struct StmtIdx(pub usize);
+ghost use Rattle.graph.specs.Loaded.{Loaded};
+use graph_access::statements;
+use index::ModuleIdx;
+use index::StmtIdx;
+use index::SymbolIdx;
 
 // Why a symbol is used: Normal 1, EntryExport 2, ReExportDynamicExports 4, JsonDefaultExportSelfReference 8,
 // SimulatedFacadeChunk 16, added up.
@@ -25,7 +23,7 @@ pub enum Fact {
     Module(ModuleIdx),
     Statement(ModuleIdx, StmtIdx),
     Use(SymbolIdx, Reason),
-    Checked(SymbolIdx, Reason),
+    CheckedUse(SymbolIdx, Reason),
     Forward(SymbolIdx),
     Bailout(ModuleIdx),
 }
@@ -54,7 +52,7 @@ pub fn kind_of(fact: Fact) -> usize
         Fact::Module(_) => 1,
         Fact::Statement(_, _) => 2,
         Fact::Use(_, _) => 3,
-        Fact::Checked(_, _) => 4,
+        Fact::CheckedUse(_, _) => 4,
         Fact::Forward(_) => 5,
         Fact::Bailout(_) => 6,
     }
@@ -68,7 +66,7 @@ pub fn first_part(fact: Fact) -> usize
         Fact::Module(m) => m.0,
         Fact::Statement(m, _) => m.0,
         Fact::Use(s, _) => s.0,
-        Fact::Checked(s, _) => s.0,
+        Fact::CheckedUse(s, _) => s.0,
         Fact::Forward(s) => s.0,
         Fact::Bailout(m) => m.0,
     }
@@ -82,7 +80,7 @@ pub fn second_part(fact: Fact) -> usize
         Fact::Module(_) => 0,
         Fact::Statement(_, i) => i.0,
         Fact::Use(_, x) => x.bits,
-        Fact::Checked(_, x) => x.bits,
+        Fact::CheckedUse(_, x) => x.bits,
         Fact::Forward(_) => 0,
         Fact::Bailout(_) => 0,
     }
@@ -102,7 +100,7 @@ pub fn fact_of(kind: usize, a: usize, b: usize) -> Fact
         return Fact::Use(SymbolIdx(a), Reason { bits: b });
     }
     if kind == 4 {
-        return Fact::Checked(SymbolIdx(a), Reason { bits: b });
+        return Fact::CheckedUse(SymbolIdx(a), Reason { bits: b });
     }
     if kind == 5 {
         return Fact::Forward(SymbolIdx(a));
@@ -110,31 +108,9 @@ pub fn fact_of(kind: usize, a: usize, b: usize) -> Fact
     Fact::Bailout(ModuleIdx(a))
 }
 
-// How many statements module m has.
-pub fn statement_count(
-    numbers: &[u32],
-    modules: &[usize],
-    symbols: &[usize],
-    firsts: &[usize],
-    statements: &[usize],
-    m: ModuleIdx,
-) -> usize
-    requires { ⌜ Loaded (now numbers) (now modules) (now symbols) (now firsts) (now statements) ⌝ }
-    requires { ⌜ m .0 < headerIn (now numbers) .modules ⌝ }
-    ensures { λ r. ⌜ r ≡ length (statementList (graphIn (now (numbers .entry))) (m .0)) ⌝ }
-{
-    graph_tables::module_number(numbers, modules, m.0, 9)
-}
-
 // How many marks there are.
-pub fn mark_count(
-    numbers: &[u32],
-    modules: &[usize],
-    symbols: &[usize],
-    firsts: &[usize],
-    statements: &[usize],
-) -> usize
-    requires { ⌜ Loaded (now numbers) (now modules) (now symbols) (now firsts) (now statements) ⌝ }
+pub fn mark_count(numbers: &[u32], tables: &[usize]) -> usize
+    requires { ⌜ Loaded (now numbers) (now tables) ⌝ }
     ensures { λ r. ⌜ r ≡ markCount (graphIn (now (numbers .entry))) ⌝ }
 {
     let h = graph::header_of(numbers);
@@ -142,15 +118,8 @@ pub fn mark_count(
 }
 
 // The number of a fact's mark.
-pub fn mark_of(
-    numbers: &[u32],
-    modules: &[usize],
-    symbols: &[usize],
-    firsts: &[usize],
-    statements: &[usize],
-    fact: Fact,
-) -> usize
-    requires { ⌜ Loaded (now numbers) (now modules) (now symbols) (now firsts) (now statements) ⌝ }
+pub fn mark_of(numbers: &[u32], tables: &[usize], fact: Fact) -> usize
+    requires { ⌜ Loaded (now numbers) (now tables) ⌝ }
     requires { ⌜ Good (graphIn (now numbers)) fact ⌝ }
     ensures { λ r. ⌜ (r ≡ markOf (graphIn (now (numbers .entry))) fact) × (r < markCount (graphIn (now (numbers .entry)))) ⌝ }
 {
@@ -158,13 +127,10 @@ pub fn mark_of(
     match fact {
         Fact::Module(m) => m.0,
         Fact::Bailout(m) => h.modules + m.0,
-        Fact::Statement(m, i) => {
-            let a = m.0;
-            2 * h.modules + (firsts[a] + i.0)
-        }
+        Fact::Statement(m, i) => 2 * h.modules + statements::number_of(numbers, tables, m, i),
         Fact::Forward(s) => 2 * h.modules + h.statements + s.0,
         Fact::Use(s, x) => 2 * h.modules + h.statements + h.symbols + (31 * s.0 + x.bits - 1),
-        Fact::Checked(s, x) => 2 * h.modules
+        Fact::CheckedUse(s, x) => 2 * h.modules
             + h.statements
             + 32 * h.symbols
             + (31 * s.0 + x.bits - 1),

@@ -15,7 +15,8 @@ use Rattle.rows.specs.Walk.{Parsed, got, fault, andThen, walkOf, Item, noItem}
 use Rattle.rows.proofs.Walks.{at-got, fault-is}
 use Rattle.graph_format.specs.declared.Header.{Header}
 use Rattle.graph_format.specs.Format.{moduleRules, symbolRules, namespaceLimit, kindOf}
-use Rattle.graph_tables.specs.Tables.{headerIn, modulesIn, symbolsIn, ModuleTable, SymbolTable}
+use Rattle.graph_tables.specs.Tables.{headerIn, modulesIn, symbolsIn}
+use Rattle.graph_tables.specs.Places.{ModuleTable, SymbolTable}
 use Rattle.graph_tables.proofs.Facts.{its-read, symbol-read}
 use Rattle.graph.specs.Check.{graphIn, each, runtimeNormal, ownsNamespace, rootIsRoot, laterRules}
 

@@ -1,4 +1,5 @@
+pub mod Checking
 pub mod Loading
 pub mod LaterRules
-pub mod Checking
 pub mod WellFormed
+pub mod Kept

@@ -1,21 +1,27 @@
--- The tables of each part, once it is read.
-use Prim.Native.Nat.{ℕ, zero, suc, _+_, _-_, _*_, _<_, _≤_}
-use mathlib.Core.Path.{_≡_, refl, ap, _∙_, sym}
-use mathlib.Core.List.{List, [], _∷_, _++_, map}
+-- The section of each part, once it is read, and the accepted graph with all of them.
+use Prim.Native.Nat.{ℕ, _+_}
+use mathlib.Core.Path.{_≡_, ap, _∙_, sym}
+use mathlib.Core.List.{List, [], _∷_}
 use native.Mathlib.Nat.{one-mul}
 use native.Mathlib.Omega.{arith}
-use lib.ListN.{length, getD, take}
 use Rattle.rows.specs.declared.Walk.{Walk}
 use Rattle.rows.specs.declared.Walk.the-variants.{At, Fault}
-use Rattle.rows.specs.Walk.{Parsed, got, fault, andThen, many, firsts, plainRow, columnsOf, walkOf, onward, Item, noItem, Rule, cells, number}
+use Rattle.rows.specs.Walk.{Parsed, got, andThen, many, firsts, plainRow, columnsOf, walkOf, onward, Item, Rule, cells, number}
 use Rattle.graph_format.proofs.Chains.{onward-end}
 use Rattle.rows.proofs.Walks.{clash, cells-cons, at-got, fault-is, walk-then, walk-map, onward-at, onward-fault}
-use Rattle.rows.proofs.Items.{rows-end, plain-plain}
+use Rattle.rows.proofs.Items.{rows-end, plain-plain, many-length}
 use Rattle.graph_format.specs.declared.Header.{Header}
 use Rattle.graph_format.specs.Format.{modulesAt, symbolsAt, statementsAt, entriesAt}
-use Rattle.graph_tables.specs.Tables.{itemsOf, endOf, headerIn, modulesRead, modulesIn, symbolsRead, symbolsIn, statementsRead, statementsIn, entriesRead, entriesIn, Filled, StatementsFilled, ModuleTable, SymbolTable, StatementTable, EntryTable}
+use Rattle.tables.specs.Layout.{sizes, startOf, modulePlaces, symbolPlaces, firstStatements, statementPlaces, entryPlaces, Laid}
+use Rattle.tables.proofs.Sections.{section-length}
+use Rattle.graph_tables.specs.Tables.{itemsOf, endOf, headerIn, modulesRead, modulesIn, symbolsRead, symbolsIn, statementsRead, statementsIn, entriesRead, entriesIn}
+use Rattle.graph_tables.specs.Places.{Filled, StatementsFilled, ModuleTable, SymbolTable, StatementTable, EntryTable}
+use Rattle.graph_tables.proofs.Sections.{placed-whole}
 use Rattle.graph_entries.proofs.Parts.{then-fault, then-at}
-use Rattle.graph.specs.Check.{Graph, helpersAt, graphAt, tailWalk, bodyWalk, Tables, OnceRead}
+use Rattle.graph.specs.declared.Checked.the-variants.{Accepted}
+use Rattle.graph.specs.Check.{Graph, helpersAt, graphAt, tailWalk, bodyWalk, checkOf, answerOf, OnceRead, HeaderRead}
+use Rattle.graph.specs.Loaded.{Places, Loaded}
+use Rattle.graph.proofs.Checking.{seven, bounded}
 
 -- what was read, by where it ended
 pub read-as : {A : Type 0} (x : Parsed (List A)) {q : ℕ} → walkOf x ≡ At q → x ≡ got (itemsOf x) q
@@ -44,34 +50,62 @@ module _ (numbers : List ℕ) (h : Header) (is : h ≡ headerIn numbers) where
   unfolding entriesRead
   entries-part at e = rw (e, is)
 
-  pub module-table : (at q : ℕ) (table : List ℕ) → at ≡ 7 + h .helpers → walkOf (modulesAt h numbers at) ≡ At q → Filled (modulesAt h numbers at) 0 table → h .modules ≤ length table
-      → ModuleTable numbers table
-  unfolding modulesIn
-  module-table at q table s e f l =
-      let r = read-as (modulesRead numbers) (rw (modules-part at s) at e) in
-      record { end = q; read = r; places = rw r at (rw (modules-part at s) at f); long = rw is at l }
+  -- each section, once its part is read
+  module _ (tables : List ℕ) (t : Laid h 5 tables) where
+    pub module-table : (at q : ℕ) → at ≡ 7 + h .helpers → walkOf (modulesAt h numbers at) ≡ At q → Filled (modulesAt h numbers at) (startOf h 0) tables → ModuleTable numbers (modulePlaces tables)
+    unfolding modulesIn modulesRead modulesAt sizes
+    module-table at q s e f =
+        let r = read-as (modulesRead numbers) (rw (modules-part at s) at e) in
+        let n = many-length _ _ _ _ _ r in
+        let l = ap (λ x. x .modules) is in
+        record {
+          end = q;
+          read = r;
+          places = placed-whole t 0 (omega arith) (modulesIn numbers) (omega (arith, n, l)) (rw r at (rw (modules-part at s) at f));
+          long = omega (arith, section-length t 0 (omega arith), l);
+        }
 
-  pub symbol-table : (at q : ℕ) (table : List ℕ) → at ≡ endOf (modulesRead numbers) → walkOf (symbolsAt h (modulesIn numbers) numbers at) ≡ At q
-      → Filled (symbolsAt h (modulesIn numbers) numbers at) 0 table → h .symbols ≤ length table → SymbolTable numbers table
-  unfolding symbolsIn
-  symbol-table at q table s e f l =
-      let r = read-as (symbolsRead numbers) (rw (symbols-part at s) at e) in
-      record { end = q; read = r; places = rw r at (rw (symbols-part at s) at f); long = rw is at l }
+    pub symbol-table : (at q : ℕ) → at ≡ endOf (modulesRead numbers) → walkOf (symbolsAt h (modulesIn numbers) numbers at) ≡ At q
+        → Filled (symbolsAt h (modulesIn numbers) numbers at) (startOf h 1) tables → SymbolTable numbers (symbolPlaces tables)
+    unfolding symbolsIn symbolsRead symbolsAt sizes
+    symbol-table at q s e f =
+        let r = read-as (symbolsRead numbers) (rw (symbols-part at s) at e) in
+        let n = many-length _ _ _ _ _ r in
+        let l = ap (λ x. x .symbols) is in
+        record {
+          end = q;
+          read = r;
+          places = placed-whole t 1 (omega arith) (symbolsIn numbers) (omega (arith, n, l)) (rw r at (rw (symbols-part at s) at f));
+          long = omega (arith, section-length t 1 (omega arith), l);
+        }
 
-  pub statement-table : (at q : ℕ) (first table : List ℕ) → at ≡ endOf (symbolsRead numbers) → walkOf (statementsAt h (modulesIn numbers) numbers at) ≡ At q
-      → StatementsFilled (modulesIn numbers) (statementsAt h (modulesIn numbers) numbers at) first table → h .modules ≤ length first → h .statements ≤ length table
-      → StatementTable numbers first table
-  unfolding statementsIn
-  statement-table at q first table s e f l w =
-      let r = read-as (statementsRead numbers) (rw (statements-part at s) at e) in
-      record { end = q; read = r; placed = rw r at (rw (statements-part at s) at f); long = rw is at l; wide = rw is at w }
+    pub statement-table : (at q : ℕ) → at ≡ endOf (symbolsRead numbers) → walkOf (statementsAt h (modulesIn numbers) numbers at) ≡ At q
+        → StatementsFilled (modulesIn numbers) (statementsAt h (modulesIn numbers) numbers at) (firstStatements tables) (statementPlaces tables)
+        → StatementTable numbers (firstStatements tables) (statementPlaces tables)
+    unfolding statementsIn sizes
+    statement-table at q s e f =
+        let r = read-as (statementsRead numbers) (rw (statements-part at s) at e) in
+        record {
+          end = q;
+          read = r;
+          placed = rw r at (rw (statements-part at s) at f);
+          long = omega (arith, section-length t 2 (omega arith), ap (λ x. x .modules) is);
+          wide = omega (arith, section-length t 3 (omega arith), ap (λ x. x .statements) is);
+        }
 
-  pub entry-table : (at q : ℕ) (table : List ℕ) → at ≡ endOf (statementsRead numbers) → walkOf (entriesAt h (modulesIn numbers) numbers at) ≡ At q
-      → Filled (entriesAt h (modulesIn numbers) numbers at) 0 table → h .entries ≤ length table → EntryTable numbers table
-  unfolding entriesIn
-  entry-table at q table s e f l =
-      let r = read-as (entriesRead numbers) (rw (entries-part at s) at e) in
-      record { end = q; read = r; places = rw r at (rw (entries-part at s) at f); long = rw is at l }
+    pub entry-table : (at q : ℕ) → at ≡ endOf (statementsRead numbers) → walkOf (entriesAt h (modulesIn numbers) numbers at) ≡ At q
+        → Filled (entriesAt h (modulesIn numbers) numbers at) (startOf h 4) tables → EntryTable numbers (entryPlaces tables)
+    unfolding entriesIn entriesRead entriesAt sizes
+    entry-table at q s e f =
+        let r = read-as (entriesRead numbers) (rw (entries-part at s) at e) in
+        let n = many-length _ _ _ _ _ r in
+        let l = ap (λ x. x .entries) is in
+        record {
+          end = q;
+          read = r;
+          places = placed-whole t 4 (omega arith) (entriesIn numbers) (omega (arith, n, l)) (rw r at (rw (entries-part at s) at f));
+          long = omega (arith, section-length t 4 (omega arith), l);
+        }
 
   -- the walk from the statements on
   pub tail-stop : (at : ℕ) {n p : ℕ} → walkOf (statementsAt h (modulesIn numbers) numbers at) ≡ Fault n p → tailWalk numbers at ≡ Fault n p
@@ -134,12 +168,30 @@ cells-one r numbers at = cells-cons r [] numbers at ∙ onward-end _
 pub once-fault : {n p : ℕ} (X : Type 0) → OnceRead (Fault n p) X
 once-fault X = record { known = λ q e. absurd (clash (sym e)) }
 
-pub once-both : {r : Walk} {X Y : Type 0} → ((q : ℕ) → r ≡ At q → X) → ((q : ℕ) → r ≡ At q → Y) → OnceRead r (X × Y)
-once-both f g = record { known = λ q e. (f q e, g q e) }
-
+-- the parts that are read behind a part, and then all
 pub once-more : {r : Walk} {X Y Z : Type 0} → X → OnceRead r (Y × Z) → OnceRead r (X × Y × Z)
 once-more x o = record { known = λ q e. let t = o .known q e in (x, t .0, t .1) }
 
-pub once-tables : {r : Walk} {numbers modules symbols firsts statements entries : List ℕ} → ModuleTable numbers modules
-    → OnceRead r (SymbolTable numbers symbols × StatementTable numbers firsts statements × EntryTable numbers entries) → OnceRead r (Tables numbers modules symbols firsts statements entries)
-once-tables m o = record { known = λ q e. let t = o .known q e in record { of-modules = m; of-symbols = t .0; of-statements = t .1; of-entries = t .2 } }
+pub once-places : {r : Walk} {numbers tables : List ℕ} → ModuleTable numbers (modulePlaces tables)
+    → OnceRead r (SymbolTable numbers (symbolPlaces tables) × StatementTable numbers (firstStatements tables) (statementPlaces tables) × EntryTable numbers (entryPlaces tables))
+    → OnceRead r (Places numbers tables)
+once-places m o = record { known = λ q e. let t = o .known q e in record { of-modules = m; of-symbols = t .0; of-statements = t .1; of-entries = t .2 } }
+
+-- an accepted graph with its tables
+pub loaded : (numbers tables : List ℕ) (h : Header) → answerOf (checkOf numbers) ≡ Accepted → HeaderRead numbers h → Laid h 5 tables → Places numbers tables → Loaded numbers tables
+loaded numbers tables h a r t p =
+    let b = bounded numbers h r in
+    let e = r .is in
+    record {
+      accepted = a;
+      long = seven numbers (at-got _ (r .end) (r .read) .1);
+      laid = rw e at t;
+      of-modules = p .of-modules;
+      of-symbols = p .of-symbols;
+      of-statements = p .of-statements;
+      of-entries = p .of-entries;
+      few-modules = rw e at (b .0);
+      few-symbols = rw e at (b .1);
+      few-statements = rw e at (b .2);
+      few-entries = rw e at (b .3);
+    }

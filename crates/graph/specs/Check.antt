@@ -1,5 +1,5 @@
 -- What `check` answers: the first fault from the left, then the rules that read a later number, then numbers left over.
-use Prim.Native.Nat.{ℕ, zero, suc, _+_, _-_, _≤_}
+use Prim.Native.Nat.{ℕ, zero, suc, _+_, _-_}
 use mathlib.Core.Path.{_≡_}
 use mathlib.Core.Bool.{Bool, true, false}
 use mathlib.Core.List.{List, [], _∷_, map}
@@ -12,7 +12,7 @@ use Rattle.rows.specs.declared.Walk.the-variants.{At, Fault}
 use Rattle.rows.specs.Walk.{Parsed, got, fault, andThen, Rule, cells, many, firsts, plainRow, Item, noItem, walkOf, onward}
 use Rattle.graph_format.specs.declared.Header.{Header}
 use Rattle.graph_format.specs.Format.{headerRules, headerOf, modulesAt, symbolsAt, statementsAt, entriesAt, kindOf}
-use Rattle.graph_tables.specs.Tables.{itemsOf, headerIn, modulesIn, symbolsIn, statementsIn, entriesIn, ModuleTable, SymbolTable, StatementTable, EntryTable}
+use Rattle.graph_tables.specs.Tables.{itemsOf, headerIn, modulesIn, symbolsIn, statementsIn, entriesIn}
 
 -- the decoded graph: the header's numbers, the helper symbols, the modules, the symbols, the statements by module, the entries
 pub record Graph : Type 0 where
@@ -103,13 +103,6 @@ tailWalk numbers at =
 unfoldable pub bodyWalk : List ℕ → ℕ → Walk
 bodyWalk numbers at = onward (walkOf (symbolsAt (headerIn numbers) (modulesIn numbers) numbers at)) (λ q. tailWalk numbers q)
 
--- the tables of an accepted graph
-pub record Tables (numbers modules symbols firsts statements entries : List ℕ) : Type 0 where
-  pub of-modules : ModuleTable numbers modules
-  pub of-symbols : SymbolTable numbers symbols
-  pub of-statements : StatementTable numbers firsts statements
-  pub of-entries : EntryTable numbers entries
-
 -- what is known of a walk that has not ended in a fault
 pub record OnceRead (r : Walk) (X : Type 0) : Type 0 where
   pub known : (q : ℕ) → r ≡ At q → X
@@ -117,14 +110,6 @@ pub record OnceRead (r : Walk) (X : Type 0) : Type 0 where
 -- of numbers that are accepted
 pub record OnceAccepted (r : Checked) (X : Type 0) : Type 0 where
   pub known : r ≡ Accepted → X
-
--- tables of such lengths hold a graph of such counts
-pub record Room (h : Header) (modules symbols firsts statements entries : ℕ) : Type 0 where
-  pub modules-fit : h .modules ≤ modules
-  pub symbols-fit : h .symbols ≤ symbols
-  pub firsts-fit : h .modules ≤ firsts
-  pub statements-fit : h .statements ≤ statements
-  pub entries-fit : h .entries ≤ entries
 
 -- the header has been read without a fault, and this is it
 pub record HeaderRead (numbers : List ℕ) (h : Header) : Type 0 where

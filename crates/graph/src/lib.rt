@@ -6,10 +6,20 @@ ghost use mathlib.Core.Bool.{Bool, true, false};
 ghost use lib.ListN.{length, getD, drop};
 ghost use Rattle.rows.specs.Walk.{walkOf, cells, noItem};
 ghost use Rattle.graph_format.specs.Format.{headerRules};
-ghost use Rattle.graph_tables.specs.Tables.{endOf, headerIn, modulesRead, modulesIn, symbolsRead, symbolsIn, ModuleTable, SymbolTable, StatementTable, EntryTable};
-ghost use Rattle.graph.specs.Check.{graphAt, tailWalk, bodyWalk, graphIn, each, runtimeNormal, ownsNamespace, rootIsRoot, laterRules, checkOf, answerOf, Tables, OnceRead, OnceAccepted, Room, HeaderRead};
+ghost use Rattle.graph_tables.specs.Tables.{endOf, headerIn, modulesRead, modulesIn, symbolsRead, symbolsIn};
+ghost use Rattle.graph_tables.specs.Places.{ModuleTable, SymbolTable, StatementTable, EntryTable};
+ghost use Rattle.graph.specs.Check.{graphAt, tailWalk, bodyWalk, graphIn, each, runtimeNormal, ownsNamespace, rootIsRoot, laterRules, checkOf, answerOf, OnceRead, OnceAccepted, HeaderRead};
+ghost use Rattle.graph.specs.Loaded.{Places, Loaded};
+ghost use Rattle.tables.specs.Layout.{startOf, Laid, Kept, modulePlaces, symbolPlaces, firstStatements, statementPlaces, entryPlaces, FitsSize};
+ghost use Rattle.tables.specs.declared.Size.the-variants.{Small, Middle, Large};
 use graph_format::Header;
 use rows::Walk;
+use tables::LARGE_PLACES;
+use tables::MIDDLE_PLACES;
+use tables::MODULES;
+use tables::SMALL_PLACES;
+use tables::SYMBOLS;
+use tables::Size;
 
 // How the check of a graph ends: accepted, or with a refusal's number and its place.
 pub enum Checked {
@@ -150,89 +160,60 @@ fn later(numbers: &[u32], h: Header, modules: &[usize], symbols: &[usize]) -> Wa
     Walk::Fault(3, 1)
 }
 
-// Reads the statements and the entries from `at` on, and fills their tables.
-fn tail(
-    numbers: &[u32],
-    h: Header,
-    at: usize,
-    modules: &[usize],
-    firsts: &mut [usize],
-    statements: &mut [usize],
-    entries: &mut [usize],
-) -> Walk
-    requires { ⌜ ModuleTable (now numbers) (now modules) ⌝ }
+// Reads the statements and the entries from `at` on, and fills their sections.
+fn tail(numbers: &[u32], h: Header, at: usize, tables: &mut [usize]) -> Walk
+    requires { ⌜ Laid h 5 (now tables) × ModuleTable (now numbers) (modulePlaces (now tables)) ⌝ }
     requires { ⌜ (h ≡ headerIn (now numbers)) × (at ≡ endOf (symbolsRead (now numbers))) ⌝ }
-    requires { ⌜ (h .modules ≤ length (now firsts)) × (h .statements ≤ length (now statements)) × (h .entries ≤ length (now entries)) ⌝ }
-    ensures { λ r. ⌜ (r ≡ tailWalk (now (numbers .entry)) at) × OnceRead r (StatementTable (now (numbers .entry)) (now (firsts .exit)) (now (statements .exit)) × EntryTable (now (numbers .entry)) (now (entries .exit))) ⌝ }
+    ensures { λ r. ⌜ (r ≡ tailWalk (now (numbers .entry)) at) × OnceRead r (StatementTable (now (numbers .entry)) (firstStatements (now (tables .exit))) (statementPlaces (now (tables .exit))) × EntryTable (now (numbers .entry)) (entryPlaces (now (tables .exit)))) × Kept (startOf h 2) (now (tables .entry)) (now (tables .exit)) ⌝ }
 {
-    match graph_tables::statements(numbers, modules, at, h, firsts, statements) {
+    match graph_tables::statements(numbers, at, h, tables) {
         Walk::Fault(n, p) => Walk::Fault(n, p),
-        Walk::At(q) => graph_entries::entries(numbers, modules, q, h, entries),
+        Walk::At(q) => graph_entries::entries(numbers, q, h, tables),
     }
 }
 
-// Reads the symbols, the statements and the entries from `at` on, and fills their tables.
-fn body(
-    numbers: &[u32],
-    h: Header,
-    at: usize,
-    modules: &[usize],
-    symbols: &mut [usize],
-    firsts: &mut [usize],
-    statements: &mut [usize],
-    entries: &mut [usize],
-) -> Walk
-    requires { ⌜ ModuleTable (now numbers) (now modules) ⌝ }
+// Reads the symbols, the statements and the entries from `at` on, and fills their sections.
+fn body(numbers: &[u32], h: Header, at: usize, tables: &mut [usize]) -> Walk
+    requires { ⌜ Laid h 5 (now tables) × ModuleTable (now numbers) (modulePlaces (now tables)) ⌝ }
     requires { ⌜ (h ≡ headerIn (now numbers)) × (at ≡ endOf (modulesRead (now numbers))) × (h .symbols < 4294967296) ⌝ }
-    requires { ⌜ Room h (length (now modules)) (length (now symbols)) (length (now firsts)) (length (now statements)) (length (now entries)) ⌝ }
-    ensures { λ r. ⌜ (r ≡ bodyWalk (now (numbers .entry)) at) × OnceRead r (SymbolTable (now (numbers .entry)) (now (symbols .exit)) × StatementTable (now (numbers .entry)) (now (firsts .exit)) (now (statements .exit)) × EntryTable (now (numbers .entry)) (now (entries .exit))) ⌝ }
+    ensures { λ r. ⌜ (r ≡ bodyWalk (now (numbers .entry)) at) × OnceRead r (SymbolTable (now (numbers .entry)) (symbolPlaces (now (tables .exit))) × StatementTable (now (numbers .entry)) (firstStatements (now (tables .exit))) (statementPlaces (now (tables .exit))) × EntryTable (now (numbers .entry)) (entryPlaces (now (tables .exit)))) × Kept (startOf h 1) (now (tables .entry)) (now (tables .exit)) ⌝ }
 {
-    match graph_tables::symbols(numbers, modules, at, h, symbols) {
+    match graph_tables::symbols(numbers, at, h, tables) {
         Walk::Fault(n, p) => Walk::Fault(n, p),
-        Walk::At(q) => tail(numbers, h, q, modules, firsts, statements, entries),
+        Walk::At(q) => tail(numbers, h, q, tables),
     }
 }
 
-// Reads all parts of the graph behind the header, and fills the tables.
-fn parts(
-    numbers: &[u32],
-    h: Header,
-    modules: &mut [usize],
-    symbols: &mut [usize],
-    firsts: &mut [usize],
-    statements: &mut [usize],
-    entries: &mut [usize],
-) -> Walk
+// Reads all parts of the graph behind the header, and fills the five sections of places.
+fn parts(numbers: &[u32], h: Header, tables: &mut [usize]) -> Walk
     requires { ⌜ (h ≡ headerIn (now numbers)) × (h .modules < 4294967296) × (h .symbols < 4294967296) × (h .statements < 4294967296) ⌝ }
-    requires { ⌜ Room h (length (now modules)) (length (now symbols)) (length (now firsts)) (length (now statements)) (length (now entries)) ⌝ }
-    ensures { λ r. ⌜ (r ≡ walkOf (graphAt h (now (numbers .entry)) 7)) × OnceRead r (Tables (now (numbers .entry)) (now (modules .exit)) (now (symbols .exit)) (now (firsts .exit)) (now (statements .exit)) (now (entries .exit))) ⌝ }
+    requires { ⌜ Laid h 5 (now tables) ⌝ }
+    ensures { λ r. ⌜ (r ≡ walkOf (graphAt h (now (numbers .entry)) 7)) × OnceRead r (Places (now (numbers .entry)) (now (tables .exit))) × Kept (startOf h 0) (now (tables .entry)) (now (tables .exit)) ⌝ }
 {
     match rows::plain_rows(numbers, 7, h.helpers, 1, h.symbols, 0, 0) {
         Walk::Fault(n, p) => Walk::Fault(n, p),
-        Walk::At(a) => match graph_tables::modules(numbers, a, h, modules) {
+        Walk::At(a) => match graph_tables::modules(numbers, a, h, tables) {
             Walk::Fault(n, p) => Walk::Fault(n, p),
-            Walk::At(b) => body(numbers, h, b, modules, symbols, firsts, statements, entries),
+            Walk::At(b) => body(numbers, h, b, tables),
         },
     }
 }
 
-// Checks the numbers behind their header, and fills the tables.
-pub fn load(
-    numbers: &[u32],
-    h: Header,
-    modules: &mut [usize],
-    symbols: &mut [usize],
-    firsts: &mut [usize],
-    statements: &mut [usize],
-    entries: &mut [usize],
-) -> Checked
+// Lays the tables out, checks the numbers behind their header, and fills the five sections of places.
+pub fn load(numbers: &[u32], h: Header, tables: &mut [usize]) -> Checked
     requires { ⌜ HeaderRead (now numbers) h ⌝ }
-    requires { ⌜ Room h (length (now modules)) (length (now symbols)) (length (now firsts)) (length (now statements)) (length (now entries)) ⌝ }
-    ensures { λ r. ⌜ (r ≡ answerOf (checkOf (now (numbers .entry)))) × OnceAccepted r (Tables (now (numbers .entry)) (now (modules .exit)) (now (symbols .exit)) (now (firsts .exit)) (now (statements .exit)) (now (entries .exit))) ⌝ }
+    requires { ⌜ (startOf h 5 ≤ length (now tables)) × (length (now tables) < 4294967296) ⌝ }
+    ensures { λ r. ⌜ (r ≡ answerOf (checkOf (now (numbers .entry)))) × OnceAccepted r (Loaded (now (numbers .entry)) (now (tables .exit))) ⌝ }
 {
-    match parts(numbers, h, modules, symbols, firsts, statements, entries) {
+    tables::lay_out(tables, h);
+    match parts(numbers, h, tables) {
         Walk::Fault(n, p) => Checked::Refused(n, p),
-        Walk::At(q) => match later(numbers, h, modules, symbols) {
+        Walk::At(q) => match later(
+            numbers,
+            h,
+            tables::section(tables, MODULES),
+            tables::section(tables, SYMBOLS),
+        ) {
             Walk::Fault(n, p) => Checked::Refused(n, p),
             Walk::At(_) => {
                 if q < numbers.len() {
@@ -244,94 +225,43 @@ pub fn load(
     }
 }
 
-// Whether a graph has at most so many modules, symbols, statements and entries.
-pub fn fits(h: Header, modules: usize, symbols: usize, statements: usize, entries: usize) -> bool
-    ensures { λ r. ⌜ (r ≡ true → Room h modules symbols modules statements entries) ⌝ }
+// Which tables hold a graph whose header is read.
+pub fn size_for(numbers: &[u32], h: Header) -> Size
+    requires { ⌜ HeaderRead (now numbers) h ⌝ }
+    ensures { λ r. ⌜ FitsSize h r ⌝ }
 {
-    if h.modules > modules {
-        return false;
-    }
-    if h.symbols > symbols {
-        return false;
-    }
-    if h.statements > statements {
-        return false;
-    }
-    if h.entries > entries {
-        return false;
-    }
-    true
+    tables::size_for(h)
 }
 
 // The check with tables for a small graph.
 fn check_small(numbers: &[u32], h: Header) -> Checked
-    requires { ⌜ HeaderRead (now numbers) h ⌝ }
-    requires { ⌜ Room h 16 64 16 64 16 ⌝ }
+    requires { ⌜ HeaderRead (now numbers) h × FitsSize h Small ⌝ }
     ensures { λ r. ⌜ r ≡ answerOf (checkOf (now (numbers .entry))) ⌝ }
 {
-    let mut modules = [0usize; 16];
-    let mut symbols = [0usize; 64];
-    let mut firsts = [0usize; 16];
-    let mut statements = [0usize; 64];
-    let mut entries = [0usize; 16];
-    load(
-        numbers,
-        h,
-        &mut modules,
-        &mut symbols,
-        &mut firsts,
-        &mut statements,
-        &mut entries,
-    )
+    let mut tables = [0usize; SMALL_PLACES];
+    load(numbers, h, &mut tables)
 }
 
-// The check with tables for a graph of middle size. `again` is 0: the call of itself keeps a compiler from merging this
-// frame into its caller's (docs/DECISIONS.md).
+// The check with tables for a graph of middle size. `again` is 0 (`frames::apart`).
 fn check_middle(numbers: &[u32], h: Header, again: usize) -> Checked
-    requires { ⌜ HeaderRead (now numbers) h ⌝ }
-    requires { ⌜ Room h 128 1024 128 1024 128 ⌝ }
+    requires { ⌜ HeaderRead (now numbers) h × FitsSize h Middle ⌝ }
     ensures { λ r. ⌜ r ≡ answerOf (checkOf (now (numbers .entry))) ⌝ }
 {
-    let mut modules = [0usize; 128];
-    let mut symbols = [0usize; 1024];
-    let mut firsts = [0usize; 128];
-    let mut statements = [0usize; 1024];
-    let mut entries = [0usize; 128];
-    let answer = load(
-        numbers,
-        h,
-        &mut modules,
-        &mut symbols,
-        &mut firsts,
-        &mut statements,
-        &mut entries,
-    );
+    let mut tables = [0usize; MIDDLE_PLACES];
+    let answer = load(numbers, h, &mut tables);
     if again > 0 {
         return check_middle(numbers, h, again - 1);
     }
     answer
 }
 
-// The check with tables for the largest graph. `again` is 0: the call of itself keeps a compiler from merging this
-// frame into its caller's (docs/DECISIONS.md).
+// The check with tables for the largest graph. `again` is 0 (`frames::apart`).
 fn check_large(numbers: &[u32], h: Header, again: usize) -> Checked
-    requires { ⌜ HeaderRead (now numbers) h ⌝ }
+    requires { ⌜ HeaderRead (now numbers) h × FitsSize h Large ⌝ }
     ensures { λ r. ⌜ r ≡ answerOf (checkOf (now (numbers .entry))) ⌝ }
 {
-    let mut modules = [0usize; 1024];
-    let mut symbols = [0usize; 16384];
-    let mut firsts = [0usize; 1024];
-    let mut statements = [0usize; 16384];
-    let mut entries = [0usize; 1024];
-    let answer = load(
-        numbers,
-        h,
-        &mut modules,
-        &mut symbols,
-        &mut firsts,
-        &mut statements,
-        &mut entries,
-    );
+    let mut tables = [0usize; LARGE_PLACES];
+    let answer = load(numbers, h, &mut tables);
     if again > 0 {
         return check_large(numbers, h, again - 1);
     }
@@ -346,13 +276,12 @@ pub fn check(numbers: &[u32]) -> Checked
         Walk::Fault(n, p) => Checked::Refused(n, p),
         Walk::At(_) => {
             let h = header_of(numbers);
-            if fits(h, 16, 64, 64, 16) {
-                return check_small(numbers, h);
+            let size = size_for(numbers, h);
+            match size {
+                Size::Small => check_small(numbers, h),
+                Size::Middle => check_middle(numbers, h, frames::apart(numbers)),
+                Size::Large => check_large(numbers, h, frames::apart(numbers)),
             }
-            if fits(h, 128, 1024, 1024, 128) {
-                return check_middle(numbers, h, rows::apart(numbers));
-            }
-            check_large(numbers, h, rows::apart(numbers))
         }
     }
 }

@@ -1,11 +1,11 @@
 -- Lists of rows of fixed width: where each stands, and its numbers.
-use Prim.Native.Nat.{ℕ, zero, suc, _+_, _-_, _*_, _<_, _≤_}
-use mathlib.Core.Path.{_≡_, refl, ap, _∙_, sym}
+use Prim.Native.Nat.{ℕ, zero, suc, _+_, _-_, _*_, _<_}
+use mathlib.Core.Path.{_≡_, refl, _∙_, sym}
 use mathlib.Core.Bool.{Bool, true, false}
-use mathlib.Core.List.{List, [], _∷_, _++_, map}
+use mathlib.Core.List.{List, [], _∷_, map}
 use native.Mathlib.Omega.{arith}
 use lib.ListN.{length, getD, length-map}
-use Rattle.rows.specs.Walk.{Parsed, got, fault, below, ListRule, list, lists, repeated, plainRow, distinctRow, plain, distinct, Item, noItem}
+use Rattle.rows.specs.Walk.{got, below, ListRule, list, lists, repeated, plainRow, distinctRow, plain, distinct}
 use Rattle.rows.proofs.Cells.{Cells, no-fault}
 use Rattle.rows.proofs.Items.{ListRead, list-got, lists-first, rows-end, rows-each, plain-plain}
 use Rattle.graph_access.specs.Lists.{placeOf, Inside}

@@ -1,3 +1,12 @@
 pub mod Fixed
 pub mod OfItems
 pub mod Ranges
+pub mod Column
+pub mod OfStatements
+pub mod ReadReferences
+pub mod StatementRanges
+pub mod OfEntries
+pub mod EntryRanges
+pub mod StatementNumbers
+pub mod StatementParts
+pub mod Indexes

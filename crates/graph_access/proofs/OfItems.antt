@@ -1,17 +1,15 @@
 -- The lists of a module and of a symbol.
-use Prim.Native.Nat.{ℕ, zero, suc, _+_, _-_, _*_, _<_, _≤_}
-use mathlib.Core.Path.{_≡_, refl, ap, _∙_, sym}
-use mathlib.Core.List.{List, [], _∷_, _++_, map}
-use native.Mathlib.Omega.{arith}
-use lib.ListN.{length, getD}
-use Rattle.rows.specs.Walk.{plain, distinct, Item, noItem, any}
-use Rattle.rows.proofs.Items.{ItemRead}
+use Prim.Native.Nat.{ℕ, _+_, _-_, _<_}
+use mathlib.Core.List.{List, [], _∷_}
+use lib.ListN.{getD}
+use Rattle.rows.specs.Walk.{noItem, any}
 use Rattle.graph_format.specs.declared.Header.{Header}
-use Rattle.graph_format.specs.Format.{moduleRules, importLists, exportLists, nameLists, moduleLists, symbolRules, symbolLists, ownersStatements, statementsOf}
-use Rattle.graph_tables.specs.Tables.{headerIn, modulesIn, symbolsIn, ModuleTable, SymbolTable}
-use Rattle.graph_tables.proofs.Facts.{its-place, its-read, symbol-place, symbol-read}
+use Rattle.graph_format.specs.Format.{moduleRules, importLists, exportLists, nameLists, moduleLists, symbolRules, symbolLists}
+use Rattle.graph_tables.specs.Tables.{headerIn, modulesIn, symbolsIn}
+use Rattle.graph_tables.specs.Places.{ModuleTable, SymbolTable}
+use Rattle.graph_tables.proofs.Facts.{its-read, symbol-read}
 use Rattle.graph_access.specs.Lists.{placeOf, Inside, moduleWidths, symbolWidths}
-use Rattle.graph_access.proofs.Fixed.{Columns, AllColumns, of-plain, of-distinct, plain-columns, Stands, each-stands, each-inside}
+use Rattle.graph_access.proofs.Fixed.{AllColumns, of-plain, of-distinct, plain-columns, Stands, each-stands, each-inside}
 
 abbrev pub module-columns : (h : Header) (numbers : List ℕ) (n : ℕ) → AllColumns numbers (moduleLists h numbers n) moduleWidths
 unfolding moduleLists importLists exportLists nameLists moduleWidths

@@ -1,16 +1,15 @@
 -- What is accepted is well formed: every number of a module's and a symbol's lists is below its limit.
-use Prim.Native.Nat.{ℕ, zero, suc, _+_, _-_, _*_, _<_, _≤_}
-use mathlib.Core.Path.{_≡_, refl, ap, _∙_, sym}
-use mathlib.Core.List.{List, [], _∷_, _++_, map}
+use Prim.Native.Nat.{ℕ, zero, suc, _+_, _-_, _<_}
+use mathlib.Core.Path.{_≡_, ap}
+use mathlib.Core.List.{List, [], _∷_, map}
 use native.Mathlib.Omega.{arith}
-use lib.Dec.{eqb}
 use lib.ListN.{length, getD, length-map, List·getD-map}
-use Rattle.rows.specs.Walk.{Parsed, got, fault, Rule, value, below, any, ListRule, list, lists, plainRow, Item, noItem}
-use Rattle.rows.proofs.Cells.{Cells, Obeys}
-use Rattle.rows.proofs.Items.{ItemRead, ListRead, list-got, lists-first, rows-each}
-use Rattle.graph_format.specs.declared.Header.{Header}
-use Rattle.graph_format.specs.Format.{moduleRules, namespaceLimit, importLists, exportLists, nameLists, moduleLists, symbolRules, symbolLists, ownersStatements, statementsOf}
-use Rattle.graph_tables.specs.Tables.{headerIn, modulesIn, symbolsIn, ModuleTable, SymbolTable}
+use Rattle.rows.specs.Walk.{got, value, below, ListRule, list, lists, Item, noItem}
+use Rattle.rows.proofs.Cells.{Obeys}
+use Rattle.rows.proofs.Items.{list-got, lists-first, rows-each}
+use Rattle.graph_format.specs.Format.{moduleRules, importLists, exportLists, nameLists, moduleLists, symbolRules, symbolLists, statementsOf}
+use Rattle.graph_tables.specs.Tables.{headerIn, modulesIn, symbolsIn}
+use Rattle.graph_tables.specs.Places.{ModuleTable, SymbolTable}
 use Rattle.graph_tables.proofs.Facts.{its-read, symbol-read}
 use Rattle.graph_access.specs.Lists.{moduleWidths, symbolWidths, moduleLimits, symbolLimits}
 use Rattle.graph_access.proofs.Fixed.{Columns, AllColumns}

@@ -1,2 +1,4 @@
 pub mod Lists
 pub mod Names
+pub mod Words
+pub mod References

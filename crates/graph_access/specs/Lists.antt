@@ -3,7 +3,7 @@ use Prim.Native.Nat.{ℕ, zero, suc, _+_, _*_, _<_, _≤_}
 use mathlib.Core.Path.{_≡_}
 use mathlib.Core.List.{List, [], _∷_}
 use lib.ListN.{length, getD}
-use Rattle.rows.specs.Walk.{Item, noItem, any}
+use Rattle.rows.specs.Walk.{any}
 use Rattle.graph_format.specs.declared.Header.{Header}
 
 -- the place of list j, where the first stands at `at` and list i has rows of as many numbers as `widths` says
@@ -24,10 +24,6 @@ moduleWidths = 3 ∷ 1 ∷ 1 ∷ 1 ∷ 1 ∷ 1 ∷ 3 ∷ 2 ∷ 2 ∷ 2 ∷ []
 -- of a symbol's lists
 unfoldable pub symbolWidths : List ℕ
 symbolWidths = 1 ∷ 1 ∷ 1 ∷ []
-
--- a symbol's canonical symbol: its root, which is its own root (L9 follows links here)
-unfoldable pub rootOf : List Item → ℕ → ℕ
-rootOf symbols s = getD (getD symbols s noItem .head) 2 0
 
 -- The limits of the columns of a module's lists, where it has n statements; of a symbol's, where its owner has. Document 01, "The graph".
 unfoldable pub moduleLimits : Header → ℕ → List (List ℕ)

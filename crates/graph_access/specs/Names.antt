@@ -42,8 +42,8 @@ unfoldable pub scanStatementCount : Item → ℕ
 scanStatementCount x = getD (x .head) 11 0
 
 -- its ten lists,
-unfoldable pub records : Item → List (List ℕ)
-records x = getD (x .rows) 0 []
+unfoldable pub importRecords : Item → List (List ℕ)
+importRecords x = getD (x .rows) 0 []
 
 unfoldable pub dependencies : Item → List (List ℕ)
 dependencies x = getD (x .rows) 1 []
@@ -72,19 +72,19 @@ enumMembers x = getD (x .rows) 8 []
 unfoldable pub moduleHelpers : Item → List (List ℕ)
 moduleHelpers x = getD (x .rows) 9 []
 
--- and their columns: a record (target +1, kind, bits), a resolved export (name, symbol, from CommonJS), a CommonJS namespace (symbol,
+-- and their columns: an import record (target +1, kind, bits), a resolved export (name, symbol, from CommonJS), a CommonJS namespace (symbol,
 -- module), an enum member (symbol name, member), a helper (helper, statement). The rows of the other lists are one number, `only`.
 unfoldable pub only : List ℕ → ℕ
 only row = getD row 0 0
 
-unfoldable pub recordTarget : List ℕ → ℕ
-recordTarget row = getD row 0 0
+unfoldable pub importRecordTarget : List ℕ → ℕ
+importRecordTarget row = getD row 0 0
 
-unfoldable pub recordKind : List ℕ → ℕ
-recordKind row = getD row 1 0
+unfoldable pub importRecordKind : List ℕ → ℕ
+importRecordKind row = getD row 1 0
 
-unfoldable pub recordBits : List ℕ → ℕ
-recordBits row = getD row 2 0
+unfoldable pub importRecordBits : List ℕ → ℕ
+importRecordBits row = getD row 2 0
 
 unfoldable pub exportName : List ℕ → ℕ
 exportName row = getD row 0 0
@@ -145,8 +145,8 @@ writtenPropertyStatements x = getD (x .rows) 2 []
 unfoldable pub statementBits : Item → ℕ
 statementBits x = getD (x .head) 0 0
 
-unfoldable pub statementRecords : Item → List (List ℕ)
-statementRecords x = getD (x .rows) 0 []
+unfoldable pub statementImportRecords : Item → List (List ℕ)
+statementImportRecords x = getD (x .rows) 0 []
 
 unfoldable pub references : Item → List (List ℕ)
 references x = getD (x .rows) 1 []
@@ -171,7 +171,7 @@ firstProperty row = getD row 4 0
 unfoldable pub dependedOn : List ℕ → List ℕ
 dependedOn row = drop 3 row
 
--- An entry: its two numbers and its list of related statements (module, statement, record, unreachable)
+-- An entry: its two numbers and its list of related statements (module, statement, import record, unreachable)
 unfoldable pub entryModule : Item → ℕ
 entryModule x = getD (x .head) 0 0
 
@@ -187,8 +187,8 @@ relatedModule row = getD row 0 0
 unfoldable pub relatedStatement : List ℕ → ℕ
 relatedStatement row = getD row 1 0
 
-unfoldable pub relatedRecord : List ℕ → ℕ
-relatedRecord row = getD row 2 0
+unfoldable pub relatedImportRecord : List ℕ → ℕ
+relatedImportRecord row = getD row 2 0
 
 unfoldable pub unreachable : List ℕ → ℕ
 unreachable row = getD row 3 0

@@ -15,7 +15,7 @@ use Rattle.rows.proofs.Items.{got-same}
 use mathlib.Core.Bool.{Bool, true, false}
 use lib.Dec.{eqb}
 use Rattle.graph_format.specs.declared.Header.{Header}
-use Rattle.graph_format.specs.Format.{kindOf, statementsOf, recordsOf, relatedModuleAt, relatedRecordAt, relatedAt, entryAt}
+use Rattle.graph_format.specs.Format.{kindOf, statementsOf, importRecordsOf, relatedModuleAt, relatedImportRecordAt, relatedAt, entryAt}
 use Rattle.graph_format.proofs.Chains.{lists-one}
 use Rattle.graph_tables.proofs.OneItem.{item-go, item-stop, item-place}
 
@@ -42,19 +42,19 @@ module _ (h : Header) (ms : List Item) (numbers : List ℕ) (at : ℕ) where
   unfolding relatedModuleAt
   module-external m k e s i o = then-at _ e ∙ rw (sym s, sym i, ne-eqb k 1 o)
 
-module _ (records : List (List ℕ)) (numbers : List ℕ) (at count : ℕ) (is : count ≡ length records) where
-  pub record-stop : {n p : ℕ} → walkOf (number (below count) numbers at) ≡ Fault n p → walkOf (relatedRecordAt records numbers at) ≡ Fault n p
-  unfolding relatedRecordAt walkOf
+module _ (importRecords : List (List ℕ)) (numbers : List ℕ) (at count : ℕ) (is : count ≡ length importRecords) where
+  pub record-stop : {n p : ℕ} → walkOf (number (below count) numbers at) ≡ Fault n p → walkOf (relatedImportRecordAt importRecords numbers at) ≡ Fault n p
+  unfolding relatedImportRecordAt walkOf
   record-stop {n} {p} e = ap walkOf (then-fault _ (rw is at (fault-is (number (below count) numbers at) n p e)))
 
-  pub record-none : {x q : ℕ} (k t : ℕ) → number (below count) numbers at ≡ got x q → k ≡ x → t ≡ getD (getD records k []) 0 0 → t ≡ 0 → relatedRecordAt records numbers at ≡ fault 3 at
-  unfolding relatedRecordAt
+  pub record-none : {x q : ℕ} (k t : ℕ) → number (below count) numbers at ≡ got x q → k ≡ x → t ≡ getD (getD importRecords k []) 0 0 → t ≡ 0 → relatedImportRecordAt importRecords numbers at ≡ fault 3 at
+  unfolding relatedImportRecordAt
   record-none k t e s i o = then-at _ (rw is at e) ∙ rw (sym s, sym i, o)
 
-  pub record-some : {x q : ℕ} (k t : ℕ) → number (below count) numbers at ≡ got x q → k ≡ x → t ≡ getD (getD records k []) 0 0 → t ≢ 0 → relatedRecordAt records numbers at ≡ got k q
-  unfolding relatedRecordAt
+  pub record-some : {x q : ℕ} (k t : ℕ) → number (below count) numbers at ≡ got x q → k ≡ x → t ≡ getD (getD importRecords k []) 0 0 → t ≢ 0 → relatedImportRecordAt importRecords numbers at ≡ got k q
+  unfolding relatedImportRecordAt
   record-some {x} {q} k t e s i o =
-      let j : t ≡ getD (getD records x []) 0 0 = rw s at i in
+      let j : t ≡ getD (getD importRecords x []) 0 0 = rw s at i in
       then-at _ (rw is at e) ∙ rw (sym j, ne-eqb t 0 o) (ap (λ y. got y q) (sym s))
 
 -- the four numbers of a related statement
@@ -72,16 +72,16 @@ module _ (h : Header) (ms : List Item) (numbers seen : List ℕ) (at : ℕ) wher
       statement-read : number (below (statementsOf (getD ms x noItem))) numbers q ≡ got y o
       statement-read = rw (sym s, sym c) f
 
-      pub related-stop-record : {n p : ℕ} → walkOf (relatedRecordAt (recordsOf (getD ms m noItem)) numbers o) ≡ Fault n p → walkOf (relatedAt h ms numbers seen at) ≡ Fault n p
+      pub related-stop-record : {n p : ℕ} → walkOf (relatedImportRecordAt (importRecordsOf (getD ms m noItem)) numbers o) ≡ Fault n p → walkOf (relatedAt h ms numbers seen at) ≡ Fault n p
       unfolding relatedAt walkOf
       related-stop-record {n} {p} g =
-          let w : relatedRecordAt (recordsOf (getD ms x noItem)) numbers o ≡ fault n p = rw (sym s) (fault-is _ n p g) in
+          let w : relatedImportRecordAt (importRecordsOf (getD ms x noItem)) numbers o ≡ fault n p = rw (sym s) (fault-is _ n p g) in
           ap walkOf (then-at _ e ∙ then-at _ statement-read ∙ then-fault _ w)
 
-      pub related-last : {z u : ℕ} → relatedRecordAt (recordsOf (getD ms m noItem)) numbers o ≡ got z u → walkOf (relatedAt h ms numbers seen at) ≡ walkOf (number (below 2) numbers u)
+      pub related-last : {z u : ℕ} → relatedImportRecordAt (importRecordsOf (getD ms m noItem)) numbers o ≡ got z u → walkOf (relatedAt h ms numbers seen at) ≡ walkOf (number (below 2) numbers u)
       unfolding relatedAt
       related-last {z} {u} g =
-          let w : relatedRecordAt (recordsOf (getD ms x noItem)) numbers o ≡ got z u = rw (sym s) g in
+          let w : relatedImportRecordAt (importRecordsOf (getD ms x noItem)) numbers o ≡ got z u = rw (sym s) g in
           ap walkOf (then-at _ e ∙ then-at _ statement-read ∙ then-at _ w) ∙ walk-map (number (below 2) numbers u) (λ v. x ∷ y ∷ z ∷ v ∷ [])
 
 -- what the module number of a related statement is

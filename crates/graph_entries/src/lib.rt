@@ -4,10 +4,14 @@ ghost use Prim.Native.Nat.{ℕ, _+_, _*_, _<_, _≤_};
 ghost use mathlib.Core.List.{List, [], _∷_};
 ghost use lib.ListN.{length, getD};
 ghost use Rattle.rows.specs.Walk.{walkOf, many, list, firsts, noItem};
-ghost use Rattle.graph_format.specs.Format.{recordsOf, relatedModuleAt, relatedRecordAt, relatedAt, entryAt, entriesAt};
-ghost use Rattle.graph_tables.specs.Tables.{headerIn, modulesIn, Filled, ModuleTable};
+ghost use Rattle.graph_format.specs.Format.{importRecordsOf, relatedModuleAt, relatedImportRecordAt, relatedAt, entryAt, entriesAt};
+ghost use Rattle.graph_tables.specs.Tables.{headerIn, modulesIn};
+ghost use Rattle.graph_tables.specs.Places.{Filled, ModuleTable};
+ghost use Rattle.tables.specs.Layout.{startOf, Laid, Kept, modulePlaces};
 use graph_format::Header;
 use rows::Walk;
+use tables::ENTRIES;
+use tables::MODULES;
 
 // The module of a related statement, which is a normal one.
 fn related_module(numbers: &[u32], modules: &[usize], at: usize, h: Header) -> Walk
@@ -29,18 +33,18 @@ fn related_module(numbers: &[u32], modules: &[usize], at: usize, h: Header) -> W
     }
 }
 
-// A record of module m, which is a resolved one.
-fn related_record(numbers: &[u32], modules: &[usize], at: usize, m: usize) -> Walk
+// An import record of module m, which is a resolved one.
+fn related_import_record(numbers: &[u32], modules: &[usize], at: usize, m: usize) -> Walk
     requires { ⌜ ModuleTable (now numbers) (now modules) ⌝ }
     requires { ⌜ m < headerIn (now numbers) .modules ⌝ }
-    ensures { λ r. ⌜ r ≡ walkOf (relatedRecordAt (recordsOf (getD (modulesIn (now (numbers .entry))) m noItem)) (now (numbers .entry)) at) ⌝ }
+    ensures { λ r. ⌜ r ≡ walkOf (relatedImportRecordAt (importRecordsOf (getD (modulesIn (now (numbers .entry))) m noItem)) (now (numbers .entry)) at) ⌝ }
 {
-    let count = graph_tables::record_count(numbers, modules, m);
+    let count = graph_tables::import_record_count(numbers, modules, m);
     match rows::within(numbers, at, 0, count) {
         Walk::Fault(n, p) => Walk::Fault(n, p),
         Walk::At(q) => {
             let k = rows::wide(numbers[at]);
-            let target = graph_tables::record_number(numbers, modules, m, k, 0);
+            let target = graph_tables::import_record_number(numbers, modules, m, k, 0);
             if target == 0 {
                 Walk::Fault(3, at)
             } else {
@@ -63,7 +67,7 @@ fn related(numbers: &[u32], modules: &[usize], at: usize, h: Header) -> Walk
             let count = graph_tables::module_number(numbers, modules, m, 9);
             match rows::within(numbers, q, 0, count) {
                 Walk::Fault(n, p) => Walk::Fault(n, p),
-                Walk::At(s) => match related_record(numbers, modules, s, m) {
+                Walk::At(s) => match related_import_record(numbers, modules, s, m) {
                     Walk::Fault(n, p) => Walk::Fault(n, p),
                     Walk::At(u) => rows::within(numbers, u, 0, 2),
                 },
@@ -121,27 +125,22 @@ fn entry(numbers: &[u32], modules: &[usize], at: usize, h: Header) -> Walk
     }
 }
 
-// Reads the entries from `at` on, and fills the table.
-pub fn entries(
-    numbers: &[u32],
-    modules: &[usize],
-    at: usize,
-    h: Header,
-    table: &mut [usize],
-) -> Walk
-    requires { ⌜ ModuleTable (now numbers) (now modules) ⌝ }
-    requires { ⌜ (h ≡ headerIn (now numbers)) × (h .entries ≤ length (now table)) ⌝ }
-    ensures { λ r. ⌜ (r ≡ walkOf (entriesAt h (modulesIn (now (numbers .entry))) (now (numbers .entry)) at)) × Filled (entriesAt h (modulesIn (now (numbers .entry))) (now (numbers .entry)) at) 0 (now (table .exit)) ⌝ }
+// Reads the entries from `at` on, and fills their section.
+pub fn entries(numbers: &[u32], at: usize, h: Header, tables: &mut [usize]) -> Walk
+    requires { ⌜ Laid h 5 (now tables) × ModuleTable (now numbers) (modulePlaces (now tables)) ⌝ }
+    requires { ⌜ h ≡ headerIn (now numbers) ⌝ }
+    ensures { λ r. ⌜ (r ≡ walkOf (entriesAt h (modulesIn (now (numbers .entry))) (now (numbers .entry)) at)) × Filled (entriesAt h (modulesIn (now (numbers .entry))) (now (numbers .entry)) at) (startOf h 4) (now (tables .exit)) × Kept (startOf h 4) (now (tables .entry)) (now (tables .exit)) ⌝ }
 {
+    let base = tables[ENTRIES];
     let mut k: usize = 0;
     let mut q = at;
     while k < h.entries {
-        match entry(numbers, modules, q, h) {
+        match entry(numbers, tables::section(tables, MODULES), q, h) {
             Walk::Fault(n, p) => {
                 return Walk::Fault(n, p);
             }
             Walk::At(next) => {
-                table[k] = q;
+                tables[base + k] = q;
                 q = next;
             }
         }

@@ -44,12 +44,12 @@ module _ (h : Header) (numbers : List ℕ) (left : Left) (at : ℕ) where
       g .2 ∙ ap (λ n. walkOf (lists (moduleLists h numbers n) numbers q)) s
 
 -- a statement: its bits, then its lists
-module _ (h : Header) (records : ℕ) (numbers : List ℕ) (i at : ℕ) where
-  pub statement-stop : {n p : ℕ} → walkOf (cells (below 32 ∷ []) numbers at) ≡ Fault n p → walkOf (statementAt h records numbers i at) ≡ Fault n p
+module _ (h : Header) (importRecords : ℕ) (numbers : List ℕ) (i at : ℕ) where
+  pub statement-stop : {n p : ℕ} → walkOf (cells (below 32 ∷ []) numbers at) ≡ Fault n p → walkOf (statementAt h importRecords numbers i at) ≡ Fault n p
   unfolding statementAt
   statement-stop e = item-stop (below 32 ∷ []) _ numbers at e
 
   pub statement-go : {q : ℕ} → walkOf (cells (below 32 ∷ []) numbers at) ≡ At q
-      → walkOf (statementAt h records numbers i at) ≡ walkOf (lists (statementLists h numbers records) numbers q)
+      → walkOf (statementAt h importRecords numbers i at) ≡ walkOf (lists (statementLists h numbers importRecords) numbers q)
   unfolding statementAt
-  statement-go e = item-go (below 32 ∷ []) (λ head. statementLists h numbers records) numbers at e .2
+  statement-go e = item-go (below 32 ∷ []) (λ head. statementLists h numbers importRecords) numbers at e .2

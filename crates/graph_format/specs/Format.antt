@@ -60,7 +60,7 @@ moduleRules h kind left last =
     ∷ below any
     ∷ []
 
--- The ten lists of a module of n statements: records (target+1, kind, bits), dependencies, named imports;
+-- The ten lists of a module of n statements: import records (target+1, kind, bits), dependencies, named imports;
 unfoldable pub importLists : Header → List ℕ → List ListRule
 importLists h numbers = plain numbers ((h .modules + 1) ∷ 3 ∷ 4 ∷ []) ∷ plain numbers (h .modules ∷ []) ∷ plain numbers (h .symbols ∷ []) ∷ []
 
@@ -98,8 +98,8 @@ kindOf m = getD (m .head) 0 0
 unfoldable pub statementsOf : Item → ℕ
 statementsOf m = getD (m .head) 9 0
 
-unfoldable pub recordsOf : Item → List (List ℕ)
-recordsOf m = getD (m .rows) 0 []
+unfoldable pub importRecordsOf : Item → List (List ℕ)
+importRecordsOf m = getD (m .rows) 0 []
 
 -- The six numbers of a symbol: owner, name, root, alias namespace+1, alias name, constant bits.
 unfoldable pub symbolRules : Header → List Rule
@@ -166,7 +166,7 @@ referenceAt symbols numbers seen at =
 abbrev pub referenceList : ℕ → List ℕ → ListRule
 referenceList symbols numbers = record { counts = 16385; row = referenceAt symbols numbers }
 
--- A statement of a module of r records: bits; lists of records and of references.
+-- A statement of a module of r import records: bits; lists of import records and of references.
 unfoldable pub statementLists : Header → List ℕ → ℕ → List ListRule
 statementLists h numbers r = plain numbers (r ∷ []) ∷ referenceList (h .symbols) numbers ∷ []
 
@@ -176,7 +176,7 @@ statementAt h r numbers i at = item (below 32 ∷ []) (λ head. statementLists h
 -- the statements of one module, and of all, by module
 unfoldable pub moduleStatements : Header → List Item → List ℕ → ℕ → ℕ → Parsed (List Item)
 moduleStatements h modules numbers m at =
-    many (statementAt h (length (recordsOf (getD modules m noItem))) numbers) following (statementsOf (getD modules m noItem)) 0 at
+    many (statementAt h (length (importRecordsOf (getD modules m noItem))) numbers) following (statementsOf (getD modules m noItem)) 0 at
 
 unfoldable pub statementsAt : Header → List Item → List ℕ → ℕ → Parsed (List (List Item))
 statementsAt h modules numbers at = many (moduleStatements h modules numbers) (λ m s. m + 1) (h .modules) 0 at
@@ -187,16 +187,16 @@ relatedModuleAt h modules numbers at =
     andThen (number (below (h .modules)) numbers at)
     (λ m q. elim (eqb (kindOf (getD modules m noItem)) 1) [ true ↦ got m q | false ↦ fault 3 at ])
 
-unfoldable pub relatedRecordAt : List (List ℕ) → List ℕ → ℕ → Parsed ℕ
-relatedRecordAt records numbers at =
-    andThen (number (below (length records)) numbers at)
-    (λ r q. elim (eqb (getD (getD records r []) 0 0) 0) [ true ↦ fault 3 at | false ↦ got r q ])
+unfoldable pub relatedImportRecordAt : List (List ℕ) → List ℕ → ℕ → Parsed ℕ
+relatedImportRecordAt importRecords numbers at =
+    andThen (number (below (length importRecords)) numbers at)
+    (λ r q. elim (eqb (getD (getD importRecords r []) 0 0) 0) [ true ↦ fault 3 at | false ↦ got r q ])
 
 unfoldable pub relatedAt : Header → List Item → List ℕ → List ℕ → ℕ → Parsed (List ℕ)
 relatedAt h modules numbers seen at =
     andThen (relatedModuleAt h modules numbers at)
     (λ m q. andThen (number (below (statementsOf (getD modules m noItem))) numbers q)
-    (λ s p. andThen (relatedRecordAt (recordsOf (getD modules m noItem)) numbers p)
+    (λ s p. andThen (relatedImportRecordAt (importRecordsOf (getD modules m noItem)) numbers p)
     (λ r o. andThen (number (below 2) numbers o) (λ u n. got (m ∷ s ∷ r ∷ u ∷ []) n))))
 
 -- An entry: module, kind; a list of related statements.

@@ -272,13 +272,13 @@ fn reference_list(numbers: &[u32], at: usize, symbols: usize) -> Walk
     }
 }
 
-// A statement of a module of `records` records.
-pub fn statement(numbers: &[u32], at: usize, h: Header, records: usize) -> Walk
-    ensures { λ r. ⌜ r ≡ walkOf (statementAt h records (now (numbers .entry)) 0 at) ⌝ }
+// A statement of a module of `import records` import records.
+pub fn statement(numbers: &[u32], at: usize, h: Header, imports: usize) -> Walk
+    ensures { λ r. ⌜ r ≡ walkOf (statementAt h imports (now (numbers .entry)) 0 at) ⌝ }
 {
     match rows::row(numbers, at, 1, 32, 0, 0) {
         Walk::Fault(n, p) => Walk::Fault(n, p),
-        Walk::At(a) => match rows::rows(numbers, a, 16385, false, 1, records, 0, 0) {
+        Walk::At(a) => match rows::rows(numbers, a, 16385, false, 1, imports, 0, 0) {
             Walk::Fault(n, p) => Walk::Fault(n, p),
             Walk::At(b) => reference_list(numbers, b, h.symbols),
         },

@@ -1,24 +1,25 @@
 -- The loop over the statements of all modules.
-use Prim.Native.Nat.{ℕ, zero, suc, _+_, _-_, _*_, _<_, _≤_}
+use Prim.Native.Nat.{ℕ, zero, suc, _+_, _<_, _≤_}
 use mathlib.Core.Path.{_≡_, refl, ap, _∙_, sym}
-use mathlib.Core.Logic.{_≢_}
-use mathlib.Core.List.{List, [], _∷_, _++_, map}
-use native.Mathlib.Decide.{decLt}
-use native.Mathlib.Numerals.{add-one}
+use mathlib.Core.List.{List, [], _∷_, _++_}
 use native.Mathlib.Omega.{arith}
-use lib.ListN.{length, getD, set, length-append, List·getD-append}
+use borrow.Author.Count.{below-more}
+use lib.ListN.{length, getD, set, List·getD-append}
 use lib.Seq.{getD-set-same, getD-set-other, getD-at}
-use Rattle.rows.specs.declared.Walk.{Walk}
 use Rattle.rows.specs.declared.Walk.the-variants.{At, Fault}
-use Rattle.rows.specs.Walk.{Parsed, got, fault, many, walkOf, Item, noItem}
+use Rattle.rows.specs.Walk.{got, many, walkOf, Item, noItem}
 use Rattle.rows.proofs.Walks.{fault-is}
 use Rattle.rows.proofs.Many.{Going, going-start, going-step, going-stop, going-done}
-use Rattle.rows.proofs.Items.{First, many-first, many-length}
+use Rattle.rows.proofs.Items.{many-first, many-length}
 use Rattle.graph_format.specs.declared.Header.{Header}
 use Rattle.graph_format.specs.declared.Left.{Left}
-use Rattle.graph_format.specs.Format.{moduleAt, lessModule, modulesAt, statementsOf, recordsOf, statementAt, following, moduleStatements, statementsAt}
-use Rattle.graph_tables.specs.Tables.{headerIn, modulesRead, modulesIn, Placed, Filled, firstOf, StatementsPlaced, StatementsFilled, ModuleTable}
+use Rattle.graph_format.specs.Format.{moduleAt, lessModule, modulesAt, statementsOf, importRecordsOf, statementAt, following, moduleStatements, statementsAt}
+use Rattle.graph_tables.specs.Tables.{headerIn, modulesRead, modulesIn, firstOf}
+use Rattle.graph_tables.specs.Places.{Placed, StatementsFilled, ModuleTable}
+use Rattle.tables.specs.Layout.{sizes, startOf, firstStatements, statementPlaces, Laid, Kept}
+use Rattle.tables.proofs.Sections.{start-next, section-has, word-kept, kept-none, kept-both, kept-less, kept-set, laid-kept}
 use Rattle.graph_tables.proofs.Facts.{nine-fits, modules-long}
+use Rattle.graph_tables.proofs.Sections.{placed-section}
 
 -- one module more
 pub first-step : (ms : List Item) (m : ℕ) → m < length ms → firstOf ms (m + 1) ≡ firstOf ms m + statementsOf (getD ms m noItem)
@@ -65,100 +66,131 @@ pub first-fits : (numbers table : List ℕ) → ModuleTable numbers table → (m
 unfolding modulesRead modulesAt
 first-fits numbers table t m = all-fit _ numbers _ _ _ (t .read) m
 
-module _ (h : Header) (ms : List Item) (numbers : List ℕ) (at₀ : ℕ) where
+-- the places of the statements begin behind the first statements
+apart : (h : Header) → startOf h 3 ≡ startOf h 2 + h .modules
+unfolding sizes
+apart h = start-next h 2
+
+module _ (h : Header) (ms : List Item) (numbers : List ℕ) (at₀ : ℕ) (before : List ℕ) where
   abbrev next : ℕ → List Item → ℕ
   next m xs = m + 1
 
   -- m modules done, at q; `first` is the number of the next module's first statement
-  pub record Outer (firsts table : List ℕ) (m q first : ℕ) (done : List (List Item)) : Type 0 where
+  pub record Outer (tables : List ℕ) (m q first : ℕ) (done : List (List Item)) : Type 0 where
     pub going : Going (moduleStatements h ms numbers) next (h .modules) 0 at₀ m q m done
     pub sum : first ≡ firstOf ms m
-    pub begun : (j : ℕ) → j < m → getD firsts j 0 ≡ firstOf ms j
+    pub begun : (j : ℕ) → j < m → getD tables (startOf h 2 + j) 0 ≡ firstOf ms j
     pub longs : (j : ℕ) → j < m → length (getD done j []) ≡ statementsOf (getD ms j noItem)
-    pub places : (j : ℕ) → j < m → Placed (firstOf ms j) (getD done j []) table
+    pub places : (j : ℕ) → j < m → Placed (startOf h 3 + firstOf ms j) (getD done j []) tables
+    pub kept : Kept (startOf h 2) before tables
 
-  pub outer-start : (firsts table : List ℕ) → Outer firsts table 0 at₀ 0 []
+  pub outer-start : Outer before 0 at₀ 0 []
   unfolding firstOf
-  outer-start firsts table =
+  outer-start =
       record {
         going = going-start _ _ _ _ _;
         sum = refl;
         begun = λ j l. absurd (omega arith);
         longs = λ j l. absurd (omega arith);
         places = λ j l. absurd (omega arith);
+        kept = kept-none;
       }
 
-  module _ (firsts table later : List ℕ) (m q first p count : ℕ) (done : List (List Item)) (xs : List Item) (o : Outer firsts table m q first done)
-      (l : m < h .modules) (few : m < length ms) (e : moduleStatements h ms numbers m q ≡ got xs p) (room : m < length firsts)
-      (is : count ≡ statementsOf (getD ms m noItem)) (placed : Placed first xs later) (kept : (j : ℕ) → j < first → getD later j 0 ≡ getD table j 0) where
-    long : length done ≡ m
-    long = o .going .long
+module _ {h : Header} {ms : List Item} {numbers : List ℕ} {at₀ : ℕ} {before tables : List ℕ} {m q first : ℕ} {done : List (List Item)} (o : Outer h ms numbers at₀ before tables m q first done) where
+  -- Module m's statements are read, and their places written; word i is to have the number of its first statement.
+  module _ {later : List ℕ} {i : ℕ} (l : m < h .modules) (room : startOf h 3 ≤ length before) (kept : Kept (startOf h 3 + first) tables later) (z : i ≡ startOf h 2 + m) where
+    -- it is in front of the places
+    before-places : i < startOf h 3
+    before-places = omega (arith, z, l, apart h)
 
-    old : (j : ℕ) → j < m → getD (done ++ (xs ∷ [])) j [] ≡ getD done j []
-    old j i = List·getD-append done (xs ∷ []) [] j (omega (arith, long))
+    pub outer-writes : i < length later
+    outer-writes = omega (arith, before-places, room, o .kept .same-length, kept .same-length)
 
-    new : getD (done ++ (xs ∷ [])) m [] ≡ xs
-    new = getD-at done xs [] [] m long
+    module _ {p count : ℕ} {xs : List Item} (few : m < length ms) (e : moduleStatements h ms numbers m q ≡ got xs p) (is : count ≡ statementsOf (getD ms m noItem)) (placed : Placed (startOf h 3 + first) xs later) where
+      long : length done ≡ m
+      long = o .going .long
 
-    size : length xs ≡ statementsOf (getD ms m noItem)
-    unfolding moduleStatements
-    size = many-length _ _ _ _ _ e
+      old : (j : ℕ) → j < m → getD (done ++ (xs ∷ [])) j [] ≡ getD done j []
+      old j b = List·getD-append done (xs ∷ []) [] j (omega (arith, long))
 
-    -- what is said of each module so far, and of this one, is said of one more
-    more : (P : ℕ → Type 0) → ((j : ℕ) → j < m → P j) → P m → (j : ℕ) → j < m + 1 → P j
-    more P a b j i = go (decLt j m)
-      where
-        go : Dec (j < m) → P j
-        go (yes y) = a j y
-        go (no n) = let z : m ≡ j = omega arith in rw z at b
+      new : getD (done ++ (xs ∷ [])) m [] ≡ xs
+      new = getD-at done xs [] [] m long
 
-    begun-old : (j : ℕ) → j < m → getD (set firsts m first) j 0 ≡ firstOf ms j
-    begun-old j i = let d : j ≢ m = λ z. omega arith in getD-set-other firsts m j first 0 d ∙ o .begun j i
+      size : length xs ≡ statementsOf (getD ms m noItem)
+      unfolding moduleStatements
+      size = many-length _ _ _ _ _ e
 
-    -- a place of an earlier module is in front of this one's
-    places-old : (j : ℕ) → j < m → Placed (firstOf ms j) (getD (done ++ (xs ∷ [])) j []) later
-    places-old j i n k =
-        let k′ : n < length (getD done j []) = rw (old j i) at k in
-        let s = first-step ms j (omega (arith, few, i)) in
-        let b : firstOf ms (j + 1) ≤ firstOf ms m = first-mono ms (j + 1) m (omega arith) in
-        let f : firstOf ms j + n < first = omega (arith, s, o .longs j i, o .sum, b, k′) in
-        kept (firstOf ms j + n) f ∙ o .places j i n k′ ∙ ap (λ y. getD y n noItem .place) (sym (old j i))
+      begun-old : (j : ℕ) → j < m → getD (set later i first) (startOf h 2 + j) 0 ≡ firstOf ms j
+      begun-old j b =
+          getD-set-other later i (startOf h 2 + j) first 0 (λ w. omega (arith, w, z, b))
+          ∙ word-kept kept (startOf h 2 + j) (omega (arith, b, l, apart h))
+          ∙ o .begun j b
 
-    pub outer-step : Outer (set firsts m first) later (m + 1) p (first + count) (done ++ (xs ∷ []))
-    outer-step =
-        record {
-          going = going-step _ _ _ _ _ (o .going) l e;
-          sum = omega (arith, first-step ms m few, o .sum, is);
-          begun = more (λ j. getD (set firsts m first) j 0 ≡ firstOf ms j) begun-old (getD-set-same firsts m first 0 room ∙ o .sum);
-          longs = more (λ j. length (getD (done ++ (xs ∷ [])) j []) ≡ statementsOf (getD ms j noItem)) (λ j i. ap length (old j i) ∙ o .longs j i) (ap length new ∙ size);
-          places = more (λ j. Placed (firstOf ms j) (getD (done ++ (xs ∷ [])) j []) later) places-old (rw (new, sym (o .sum)) placed);
-        }
+      begun-new : getD (set later i first) (startOf h 2 + m) 0 ≡ firstOf ms m
+      begun-new = ap (λ j. getD (set later i first) j 0) (sym z) ∙ getD-set-same later i first 0 outer-writes ∙ o .sum
 
-  module _ (firsts table : List ℕ) (m q first : ℕ) (done : List (List Item)) (o : Outer firsts table m q first done) where
-    pub outer-stop : (n p : ℕ) → m < h .modules → walkOf (moduleStatements h ms numbers m q) ≡ Fault n p → Fault n p ≡ walkOf (statementsAt h ms numbers at₀)
+      -- a place of an earlier module is in front of this one's
+      places-old : (j : ℕ) → j < m → Placed (startOf h 3 + firstOf ms j) (getD (done ++ (xs ∷ [])) j []) (set later i first)
+      places-old j b n k =
+          let k′ : n < length (getD done j []) = rw (old j b) at k in
+          let s = first-step ms j (omega (arith, few, b)) in
+          let u : firstOf ms (j + 1) ≤ firstOf ms m = first-mono ms (j + 1) m (omega arith) in
+          getD-set-other later i (startOf h 3 + firstOf ms j + n) first 0 (λ w. omega (arith, w, before-places))
+          ∙ word-kept kept (startOf h 3 + firstOf ms j + n) (omega (arith, s, o .longs j b, o .sum, u, k′))
+          ∙ o .places j b n k′
+          ∙ ap (λ y. getD y n noItem .place) (sym (old j b))
+
+      places-new : Placed (startOf h 3 + firstOf ms m) (getD (done ++ (xs ∷ [])) m []) (set later i first)
+      places-new =
+          rw (new, sym (o .sum)) (λ n k. getD-set-other later i (startOf h 3 + first + n) first 0 (λ w. omega (arith, w, before-places)) ∙ placed n k)
+
+      pub outer-step : Outer h ms numbers at₀ before (set later i first) (m + 1) p (first + count) (done ++ (xs ∷ []))
+      outer-step =
+          record {
+            going = going-step _ _ _ _ _ (o .going) l e;
+            sum = omega (arith, first-step ms m few, o .sum, is);
+            begun = below-more (λ j. getD (set later i first) (startOf h 2 + j) 0 ≡ firstOf ms j) m begun-old begun-new;
+            longs = below-more (λ j. length (getD (done ++ (xs ∷ [])) j []) ≡ statementsOf (getD ms j noItem)) m (λ j b. ap length (old j b) ∙ o .longs j b) (ap length new ∙ size);
+            places = below-more (λ j. Placed (startOf h 3 + firstOf ms j) (getD (done ++ (xs ∷ [])) j []) (set later i first)) m places-old places-new;
+            kept = kept-set (startOf h 2) i first (omega (arith, z)) (kept-both (o .kept) (kept-less (omega (arith, apart h)) kept));
+          }
+
+  -- after a fault nothing is said of the sections
+  pub outer-stop : {n p : ℕ} {later : List ℕ} → m < h .modules → walkOf (moduleStatements h ms numbers m q) ≡ Fault n p → Kept (startOf h 3 + first) tables later
+      → (Fault n p ≡ walkOf (statementsAt h ms numbers at₀)) × StatementsFilled ms (statementsAt h ms numbers at₀) (firstStatements later) (statementPlaces later) × Kept (startOf h 2) before later
+  unfolding statementsAt
+  outer-stop {n} {p} l e q′ =
+      let w = going-stop _ _ _ _ _ (o .going) l e in
+      (w, rw (fault-is _ n p (sym w)) tt, kept-both (o .kept) (kept-less (omega (arith, apart h)) q′))
+
+  module _ (t : Laid h 5 before) (fit : (j : ℕ) → firstOf ms j ≤ h .statements) (few : h .modules ≤ length ms) (l : h .modules ≤ m) where
+    laid : Laid h 5 tables
+    laid = laid-kept t 2 (omega arith) (o .kept)
+
+    done-all : statementsAt h ms numbers at₀ ≡ got done q
     unfolding statementsAt
-    outer-stop n p l e = going-stop _ _ _ _ _ (o .going) l e
+    done-all = going-done _ _ _ _ _ (o .going) l
 
-    pub outer-fault : (n p : ℕ) → m < h .modules → walkOf (moduleStatements h ms numbers m q) ≡ Fault n p → (f t : List ℕ) → StatementsFilled ms (statementsAt h ms numbers at₀) f t
-    outer-fault n p l e f t = rw (fault-is _ n p (sym (outer-stop n p l e))) tt
+    firsts : (j : ℕ) → j < length done → getD (firstStatements tables) j 0 ≡ firstOf ms j
+    unfolding sizes
+    firsts j b = section-has laid 2 (omega arith) j (omega (arith, b, o .going .long, o .going .low)) ∙ o .begun j (omega (arith, b, o .going .long))
 
-    outer-done : h .modules ≤ m → statementsAt h ms numbers at₀ ≡ got done q
-    unfolding statementsAt
-    outer-done l = going-done _ _ _ _ _ (o .going) l
+    places : (j : ℕ) → j < length done → Placed (firstOf ms j) (getD done j []) (statementPlaces tables)
+    unfolding sizes
+    places j b =
+        let c : j < m = omega (arith, b, o .going .long) in
+        let u : firstOf ms j + length (getD done j []) ≤ h .statements = omega (arith, o .longs j c, first-step ms j (omega (arith, c, few, o .going .low)), fit (j + 1)) in
+        placed-section laid 3 (omega arith) (firstOf ms j) (getD done j []) u (o .places j c)
 
-    pub outer-end : h .modules ≤ m → At q ≡ walkOf (statementsAt h ms numbers at₀)
+    pub outer-end : (At q ≡ walkOf (statementsAt h ms numbers at₀)) × StatementsFilled ms (statementsAt h ms numbers at₀) (firstStatements tables) (statementPlaces tables) × Kept (startOf h 2) before tables
     unfolding walkOf
-    outer-end l = sym (ap walkOf (outer-done l))
-
-    pub outer-filled : h .modules ≤ m → StatementsFilled ms (statementsAt h ms numbers at₀) firsts table
-    outer-filled l =
-        rw (outer-done l) (record { firsts = λ j i. o .begun j (omega (arith, o .going .long)); places = λ j i. o .places j (omega (arith, o .going .long)) })
+    outer-end = (sym (ap walkOf done-all), rw done-all (record { firsts = firsts; places = places }), o .kept)
 
 -- the statements of module m, by its counts
-pub as-module : (h : Header) (ms : List Item) (numbers : List ℕ) (m q count records : ℕ) → count ≡ getD (getD ms m noItem .head) 9 0 → records ≡ length (recordsOf (getD ms m noItem))
-    → many (statementAt h records numbers) following count 0 q ≡ moduleStatements h ms numbers m q
+pub as-module : (h : Header) (ms : List Item) (numbers : List ℕ) (m q count importRecords : ℕ) → count ≡ getD (getD ms m noItem .head) 9 0 → importRecords ≡ length (importRecordsOf (getD ms m noItem))
+    → many (statementAt h importRecords numbers) following count 0 q ≡ moduleStatements h ms numbers m q
 unfolding moduleStatements statementsOf
-as-module h ms numbers m q count records c r = rw (c, r)
+as-module h ms numbers m q count importRecords c r = rw (c, r)
 
 -- module m's statements are inside the table
 pub in-table : (numbers table : List ℕ) (t : ModuleTable numbers table) (m count : ℕ) → m < headerIn numbers .modules → count ≡ getD (getD (modulesIn numbers) m noItem .head) 9 0

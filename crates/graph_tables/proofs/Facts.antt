@@ -12,8 +12,9 @@ use Rattle.rows.proofs.Cells.{then-got, Cells}
 use Rattle.rows.proofs.Items.{One, many-length, many-each, ItemRead, item-got, ListRead, list-got, rows-each, plain-plain, lists-first}
 use Rattle.graph_format.specs.declared.Header.{Header}
 use Rattle.graph_format.specs.declared.Left.{Left}
-use Rattle.graph_format.specs.Format.{headerOf, moduleAt, lessModule, modulesAt, statementLimit, moduleRules, importLists, exportLists, nameLists, moduleLists, recordsOf, statementsOf, symbolRules, symbolLists, symbolAt, symbolsAt}
-use Rattle.graph_tables.specs.Tables.{headerIn, itemsOf, modulesRead, modulesIn, symbolsRead, symbolsIn, Placed, ModuleTable, SymbolTable}
+use Rattle.graph_format.specs.Format.{headerOf, moduleAt, lessModule, modulesAt, statementLimit, moduleRules, importLists, exportLists, nameLists, moduleLists, importRecordsOf, statementsOf, symbolRules, symbolLists, symbolAt, symbolsAt}
+use Rattle.graph_tables.specs.Tables.{headerIn, itemsOf, modulesRead, modulesIn, symbolsRead, symbolsIn}
+use Rattle.graph_tables.specs.Places.{Placed, ModuleTable, SymbolTable}
 
 -- a module that was read at its place
 pub record ModuleRead (h : Header) (numbers : List ℕ) (x : Item) : Type 0 where
@@ -58,11 +59,11 @@ module _ (numbers table : List ℕ) (t : ModuleTable numbers table) where
     unfolding moduleRules
     number-same i l = head-read .head .same i l
 
-    abbrev recordColumns : List ℕ
-    recordColumns = (headerIn numbers .modules + 1) ∷ 3 ∷ 4 ∷ []
+    abbrev importRecordColumns : List ℕ
+    importRecordColumns = (headerIn numbers .modules + 1) ∷ 3 ∷ 4 ∷ []
 
-    records-read : (q : ℕ) × ListRead (plain numbers recordColumns) numbers (its .place + 12) (recordsOf its) q
-    unfolding moduleRules moduleLists importLists recordsOf
+    records-read : (q : ℕ) × ListRead (plain numbers importRecordColumns) numbers (its .place + 12) (importRecordsOf its) q
+    unfolding moduleRules moduleLists importLists importRecordsOf
     records-read =
         let f = lists-first _ _ numbers (its .place + 12) (head-read .rows) in
         let e = ap (λ l. getD l 0 []) (f .is) in
@@ -71,12 +72,12 @@ module _ (numbers table : List ℕ) (t : ModuleTable numbers table) where
     pub count-inside : its .place + 12 < length numbers
     count-inside = records-read .1 .inside
 
-    pub count-same : getD numbers (its .place + 12) 0 ≡ length (recordsOf its)
+    pub count-same : getD numbers (its .place + 12) 0 ≡ length (importRecordsOf its)
     count-same = records-read .1 .counted
 
-    pub record-read : (k : ℕ) → k < length (recordsOf its)
-        → Cells (map (λ l. below l) recordColumns) numbers (its .place + 12 + 1 + 3 * k) (getD (recordsOf its) k []) (its .place + 12 + 1 + 3 * k + 3)
-    record-read k l = rows-each recordColumns numbers _ (plain-plain recordColumns numbers) _ [] _ (records-read .1 .rows) k l
+    pub record-read : (k : ℕ) → k < length (importRecordsOf its)
+        → Cells (map (λ l. below l) importRecordColumns) numbers (its .place + 12 + 1 + 3 * k) (getD (importRecordsOf its) k []) (its .place + 12 + 1 + 3 * k + 3)
+    record-read k l = rows-each importRecordColumns numbers _ (plain-plain importRecordColumns numbers) _ [] _ (records-read .1 .rows) k l
 
     -- the same, by the table
     pub at-inside : (i : ℕ) → i < 12 → getD table m 0 + i < length numbers
@@ -88,17 +89,17 @@ module _ (numbers table : List ℕ) (t : ModuleTable numbers table) where
     pub at-count-inside : getD table m 0 + 12 < length numbers
     at-count-inside = rw its-place count-inside
 
-    pub at-count : getD numbers (getD table m 0 + 12) 0 ≡ length (recordsOf its)
+    pub at-count : getD numbers (getD table m 0 + 12) 0 ≡ length (importRecordsOf its)
     at-count = rw its-place count-same
 
-    module _ (k : ℕ) (l : k < length (recordsOf its)) (c : ℕ) (w : c < 3) where
+    module _ (k : ℕ) (l : k < length (importRecordsOf its)) (c : ℕ) (w : c < 3) where
       spot : getD table m 0 + 13 + 3 * k + c ≡ its .place + 12 + 1 + 3 * k + c
       spot = rw its-place (omega arith)
 
       pub at-record-inside : getD table m 0 + 13 + 3 * k + c < length numbers
       at-record-inside = rw spot (record-read k l .inside c w)
 
-      pub at-record : getD numbers (getD table m 0 + 13 + 3 * k + c) 0 ≡ getD (getD (recordsOf its) k []) c 0
+      pub at-record : getD numbers (getD table m 0 + 13 + 3 * k + c) 0 ≡ getD (getD (importRecordsOf its) k []) c 0
       at-record = rw spot (sym (record-read k l .same c w))
 
 limit-fits : (kind left : ℕ) → statementLimit kind left ≤ left + 1

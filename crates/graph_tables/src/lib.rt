@@ -4,11 +4,17 @@ ghost use Prim.Native.Nat.{ℕ, _+_, _*_, _<_, _≤_};
 ghost use mathlib.Core.List.{List, [], _∷_};
 ghost use lib.ListN.{length, getD, drop};
 ghost use Rattle.rows.specs.Walk.{walkOf, many, noItem};
-ghost use Rattle.graph_format.specs.Format.{modulesAt, recordsOf, symbolAt, symbolsAt, statementAt, statementsAt, following};
-ghost use Rattle.graph_tables.specs.Tables.{headerIn, modulesIn, symbolsIn, Filled, StatementsFilled, ModuleTable, SymbolTable};
+ghost use Rattle.graph_format.specs.Format.{modulesAt, importRecordsOf, symbolAt, symbolsAt, statementAt, statementsAt, following};
+ghost use Rattle.graph_tables.specs.Tables.{headerIn, modulesIn, symbolsIn};
+ghost use Rattle.graph_tables.specs.Places.{Filled, StatementsFilled, ModuleTable, SymbolTable};
+ghost use Rattle.tables.specs.Layout.{startOf, Laid, Kept, modulePlaces, firstStatements, statementPlaces};
 use graph_format::Header;
 use graph_format::Left;
 use rows::Walk;
+use tables::FIRST_STATEMENT_OF;
+use tables::MODULES;
+use tables::STATEMENTS;
+use tables::SYMBOLS;
 
 // Number i of the twelve leading numbers of module m.
 pub fn module_number(numbers: &[u32], module_at: &[usize], m: usize, i: usize) -> usize
@@ -20,18 +26,18 @@ pub fn module_number(numbers: &[u32], module_at: &[usize], m: usize, i: usize) -
     rows::wide(numbers[p + i])
 }
 
-// How many records module m has.
-pub fn record_count(numbers: &[u32], module_at: &[usize], m: usize) -> usize
+// How many import records module m has.
+pub fn import_record_count(numbers: &[u32], module_at: &[usize], m: usize) -> usize
     requires { ⌜ ModuleTable (now numbers) (now «module_at») ⌝ }
     requires { ⌜ m < headerIn (now numbers) .modules ⌝ }
-    ensures { λ r. ⌜ r ≡ length (recordsOf (getD (modulesIn (now (numbers .entry))) m noItem)) ⌝ }
+    ensures { λ r. ⌜ r ≡ length (importRecordsOf (getD (modulesIn (now (numbers .entry))) m noItem)) ⌝ }
 {
     let p = module_at[m];
     rows::wide(numbers[p + 12])
 }
 
-// Column `column` of record k of module m: 0 target+1, 1 kind, 2 bits.
-pub fn record_number(
+// Column `column` of import record k of module m: 0 target+1, 1 kind, 2 bits.
+pub fn import_record_number(
     numbers: &[u32],
     module_at: &[usize],
     m: usize,
@@ -39,19 +45,20 @@ pub fn record_number(
     column: usize,
 ) -> usize
     requires { ⌜ ModuleTable (now numbers) (now «module_at») ⌝ }
-    requires { ⌜ (m < headerIn (now numbers) .modules) × (k < length (recordsOf (getD (modulesIn (now numbers)) m noItem))) × (column < 3) ⌝ }
-    ensures { λ r. ⌜ r ≡ getD (getD (recordsOf (getD (modulesIn (now (numbers .entry))) m noItem)) k []) column 0 ⌝ }
+    requires { ⌜ (m < headerIn (now numbers) .modules) × (k < length (importRecordsOf (getD (modulesIn (now numbers)) m noItem))) × (column < 3) ⌝ }
+    ensures { λ r. ⌜ r ≡ getD (getD (importRecordsOf (getD (modulesIn (now (numbers .entry))) m noItem)) k []) column 0 ⌝ }
 {
     let p = module_at[m];
     rows::wide(numbers[p + 13 + 3 * k + column])
 }
 
-// Reads the modules from `at` on, and fills the table.
-pub fn modules(numbers: &[u32], at: usize, h: Header, module_at: &mut [usize]) -> Walk
-    requires { ⌜ h .modules ≤ length (now «module_at») ⌝ }
+// Reads the modules from `at` on, and fills their section.
+pub fn modules(numbers: &[u32], at: usize, h: Header, tables: &mut [usize]) -> Walk
+    requires { ⌜ Laid h 5 (now tables) ⌝ }
     requires { ⌜ (h .symbols < 4294967296) × (h .modules < 4294967296) × (h .statements < 4294967296) ⌝ }
-    ensures { λ r. ⌜ (r ≡ walkOf (modulesAt h (now (numbers .entry)) at)) × Filled (modulesAt h (now (numbers .entry)) at) 0 (now («module_at» .exit)) ⌝ }
+    ensures { λ r. ⌜ (r ≡ walkOf (modulesAt h (now (numbers .entry)) at)) × Filled (modulesAt h (now (numbers .entry)) at) (startOf h 0) (now (tables .exit)) × Kept (startOf h 0) (now (tables .entry)) (now (tables .exit)) ⌝ }
 {
+    let base = tables[MODULES];
     let mut k: usize = 0;
     let mut q = at;
     let mut left = h.statements;
@@ -65,7 +72,7 @@ pub fn modules(numbers: &[u32], at: usize, h: Header, module_at: &mut [usize]) -
                 return Walk::Fault(n, p);
             }
             Walk::At(next) => {
-                module_at[k] = q;
+                tables[base + k] = q;
                 left = left - rows::wide(numbers[q + 9]);
                 q = next;
             }
@@ -91,27 +98,22 @@ fn symbol(numbers: &[u32], module_at: &[usize], at: usize, h: Header) -> Walk
     }
 }
 
-// Reads the symbols from `at` on, and fills the table.
-pub fn symbols(
-    numbers: &[u32],
-    module_at: &[usize],
-    at: usize,
-    h: Header,
-    symbol_at: &mut [usize],
-) -> Walk
-    requires { ⌜ ModuleTable (now numbers) (now «module_at») ⌝ }
-    requires { ⌜ (h ≡ headerIn (now numbers)) × (h .symbols < 4294967296) × (h .symbols ≤ length (now «symbol_at»)) ⌝ }
-    ensures { λ r. ⌜ (r ≡ walkOf (symbolsAt h (modulesIn (now (numbers .entry))) (now (numbers .entry)) at)) × Filled (symbolsAt h (modulesIn (now (numbers .entry))) (now (numbers .entry)) at) 0 (now («symbol_at» .exit)) ⌝ }
+// Reads the symbols from `at` on, and fills their section.
+pub fn symbols(numbers: &[u32], at: usize, h: Header, tables: &mut [usize]) -> Walk
+    requires { ⌜ Laid h 5 (now tables) × ModuleTable (now numbers) (modulePlaces (now tables)) ⌝ }
+    requires { ⌜ (h ≡ headerIn (now numbers)) × (h .symbols < 4294967296) ⌝ }
+    ensures { λ r. ⌜ (r ≡ walkOf (symbolsAt h (modulesIn (now (numbers .entry))) (now (numbers .entry)) at)) × Filled (symbolsAt h (modulesIn (now (numbers .entry))) (now (numbers .entry)) at) (startOf h 1) (now (tables .exit)) × Kept (startOf h 1) (now (tables .entry)) (now (tables .exit)) ⌝ }
 {
+    let base = tables[SYMBOLS];
     let mut k: usize = 0;
     let mut q = at;
     while k < h.symbols {
-        match symbol(numbers, module_at, q, h) {
+        match symbol(numbers, tables::section(tables, MODULES), q, h) {
             Walk::Fault(n, p) => {
                 return Walk::Fault(n, p);
             }
             Walk::At(next) => {
-                symbol_at[k] = q;
+                tables[base + k] = q;
                 q = next;
             }
         }
@@ -130,28 +132,28 @@ pub fn symbol_number(numbers: &[u32], symbol_at: &[usize], s: usize, i: usize) -
     rows::wide(numbers[p + i])
 }
 
-// Reads the `count` statements of a module of `records` records from `at` on, and fills the table from `first` on.
+// Reads the `count` statements of a module of `imports` import records from `at` on, and writes their places from word `first` on.
 fn module_statements(
     numbers: &[u32],
     at: usize,
     h: Header,
     count: usize,
-    records: usize,
+    imports: usize,
     first: usize,
-    statement_at: &mut [usize],
+    tables: &mut [usize],
 ) -> Walk
-    requires { ⌜ first + count ≤ length (now «statement_at») ⌝ }
-    ensures { λ r. ⌜ (r ≡ walkOf (many (statementAt h records (now (numbers .entry))) following count 0 at)) × Filled (many (statementAt h records (now (numbers .entry))) following count 0 at) first (now («statement_at» .exit)) × ((j : ℕ) → j < first → getD (now («statement_at» .exit)) j 0 ≡ getD (now («statement_at» .entry)) j 0) ⌝ }
+    requires { ⌜ first + count ≤ length (now tables) ⌝ }
+    ensures { λ r. ⌜ (r ≡ walkOf (many (statementAt h imports (now (numbers .entry))) following count 0 at)) × Filled (many (statementAt h imports (now (numbers .entry))) following count 0 at) first (now (tables .exit)) × Kept first (now (tables .entry)) (now (tables .exit)) ⌝ }
 {
     let mut k: usize = 0;
     let mut q = at;
     while k < count {
-        match graph_format::statement(numbers, q, h, records) {
+        match graph_format::statement(numbers, q, h, imports) {
             Walk::Fault(n, p) => {
                 return Walk::Fault(n, p);
             }
             Walk::At(next) => {
-                statement_at[first + k] = q;
+                tables[first + k] = q;
                 q = next;
             }
         }
@@ -160,31 +162,26 @@ fn module_statements(
     Walk::At(q)
 }
 
-// Reads the statements of all modules from `at` on, and fills both tables.
-pub fn statements(
-    numbers: &[u32],
-    module_at: &[usize],
-    at: usize,
-    h: Header,
-    first_at: &mut [usize],
-    statement_at: &mut [usize],
-) -> Walk
-    requires { ⌜ ModuleTable (now numbers) (now «module_at») ⌝ }
-    requires { ⌜ (h ≡ headerIn (now numbers)) × (h .modules ≤ length (now «first_at»)) × (h .statements ≤ length (now «statement_at»)) ⌝ }
-    ensures { λ r. ⌜ (r ≡ walkOf (statementsAt h (modulesIn (now (numbers .entry))) (now (numbers .entry)) at)) × StatementsFilled (modulesIn (now (numbers .entry))) (statementsAt h (modulesIn (now (numbers .entry))) (now (numbers .entry)) at) (now («first_at» .exit)) (now («statement_at» .exit)) ⌝ }
+// Reads the statements of all modules from `at` on, and fills both sections: each module's first statement, and the statements' places.
+pub fn statements(numbers: &[u32], at: usize, h: Header, tables: &mut [usize]) -> Walk
+    requires { ⌜ Laid h 5 (now tables) × ModuleTable (now numbers) (modulePlaces (now tables)) ⌝ }
+    requires { ⌜ h ≡ headerIn (now numbers) ⌝ }
+    ensures { λ r. ⌜ (r ≡ walkOf (statementsAt h (modulesIn (now (numbers .entry))) (now (numbers .entry)) at)) × StatementsFilled (modulesIn (now (numbers .entry))) (statementsAt h (modulesIn (now (numbers .entry))) (now (numbers .entry)) at) (firstStatements (now (tables .exit))) (statementPlaces (now (tables .exit))) × Kept (startOf h 2) (now (tables .entry)) (now (tables .exit)) ⌝ }
 {
+    let firsts = tables[FIRST_STATEMENT_OF];
+    let places = tables[STATEMENTS];
     let mut m: usize = 0;
     let mut q = at;
     let mut first: usize = 0;
     while m < h.modules {
-        let count = module_number(numbers, module_at, m, 9);
-        let records = record_count(numbers, module_at, m);
-        match module_statements(numbers, q, h, count, records, first, statement_at) {
+        let count = module_number(numbers, tables::section(tables, MODULES), m, 9);
+        let imports = import_record_count(numbers, tables::section(tables, MODULES), m);
+        match module_statements(numbers, q, h, count, imports, places + first, tables) {
             Walk::Fault(n, p) => {
                 return Walk::Fault(n, p);
             }
             Walk::At(next) => {
-                first_at[m] = first;
+                tables[firsts + m] = first;
                 q = next;
             }
         }

@@ -10,9 +10,9 @@ use Rattle.rows.specs.Walk.{Parsed, got, fault}
 use Rattle.graph.specs.Check.{Graph}
 use Rattle.graph.specs.declared.Checked.{Checked}
 use Rattle.graph.specs.declared.Checked.the-variants.{Accepted, Refused as Checked·Refused}
-use Rattle.drain.specs.declared.Drained.{Drained}
-use Rattle.drain.specs.declared.Drained.the-variants.{Lines, Refused as Drained·Refused}
-use Rattle.drain.specs.Operation.{Rows, Outcome, answered, Ends}
+use Rattle.drain_parts.specs.declared.Drained.{Drained}
+use Rattle.drain_parts.specs.declared.Drained.the-variants.{Lines, Refused as Drained·Refused}
+use Rattle.drain_parts.specs.Operation.{Rows, Outcome, answered, Ends}
 use Rattle.host.specs.declared.DrainAnswer.{DrainAnswer}
 use Rattle.host.specs.declared.ReadAnswer.{ReadAnswer}
 use Rattle.host.specs.declared.Refusal.{Refusal}

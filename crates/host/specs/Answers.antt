@@ -9,9 +9,9 @@ use Rattle.graph.specs.Check.{Graph, checkOf}
 use Rattle.graph.specs.declared.Checked.{Checked}
 use Rattle.graph.specs.declared.Checked.the-variants.{Accepted, Refused}
 use Rattle.determine_side_effects.specs.Operation.{effectsAnswer, effectsRow}
-use Rattle.drain.specs.declared.Drained.{Drained}
-use Rattle.drain.specs.declared.Drained.the-variants.{Lines, Refused as DrainRefused}
-use Rattle.drain.specs.Operation.{Rows, roomsOf, outcomeOf, answered, Ends}
+use Rattle.drain_parts.specs.declared.Drained.{Drained}
+use Rattle.drain_parts.specs.declared.Drained.the-variants.{Lines, Refused as DrainRefused}
+use Rattle.drain_parts.specs.Operation.{Rows, roomsOf, outcomeOf, answered, Ends}
 use Rattle.host.specs.declared.DrainAnswer.{DrainAnswer}
 use Rattle.host.specs.declared.ReadAnswer.{ReadAnswer}
 use Rattle.host.specs.declared.Refusal.{Refusal}

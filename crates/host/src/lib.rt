@@ -1,9 +1,9 @@
 // The C boundary. Slices are a pointer and then a length; nothing is asked of the caller.
 ghost use mathlib.Core.Path.{_≡_};
 ghost use Rattle.graph.specs.Check.{checkOf};
-ghost use Rattle.drain.specs.Operation.{rows as rowsOf};
+ghost use Rattle.drain_parts.specs.Operation.{rows as rowsOf};
 ghost use Rattle.host.specs.Answers.{KeepRead, KeepEffects, KeepDrain, refusalOf};
-use drain::Drained;
+use drain_parts::Drained;
 use graph::Checked;
 use leb128::Answer;
 

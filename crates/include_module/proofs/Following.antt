@@ -10,33 +10,33 @@ use lib.ListN.{length, getD}
 use Rattle.graph.specs.Check.{Graph}
 use Rattle.graph_access.specs.Names.{exports, moduleType, flags, only, namedImports, commonJsExportSymbols, dependencies}
 use Rattle.facts.specs.Facts.{moduleFact, statementFact, checkedFact}
-use Rattle.facts.specs.Words.{flag, normal, option, moduleOf}
+use Rattle.graph_access.specs.Words.{flag, normal, option, moduleOf}
 use Rattle.determine_side_effects.specs.Effects.{hasEffects}
-use Rattle.keep_rules.specs.declared.Pick.the-variants.{Gives, Nothing}
-use Rattle.keep_rules.specs.Rules.{when, hasEval, dependency, dependencyPick, evalImports, evalPick, exportSymbolPick, devNamespace, devPick}
+use Rattle.keep_rules.specs.declared.Candidate.the-variants.{Gives, Nothing}
+use Rattle.keep_rules.specs.Rules.{when, hasEval, dependency, dependencyCandidate, evalCandidates, evalCandidate, exportSymbolCandidate, devNamespace, devCandidate}
 
 -- the dependency is d
 module _ (g : Graph) (v : List ℕ) (m k d : ℕ) (e : d ≡ only (getD (dependencies (moduleOf g m)) k [])) where
   included : ℕ → Bool
   included x = normal g x && (not (option g 0) || hasEffects v x)
 
-  same : when (included d) (moduleFact d) ≡ dependencyPick g v m k
-  unfolding included dependencyPick dependency
+  same : when (included d) (moduleFact d) ≡ dependencyCandidate g v m k
+  unfolding included dependencyCandidate dependency
   same = ap (λ x. when (included x) (moduleFact x)) e
 
-  pub dependency-external : normal g d ≡ false → Nothing ≡ dependencyPick g v m k
+  pub dependency-external : normal g d ≡ false → Nothing ≡ dependencyCandidate g v m k
   unfolding included when
   dependency-external a = rw (a, included, when) at same
 
-  pub dependency-whole : normal g d ≡ true → option g 0 ≡ false → Gives (moduleFact d) ≡ dependencyPick g v m k
+  pub dependency-whole : normal g d ≡ true → option g 0 ≡ false → Gives (moduleFact d) ≡ dependencyCandidate g v m k
   unfolding included when
   dependency-whole a b = rw (a, b, included, when) at same
 
-  pub dependency-effects : normal g d ≡ true → option g 0 ≡ true → hasEffects v d ≡ true → Gives (moduleFact d) ≡ dependencyPick g v m k
+  pub dependency-effects : normal g d ≡ true → option g 0 ≡ true → hasEffects v d ≡ true → Gives (moduleFact d) ≡ dependencyCandidate g v m k
   unfolding included when
   dependency-effects a b c = rw (a, b, c, included, when) at same
 
-  pub dependency-quiet : normal g d ≡ true → option g 0 ≡ true → hasEffects v d ≡ false → Nothing ≡ dependencyPick g v m k
+  pub dependency-quiet : normal g d ≡ true → option g 0 ≡ true → hasEffects v d ≡ false → Nothing ≡ dependencyCandidate g v m k
   unfolding included when
   dependency-quiet a b c = rw (a, b, c, included, when) at same
 
@@ -46,34 +46,34 @@ module _ (g : Graph) (m x : ℕ) (e : x ≡ flags (moduleOf g m)) where
   unfolding hasEval
   eval h = ap (flag 0) (sym e) ∙ h
 
-  pub no-eval : flag 0 x ≡ false → 0 ≡ evalImports g m
-  unfolding evalImports
-  no-eval a = rw (eval a, evalImports)
+  pub no-eval : flag 0 x ≡ false → 0 ≡ evalCandidates g m
+  unfolding evalCandidates
+  no-eval a = rw (eval a, evalCandidates)
 
   module _ (t : ℕ) (f : t ≡ moduleType (moduleOf g m)) (a : flag 0 x ≡ true) where
-    pub eval-all : {n : ℕ} → t < 2 → n ≡ length (namedImports (moduleOf g m)) → n ≡ evalImports g m
-    unfolding evalImports
-    eval-all l h = h ∙ rw (eval a, lt-ltb (moduleType (moduleOf g m)) 2 (omega (arith, f, l)), evalImports)
+    pub eval-all : {n : ℕ} → t < 2 → n ≡ length (namedImports (moduleOf g m)) → n ≡ evalCandidates g m
+    unfolding evalCandidates
+    eval-all l h = h ∙ rw (eval a, lt-ltb (moduleType (moduleOf g m)) 2 (omega (arith, f, l)), evalCandidates)
 
-    pub eval-none : 2 ≤ t → 0 ≡ evalImports g m
-    unfolding evalImports
-    eval-none l = rw (eval a, le-ltb (moduleType (moduleOf g m)) 2 (omega (arith, f, l)), evalImports)
+    pub eval-none : 2 ≤ t → 0 ≡ evalCandidates g m
+    unfolding evalCandidates
+    eval-none l = rw (eval a, le-ltb (moduleType (moduleOf g m)) 2 (omega (arith, f, l)), evalCandidates)
 
 -- a place is an import
-pub eval-in : (g : Graph) (m k : ℕ) → k < evalImports g m → k < length (namedImports (moduleOf g m))
-unfolding evalImports
+pub eval-in : (g : Graph) (m k : ℕ) → k < evalCandidates g m → k < length (namedImports (moduleOf g m))
+unfolding evalCandidates
 eval-in g m k h = go (hasEval g m && ltb (moduleType (moduleOf g m)) 2) refl
   where
     go : (b : Bool) → hasEval g m && ltb (moduleType (moduleOf g m)) 2 ≡ b → k < length (namedImports (moduleOf g m))
-    go true e = rw (e, evalImports) at h
-    go false e = absurd (omega (arith, rw (e, evalImports) at h))
+    go true e = rw (e, evalCandidates) at h
+    go false e = absurd (omega (arith, rw (e, evalCandidates) at h))
 
-pub eval-is : (g : Graph) (m k s : ℕ) → s ≡ only (getD (namedImports (moduleOf g m)) k []) → Gives (checkedFact s 1) ≡ evalPick g m k
-unfolding evalPick
+pub eval-is : (g : Graph) (m k s : ℕ) → s ≡ only (getD (namedImports (moduleOf g m)) k []) → Gives (checkedFact s 1) ≡ evalCandidate g m k
+unfolding evalCandidate
 eval-is g m k s e = ap (λ x. Gives (checkedFact x 1)) e
 
-pub export-is : (g : Graph) (m k s : ℕ) → s ≡ only (getD (commonJsExportSymbols (moduleOf g m)) k []) → Gives (checkedFact s 1) ≡ exportSymbolPick g m k
-unfolding exportSymbolPick
+pub export-is : (g : Graph) (m k s : ℕ) → s ≡ only (getD (commonJsExportSymbols (moduleOf g m)) k []) → Gives (checkedFact s 1) ≡ exportSymbolCandidate g m k
+unfolding exportSymbolCandidate
 export-is g m k s e = ap (λ x. Gives (checkedFact x 1)) e
 
 module _ (g : Graph) (m : ℕ) where
@@ -90,14 +90,14 @@ module _ (g : Graph) (m : ℕ) where
     unfolding devNamespace
     dev-other z h = ap (λ y. eqb y 0) h ∙ rw (a, ne-eqb m (g .header .runtime) (λ i. z (i ∙ sym f)), devNamespace)
 
-  pub dev-kept : (k : ℕ) → devNamespace g m ≡ true → Gives (statementFact m 0) ≡ devPick g m k
-  unfolding devPick when
-  dev-kept k e = rw (e, devPick, when)
+  pub dev-kept : (k : ℕ) → devNamespace g m ≡ true → Gives (statementFact m 0) ≡ devCandidate g m k
+  unfolding devCandidate when
+  dev-kept k e = rw (e, devCandidate, when)
 
-  pub dev-left : (k : ℕ) → devNamespace g m ≡ false → Nothing ≡ devPick g m k
-  unfolding devPick when
-  dev-left k e = rw (e, devPick, when)
+  pub dev-left : (k : ℕ) → devNamespace g m ≡ false → Nothing ≡ devCandidate g m k
+  unfolding devCandidate when
+  dev-left k e = rw (e, devCandidate, when)
 
-  pub dev-any : (j k : ℕ) → devPick g m j ≡ devPick g m k
-  unfolding devPick
+  pub dev-any : (j k : ℕ) → devCandidate g m j ≡ devCandidate g m k
+  unfolding devCandidate
   dev-any j k = refl

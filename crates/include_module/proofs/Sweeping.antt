@@ -1,38 +1,19 @@
 -- K2: the statements that an included module keeps by itself.
-use Prim.Native.Nat.{ℕ, _<_}
+use Prim.Native.Nat.{ℕ}
 use mathlib.Core.Path.{_≡_, refl, ap, _∙_, sym}
 use mathlib.Core.Bool.{Bool, true, false, _&&_, _||_, not}
 use mathlib.Core.Logic.{_⊎_, inl, inr, ⊎-elim}
 use mathlib.Core.List.{List}
-use native.Mathlib.Omega.{arith}
 use borrow.Author.Tests.{eq-eqb, ne-eqb}
 use lib.ListN.{getD}
 use Rattle.graph.specs.Check.{Graph}
 use Rattle.graph_access.specs.Names.{flags, statementBits}
 use Rattle.facts.specs.Facts.{statementFact}
-use Rattle.facts.specs.Words.{flag, option, moduleOf, statementOf}
-use Rattle.determine_side_effects.specs.Effects.{hasEffects, lastVerdicts}
-use Rattle.on_demand.specs.Demand.{one, onDemand, gated, DemandTable}
-use Rattle.keep_rules.specs.declared.Pick.the-variants.{Gives, Nothing}
-use Rattle.keep_rules.specs.Rules.{when, quietRuntime, hasEval, effectBit, sweptShaken, sweptWhole, swept, sweepPick}
-
--- the table has what is on demand
-one-zero : (b : Bool) → one b ≡ 0 → b ≡ false
-unfolding one
-one-zero true e = absurd (omega (arith, e))
-one-zero false e = refl
-
-one-more : (b : Bool) → (one b ≡ 0 → ⊥) → b ≡ true
-unfolding one
-one-more true e = refl
-one-more false e = absurd (e refl)
-
-module _ (g : Graph) (table : List ℕ) (m : ℕ) (t : DemandTable g table) (h : m < g .header .modules) where
-  pub not-demanded : getD table m 0 ≡ 0 → onDemand g (lastVerdicts g) m ≡ false
-  not-demanded z = one-zero _ (sym (t .has m h) ∙ z)
-
-  pub is-demanded : (getD table m 0 ≡ 0 → ⊥) → onDemand g (lastVerdicts g) m ≡ true
-  is-demanded n = one-more _ (λ z. n (t .has m h ∙ z))
+use Rattle.graph_access.specs.Words.{flag, option, moduleOf, statementOf}
+use Rattle.determine_side_effects.specs.Effects.{hasEffects}
+use Rattle.on_demand.specs.Demand.{onDemand, gated}
+use Rattle.keep_rules.specs.declared.Candidate.the-variants.{Gives, Nothing}
+use Rattle.keep_rules.specs.Rules.{when, quietRuntime, hasEval, effectBit, sweptShaken, sweptWhole, swept, sweepCandidate}
 
 module _ (g : Graph) (v : List ℕ) (m r : ℕ) (e : r ≡ g .header .runtime) where
   pub another-module : (m ≡ r → ⊥) → false ≡ quietRuntime g v m
@@ -105,6 +86,7 @@ module _ (g : Graph) (v : List ℕ) (m i bits : ℕ) (e : bits ≡ statementBits
     pub swept-declares : flag 0 x ≡ true → flag 4 bits ≡ sweptShaken g v m i
     swept-declares a = rw a at rest
 
+module _ (g : Graph) (m i bits : ℕ) (e : bits ≡ statementBits (statementOf g m i)) where
   pub whole-free : flag 2 bits ≡ false → true ≡ sweptWhole g m i
   unfolding sweptWhole
   whole-free a = let f : flag 2 (statementBits (statementOf g m i)) ≡ false = ap (flag 2) (sym e) ∙ a in rw (f, sweptWhole)
@@ -118,24 +100,24 @@ module _ (g : Graph) (v : List ℕ) (m i : ℕ) where
   unfolding swept
   never-first z = rw (eq-eqb i 0 z, swept)
 
-  module _ (n : i ≡ 0 → ⊥) (x : ℕ) (f : x ≡ getD v m 0) where
-    pub swept-shaken : {r : Bool} → option g 0 ≡ true → (x ≡ 4 → ⊥) → r ≡ sweptShaken g v m i → r ≡ swept g v m i
+  module _ (n : i ≡ 0 → ⊥) where
+    pub swept-shaken : {x : ℕ} {r : Bool} → option g 0 ≡ true → x ≡ getD v m 0 → (x ≡ 4 → ⊥) → r ≡ sweptShaken g v m i → r ≡ swept g v m i
     unfolding swept
-    swept-shaken a b h = h ∙ rw (ne-eqb i 0 n, a, ne-eqb (getD v m 0) 4 (λ z. b (f ∙ z)), swept)
+    swept-shaken a f b h = h ∙ rw (ne-eqb i 0 n, a, ne-eqb (getD v m 0) 4 (λ z. b (f ∙ z)), swept)
 
-    pub swept-all : {r : Bool} → (x ≡ 4) ⊎ (option g 0 ≡ false) → r ≡ sweptWhole g m i → r ≡ swept g v m i
+    pub swept-all : {r : Bool} → (getD v m 0 ≡ 4) ⊎ (option g 0 ≡ false) → r ≡ sweptWhole g m i → r ≡ swept g v m i
     unfolding swept
     swept-all {r} w h = h ∙ go (option g 0) refl w
       where
-        go : (b : Bool) → option g 0 ≡ b → (x ≡ 4) ⊎ (option g 0 ≡ false) → sweptWhole g m i ≡ swept g v m i
+        go : (b : Bool) → option g 0 ≡ b → (getD v m 0 ≡ 4) ⊎ (option g 0 ≡ false) → sweptWhole g m i ≡ swept g v m i
         go false p w = rw (ne-eqb i 0 n, p, swept)
-        go true p (inl z) = rw (ne-eqb i 0 n, p, eq-eqb (getD v m 0) 4 (sym f ∙ z), swept)
+        go true p (inl z) = rw (ne-eqb i 0 n, p, eq-eqb (getD v m 0) 4 z, swept)
         go true p (inr z) = rw (ne-eqb i 0 n, z, swept)
 
-  pub swept-kept : swept g v m i ≡ true → Gives (statementFact m i) ≡ sweepPick g v m i
-  unfolding sweepPick when
-  swept-kept e = rw (e, sweepPick, when)
+  pub swept-kept : swept g v m i ≡ true → Gives (statementFact m i) ≡ sweepCandidate g v m i
+  unfolding sweepCandidate when
+  swept-kept e = rw (e, sweepCandidate, when)
 
-  pub swept-left : swept g v m i ≡ false → Nothing ≡ sweepPick g v m i
-  unfolding sweepPick when
-  swept-left e = rw (e, sweepPick, when)
+  pub swept-left : swept g v m i ≡ false → Nothing ≡ sweepCandidate g v m i
+  unfolding sweepCandidate when
+  swept-left e = rw (e, sweepCandidate, when)

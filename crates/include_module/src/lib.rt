@@ -8,44 +8,29 @@ ghost use Rattle.graph_tables.specs.Tables.{headerIn};
 ghost use Rattle.graph.specs.Check.{graphIn};
 ghost use Rattle.determine_side_effects.specs.Effects.{lastVerdicts};
 ghost use Rattle.facts.specs.Facts.{Good, statementFact, useFact};
-ghost use Rattle.facts.specs.Words.{statementList, moduleOf, normal};
+ghost use Rattle.graph_access.specs.Words.{statementList, moduleOf, normal};
 ghost use Rattle.graph_access.specs.Names.{dependencies, commonJsExportSymbols, namedImports};
-ghost use Rattle.keep_rules.specs.Rules.{quietRuntime, effectBit, sweptShaken, sweptWhole, swept as sweptOf, sweepPick, dependencyPick, evalImports, evalPick, exportSymbolPick, devNamespace, devPick, moduleSegments, noSegment};
-ghost use Rattle.keep_rules.specs.Prepared.{Prepared, GoodPick};
+ghost use Rattle.keep_rules.specs.Rules.{quietRuntime, effectBit, sweptShaken, sweptWhole, swept as sweptOf, sweepCandidate, dependencyCandidate, evalCandidates, evalCandidate, exportSymbolCandidate, devNamespace, devCandidate, moduleSegments, noSegment};
+ghost use Rattle.keep_rules.specs.Prepared.{Prepared, GoodCandidate};
 use facts::Fact;
-use facts::ModuleIdx;
 use facts::Reason;
-use facts::StmtIdx;
-use facts::SymbolIdx;
-use keep_rules::Pick;
-
-// Leading numbers of a module, and three of its lists.
-const EXPORTS: usize = 2;
-
-const TYPE: usize = 3;
-
-const FLAGS: usize = 4;
-
-const DEPENDENCIES: usize = 1;
-
-const NAMED_IMPORTS: usize = 2;
-
-const EXPORT_SYMBOLS: usize = 5;
+use graph_access::modules;
+use graph_access::modules::EVAL;
+use graph_access::modules::SAFELY_TREESHAKE_COMMONJS;
+use graph_access::options::COMMONJS_SHAKING;
+use graph_access::options::DEV_MODE;
+use graph_access::options::TREESHAKE;
+use graph_access::statements;
+use graph_access::statements::DECLARES;
+use graph_access::statements::FORCE;
+use graph_access::statements::SIDE_EFFECT;
+use index::ModuleIdx;
+use index::StmtIdx;
+use keep_rules::Candidate;
 
 // Whether module m is the runtime and has no effects.
-pub fn is_quiet_runtime(
-    numbers: &[u32],
-    modules: &[usize],
-    symbols: &[usize],
-    firsts: &[usize],
-    statements: &[usize],
-    verdicts: &[u32],
-    demand: &[usize],
-    keys: &[usize],
-    namespaces: &[usize],
-    m: ModuleIdx,
-) -> bool
-    requires { ⌜ Prepared (now numbers) (now modules) (now symbols) (now firsts) (now statements) (now verdicts) (now demand) (now keys) (now namespaces) ⌝ }
+pub fn is_quiet_runtime(numbers: &[u32], tables: &[usize], m: ModuleIdx) -> bool
+    requires { ⌜ Prepared (now numbers) (now tables) ⌝ }
     requires { ⌜ m .0 < headerIn (now numbers) .modules ⌝ }
     ensures { λ r. ⌜ r ≡ quietRuntime (graphIn (now (numbers .entry))) (lastVerdicts (graphIn (now (numbers .entry)))) (m .0) ⌝ }
 {
@@ -53,547 +38,218 @@ pub fn is_quiet_runtime(
     if m.0 != h.runtime {
         return false;
     }
-    !determine_side_effects::has_effects(verdicts, m)
+    !determine_side_effects::has_effects(numbers, tables, m)
 }
 
 // The bit that counts as the effect of a statement of module m.
-fn effect_bit(
-    numbers: &[u32],
-    modules: &[usize],
-    symbols: &[usize],
-    firsts: &[usize],
-    statements: &[usize],
-    verdicts: &[u32],
-    demand: &[usize],
-    keys: &[usize],
-    namespaces: &[usize],
-    m: ModuleIdx,
-) -> usize
-    requires { ⌜ Prepared (now numbers) (now modules) (now symbols) (now firsts) (now statements) (now verdicts) (now demand) (now keys) (now namespaces) ⌝ }
+fn effect_bit(numbers: &[u32], tables: &[usize], m: ModuleIdx) -> usize
+    requires { ⌜ Prepared (now numbers) (now tables) ⌝ }
     requires { ⌜ m .0 < headerIn (now numbers) .modules ⌝ }
     ensures { λ r. ⌜ (r ≡ effectBit (graphIn (now (numbers .entry))) (m .0)) × (r < 2) ⌝ }
 {
-    if !facts::flag(graph_tables::module_number(numbers, modules, m.0, FLAGS), 1) {
+    if !facts::flag(
+        modules::flags(numbers, tables, m),
+        SAFELY_TREESHAKE_COMMONJS,
+    ) {
         return 0;
     }
-    if keep_rules::option(
-        numbers,
-        modules,
-        symbols,
-        firsts,
-        statements,
-        verdicts,
-        demand,
-        keys,
-        namespaces,
-        2,
-    ) {
+    if keep_rules::option(numbers, COMMONJS_SHAKING) {
         return 1;
     }
     0
 }
 
-// Whether an included module keeps statement i by itself, with tree shaking.
-fn sweep_side_effect_statements(
-    numbers: &[u32],
-    modules: &[usize],
-    symbols: &[usize],
-    firsts: &[usize],
-    statements: &[usize],
-    verdicts: &[u32],
-    demand: &[usize],
-    keys: &[usize],
-    namespaces: &[usize],
-    m: ModuleIdx,
-    i: StmtIdx,
-) -> bool
-    requires { ⌜ Prepared (now numbers) (now modules) (now symbols) (now firsts) (now statements) (now verdicts) (now demand) (now keys) (now namespaces) ⌝ }
+// Whether an included module keeps statement i by itself, with tree shaking (`sweep_side_effect_statements`).
+fn swept_shaken(numbers: &[u32], tables: &[usize], m: ModuleIdx, i: StmtIdx) -> bool
+    requires { ⌜ Prepared (now numbers) (now tables) ⌝ }
     requires { ⌜ (m .0 < headerIn (now numbers) .modules) × (i .0 < length (statementList (graphIn (now numbers)) (m .0))) ⌝ }
     ensures { λ r. ⌜ r ≡ sweptShaken (graphIn (now (numbers .entry))) (lastVerdicts (graphIn (now (numbers .entry)))) (m .0) (i .0) ⌝ }
 {
-    let a = m.0;
-    let bits = statement_access::statement_bits(numbers, modules, firsts, statements, a, i.0);
-    if facts::flag(
-        bits,
-        effect_bit(
-            numbers,
-            modules,
-            symbols,
-            firsts,
-            statements,
-            verdicts,
-            demand,
-            keys,
-            namespaces,
-            m,
-        ),
-    ) {
-        if demand[a] == 0 {
+    let bits = statements::bits(numbers, tables, m, i);
+    if facts::flag(bits, effect_bit(numbers, tables, m)) {
+        if !on_demand::is_on_demand(numbers, tables, m) {
             return true;
         }
-        if !on_demand::is_gated_side_effect_stmt(
-            numbers,
-            modules,
-            symbols,
-            firsts,
-            statements,
-            m,
-            i,
-        ) {
+        if !on_demand::is_gated_side_effect_stmt(numbers, tables, m, i) {
             return true;
         }
     }
-    if !facts::flag(graph_tables::module_number(numbers, modules, a, FLAGS), 0) {
+    if !facts::flag(modules::flags(numbers, tables, m), EVAL) {
         return false;
     }
-    facts::flag(bits, 4)
+    facts::flag(bits, DECLARES)
 }
 
-// Whether an included module keeps statement i by itself, without tree shaking.
-fn include_statements_without_treeshaking(
-    numbers: &[u32],
-    modules: &[usize],
-    symbols: &[usize],
-    firsts: &[usize],
-    statements: &[usize],
-    verdicts: &[u32],
-    demand: &[usize],
-    keys: &[usize],
-    namespaces: &[usize],
-    m: ModuleIdx,
-    i: StmtIdx,
-) -> bool
-    requires { ⌜ Prepared (now numbers) (now modules) (now symbols) (now firsts) (now statements) (now verdicts) (now demand) (now keys) (now namespaces) ⌝ }
+// Whether an included module keeps statement i by itself, without tree shaking (`include_statements_without_treeshaking`).
+fn swept_whole(numbers: &[u32], tables: &[usize], m: ModuleIdx, i: StmtIdx) -> bool
+    requires { ⌜ Prepared (now numbers) (now tables) ⌝ }
     requires { ⌜ (m .0 < headerIn (now numbers) .modules) × (i .0 < length (statementList (graphIn (now numbers)) (m .0))) ⌝ }
     ensures { λ r. ⌜ r ≡ sweptWhole (graphIn (now (numbers .entry))) (m .0) (i .0) ⌝ }
 {
-    let bits = statement_access::statement_bits(numbers, modules, firsts, statements, m.0, i.0);
-    if !facts::flag(bits, 2) {
+    let bits = statements::bits(numbers, tables, m, i);
+    if !facts::flag(bits, FORCE) {
         return true;
     }
-    facts::flag(bits, 0)
+    facts::flag(bits, SIDE_EFFECT)
 }
 
 // Whether an included module keeps statement i by itself.
-fn swept(
-    numbers: &[u32],
-    modules: &[usize],
-    symbols: &[usize],
-    firsts: &[usize],
-    statements: &[usize],
-    verdicts: &[u32],
-    demand: &[usize],
-    keys: &[usize],
-    namespaces: &[usize],
-    m: ModuleIdx,
-    i: StmtIdx,
-) -> bool
-    requires { ⌜ Prepared (now numbers) (now modules) (now symbols) (now firsts) (now statements) (now verdicts) (now demand) (now keys) (now namespaces) ⌝ }
+fn swept(numbers: &[u32], tables: &[usize], m: ModuleIdx, i: StmtIdx) -> bool
+    requires { ⌜ Prepared (now numbers) (now tables) ⌝ }
     requires { ⌜ (m .0 < headerIn (now numbers) .modules) × (i .0 < length (statementList (graphIn (now numbers)) (m .0))) ⌝ }
     ensures { λ r. ⌜ r ≡ sweptOf (graphIn (now (numbers .entry))) (lastVerdicts (graphIn (now (numbers .entry)))) (m .0) (i .0) ⌝ }
 {
     if i.0 == 0 {
         return false;
     }
-    let a = m.0;
-    if keep_rules::option(
-        numbers,
-        modules,
-        symbols,
-        firsts,
-        statements,
-        verdicts,
-        demand,
-        keys,
-        namespaces,
-        0,
-    ) {
-        if verdicts[a] != 4 {
-            return sweep_side_effect_statements(
-                numbers,
-                modules,
-                symbols,
-                firsts,
-                statements,
-                verdicts,
-                demand,
-                keys,
-                namespaces,
-                m,
-                i,
-            );
+    if keep_rules::option(numbers, TREESHAKE) {
+        if determine_side_effects::verdict(numbers, tables, m) != 4 {
+            return swept_shaken(numbers, tables, m, i);
         }
     }
-    include_statements_without_treeshaking(
-        numbers,
-        modules,
-        symbols,
-        firsts,
-        statements,
-        verdicts,
-        demand,
-        keys,
-        namespaces,
-        m,
-        i,
-    )
+    swept_whole(numbers, tables, m, i)
 }
 
-// K2, place i.
-fn sweep_pick(
-    numbers: &[u32],
-    modules: &[usize],
-    symbols: &[usize],
-    firsts: &[usize],
-    statements: &[usize],
-    verdicts: &[u32],
-    demand: &[usize],
-    keys: &[usize],
-    namespaces: &[usize],
-    m: ModuleIdx,
-    i: StmtIdx,
-) -> Pick
-    requires { ⌜ Prepared (now numbers) (now modules) (now symbols) (now firsts) (now statements) (now verdicts) (now demand) (now keys) (now namespaces) ⌝ }
+// K2, candidate i.
+fn sweep_candidate(numbers: &[u32], tables: &[usize], m: ModuleIdx, i: StmtIdx) -> Candidate
+    requires { ⌜ Prepared (now numbers) (now tables) ⌝ }
     requires { ⌜ (m .0 < headerIn (now numbers) .modules) × (i .0 < length (statementList (graphIn (now numbers)) (m .0))) ⌝ }
-    ensures { λ r. ⌜ (r ≡ sweepPick (graphIn (now (numbers .entry))) (lastVerdicts (graphIn (now (numbers .entry)))) (m .0) (i .0)) × GoodPick (graphIn (now (numbers .entry))) r ⌝ }
+    ensures { λ r. ⌜ (r ≡ sweepCandidate (graphIn (now (numbers .entry))) (lastVerdicts (graphIn (now (numbers .entry)))) (m .0) (i .0)) × GoodCandidate (graphIn (now (numbers .entry))) r ⌝ }
 {
-    if swept(
-        numbers,
-        modules,
-        symbols,
-        firsts,
-        statements,
-        verdicts,
-        demand,
-        keys,
-        namespaces,
-        m,
-        i,
-    ) {
-        return Pick::Gives(Fact::Statement(m, i));
+    if swept(numbers, tables, m, i) {
+        return Candidate::Gives(Fact::Statement(m, i));
     }
-    Pick::Nothing
+    Candidate::Nothing
 }
 
-// K3, place k.
-fn include_side_effectful_dependencies(
-    numbers: &[u32],
-    modules: &[usize],
-    symbols: &[usize],
-    firsts: &[usize],
-    statements: &[usize],
-    verdicts: &[u32],
-    demand: &[usize],
-    keys: &[usize],
-    namespaces: &[usize],
-    m: ModuleIdx,
-    k: usize,
-) -> Pick
-    requires { ⌜ Prepared (now numbers) (now modules) (now symbols) (now firsts) (now statements) (now verdicts) (now demand) (now keys) (now namespaces) ⌝ }
+// K3, candidate k (`include_side_effectful_dependencies`).
+fn dependency_candidate(numbers: &[u32], tables: &[usize], m: ModuleIdx, k: usize) -> Candidate
+    requires { ⌜ Prepared (now numbers) (now tables) ⌝ }
     requires { ⌜ (m .0 < headerIn (now numbers) .modules) × (k < length (dependencies (moduleOf (graphIn (now numbers)) (m .0)))) ⌝ }
-    ensures { λ r. ⌜ (r ≡ dependencyPick (graphIn (now (numbers .entry))) (lastVerdicts (graphIn (now (numbers .entry)))) (m .0) k) × GoodPick (graphIn (now (numbers .entry))) r ⌝ }
+    ensures { λ r. ⌜ (r ≡ dependencyCandidate (graphIn (now (numbers .entry))) (lastVerdicts (graphIn (now (numbers .entry)))) (m .0) k) × GoodCandidate (graphIn (now (numbers .entry))) r ⌝ }
 {
-    let d = ModuleIdx(graph_access::module_list_number(numbers, modules, m.0, DEPENDENCIES, k, 0));
-    if !linking_metadata::is_normal(numbers, modules, symbols, firsts, statements, d) {
-        return Pick::Nothing;
+    let d = modules::dependency(numbers, tables, m, k);
+    if !modules::is_normal(numbers, tables, d) {
+        return Candidate::Nothing;
     }
-    if !keep_rules::option(
-        numbers,
-        modules,
-        symbols,
-        firsts,
-        statements,
-        verdicts,
-        demand,
-        keys,
-        namespaces,
-        0,
-    ) {
-        return Pick::Gives(Fact::Module(d));
+    if !keep_rules::option(numbers, TREESHAKE) {
+        return Candidate::Gives(Fact::Module(d));
     }
-    if determine_side_effects::has_effects(verdicts, d) {
-        return Pick::Gives(Fact::Module(d));
+    if determine_side_effects::has_effects(numbers, tables, d) {
+        return Candidate::Gives(Fact::Module(d));
     }
-    Pick::Nothing
+    Candidate::Nothing
 }
 
-// How many places K4 has.
-fn eval_imports(
-    numbers: &[u32],
-    modules: &[usize],
-    symbols: &[usize],
-    firsts: &[usize],
-    statements: &[usize],
-    verdicts: &[u32],
-    demand: &[usize],
-    keys: &[usize],
-    namespaces: &[usize],
-    m: ModuleIdx,
-) -> usize
-    requires { ⌜ Prepared (now numbers) (now modules) (now symbols) (now firsts) (now statements) (now verdicts) (now demand) (now keys) (now namespaces) ⌝ }
+// How many candidates K4 has.
+fn eval_candidates(numbers: &[u32], tables: &[usize], m: ModuleIdx) -> usize
+    requires { ⌜ Prepared (now numbers) (now tables) ⌝ }
     requires { ⌜ m .0 < headerIn (now numbers) .modules ⌝ }
-    ensures { λ r. ⌜ r ≡ evalImports (graphIn (now (numbers .entry))) (m .0) ⌝ }
+    ensures { λ r. ⌜ r ≡ evalCandidates (graphIn (now (numbers .entry))) (m .0) ⌝ }
 {
-    if !facts::flag(graph_tables::module_number(numbers, modules, m.0, FLAGS), 0) {
+    if !facts::flag(modules::flags(numbers, tables, m), EVAL) {
         return 0;
     }
-    if graph_tables::module_number(numbers, modules, m.0, TYPE) < 2 {
-        return graph_access::module_list_length(numbers, modules, m.0, NAMED_IMPORTS);
+    if modules::module_type(numbers, tables, m) < 2 {
+        return modules::named_import_count(numbers, tables, m);
     }
     0
 }
 
-// K4, place k.
-fn eval_pick(
-    numbers: &[u32],
-    modules: &[usize],
-    symbols: &[usize],
-    firsts: &[usize],
-    statements: &[usize],
-    verdicts: &[u32],
-    demand: &[usize],
-    keys: &[usize],
-    namespaces: &[usize],
-    m: ModuleIdx,
-    k: usize,
-) -> Pick
-    requires { ⌜ Prepared (now numbers) (now modules) (now symbols) (now firsts) (now statements) (now verdicts) (now demand) (now keys) (now namespaces) ⌝ }
+// K4, candidate k.
+fn eval_candidate(numbers: &[u32], tables: &[usize], m: ModuleIdx, k: usize) -> Candidate
+    requires { ⌜ Prepared (now numbers) (now tables) ⌝ }
     requires { ⌜ (m .0 < headerIn (now numbers) .modules) × (k < length (namedImports (moduleOf (graphIn (now numbers)) (m .0)))) ⌝ }
-    ensures { λ r. ⌜ (r ≡ evalPick (graphIn (now (numbers .entry))) (m .0) k) × GoodPick (graphIn (now (numbers .entry))) r ⌝ }
+    ensures { λ r. ⌜ (r ≡ evalCandidate (graphIn (now (numbers .entry))) (m .0) k) × GoodCandidate (graphIn (now (numbers .entry))) r ⌝ }
 {
-    let s = graph_access::module_list_number(numbers, modules, m.0, NAMED_IMPORTS, k, 0);
-    Pick::Gives(Fact::Checked(SymbolIdx(s), Reason { bits: 1 }))
+    let s = modules::named_import(numbers, tables, m, k);
+    Candidate::Gives(Fact::CheckedUse(s, Reason { bits: 1 }))
 }
 
-// K5, place k.
-fn export_symbol_pick(
-    numbers: &[u32],
-    modules: &[usize],
-    symbols: &[usize],
-    firsts: &[usize],
-    statements: &[usize],
-    verdicts: &[u32],
-    demand: &[usize],
-    keys: &[usize],
-    namespaces: &[usize],
-    m: ModuleIdx,
-    k: usize,
-) -> Pick
-    requires { ⌜ Prepared (now numbers) (now modules) (now symbols) (now firsts) (now statements) (now verdicts) (now demand) (now keys) (now namespaces) ⌝ }
+// K5, candidate k (`included_commonjs_export_symbol`).
+fn export_symbol_candidate(numbers: &[u32], tables: &[usize], m: ModuleIdx, k: usize) -> Candidate
+    requires { ⌜ Prepared (now numbers) (now tables) ⌝ }
     requires { ⌜ (m .0 < headerIn (now numbers) .modules) × (k < length (commonJsExportSymbols (moduleOf (graphIn (now numbers)) (m .0)))) ⌝ }
-    ensures { λ r. ⌜ (r ≡ exportSymbolPick (graphIn (now (numbers .entry))) (m .0) k) × GoodPick (graphIn (now (numbers .entry))) r ⌝ }
+    ensures { λ r. ⌜ (r ≡ exportSymbolCandidate (graphIn (now (numbers .entry))) (m .0) k) × GoodCandidate (graphIn (now (numbers .entry))) r ⌝ }
 {
-    let s = graph_access::module_list_number(numbers, modules, m.0, EXPORT_SYMBOLS, k, 0);
-    Pick::Gives(Fact::Checked(SymbolIdx(s), Reason { bits: 1 }))
+    let s = modules::export_symbol(numbers, tables, m, k);
+    Candidate::Gives(Fact::CheckedUse(s, Reason { bits: 1 }))
 }
 
 // Whether dev mode keeps the namespace statement of module m.
-pub fn dev_namespace(
-    numbers: &[u32],
-    modules: &[usize],
-    symbols: &[usize],
-    firsts: &[usize],
-    statements: &[usize],
-    verdicts: &[u32],
-    demand: &[usize],
-    keys: &[usize],
-    namespaces: &[usize],
-    m: ModuleIdx,
-) -> bool
-    requires { ⌜ Prepared (now numbers) (now modules) (now symbols) (now firsts) (now statements) (now verdicts) (now demand) (now keys) (now namespaces) ⌝ }
+pub fn dev_namespace(numbers: &[u32], tables: &[usize], m: ModuleIdx) -> bool
+    requires { ⌜ Prepared (now numbers) (now tables) ⌝ }
     requires { ⌜ m .0 < headerIn (now numbers) .modules ⌝ }
     ensures { λ r. ⌜ r ≡ devNamespace (graphIn (now (numbers .entry))) (m .0) ⌝ }
 {
-    if !keep_rules::option(
-        numbers,
-        modules,
-        symbols,
-        firsts,
-        statements,
-        verdicts,
-        demand,
-        keys,
-        namespaces,
-        4,
-    ) {
+    if !keep_rules::option(numbers, DEV_MODE) {
         return false;
     }
     let h = graph::header_of(numbers);
     if m.0 == h.runtime {
         return false;
     }
-    graph_tables::module_number(numbers, modules, m.0, EXPORTS) == 0
+    modules::exports(numbers, tables, m) == 0
 }
 
 // K6.
-fn dev_pick(
-    numbers: &[u32],
-    modules: &[usize],
-    symbols: &[usize],
-    firsts: &[usize],
-    statements: &[usize],
-    verdicts: &[u32],
-    demand: &[usize],
-    keys: &[usize],
-    namespaces: &[usize],
-    m: ModuleIdx,
-) -> Pick
-    requires { ⌜ Prepared (now numbers) (now modules) (now symbols) (now firsts) (now statements) (now verdicts) (now demand) (now keys) (now namespaces) ⌝ }
+fn dev_candidate(numbers: &[u32], tables: &[usize], m: ModuleIdx) -> Candidate
+    requires { ⌜ Prepared (now numbers) (now tables) ⌝ }
     requires { ⌜ m .0 < headerIn (now numbers) .modules ⌝ }
     requires { ⌜ normal (graphIn (now numbers)) (m .0) ≡ true ⌝ }
-    ensures { λ r. ⌜ (r ≡ devPick (graphIn (now (numbers .entry))) (m .0) 0) × GoodPick (graphIn (now (numbers .entry))) r ⌝ }
+    ensures { λ r. ⌜ (r ≡ devCandidate (graphIn (now (numbers .entry))) (m .0) 0) × GoodCandidate (graphIn (now (numbers .entry))) r ⌝ }
 {
-    if dev_namespace(
-        numbers,
-        modules,
-        symbols,
-        firsts,
-        statements,
-        verdicts,
-        demand,
-        keys,
-        namespaces,
-        m,
-    ) {
-        return Pick::Gives(Fact::Statement(m, StmtIdx(0)));
+    if dev_namespace(numbers, tables, m) {
+        return Candidate::Gives(Fact::Statement(m, StmtIdx(0)));
     }
-    Pick::Nothing
+    Candidate::Nothing
 }
 
-// How many places segment j of module m has.
-pub fn module_places(
-    numbers: &[u32],
-    modules: &[usize],
-    symbols: &[usize],
-    firsts: &[usize],
-    statements: &[usize],
-    verdicts: &[u32],
-    demand: &[usize],
-    keys: &[usize],
-    namespaces: &[usize],
-    m: ModuleIdx,
-    j: usize,
-) -> usize
-    requires { ⌜ Prepared (now numbers) (now modules) (now symbols) (now firsts) (now statements) (now verdicts) (now demand) (now keys) (now namespaces) ⌝ }
+// How many candidates segment j of module m has.
+pub fn module_candidates(numbers: &[u32], tables: &[usize], m: ModuleIdx, j: usize) -> usize
+    requires { ⌜ Prepared (now numbers) (now tables) ⌝ }
     requires { ⌜ (m .0 < headerIn (now numbers) .modules) × (j < 5) ⌝ }
     ensures { λ r. ⌜ r ≡ getD (moduleSegments (graphIn (now (numbers .entry))) (lastVerdicts (graphIn (now (numbers .entry)))) (m .0)) j noSegment .count ⌝ }
 {
     if j == 0 {
-        return facts::statement_count(numbers, modules, symbols, firsts, statements, m);
+        return modules::statement_count(numbers, tables, m);
     }
     if j == 1 {
-        return graph_access::module_list_length(numbers, modules, m.0, DEPENDENCIES);
+        return modules::dependency_count(numbers, tables, m);
     }
     if j == 2 {
-        return eval_imports(
-            numbers,
-            modules,
-            symbols,
-            firsts,
-            statements,
-            verdicts,
-            demand,
-            keys,
-            namespaces,
-            m,
-        );
+        return eval_candidates(numbers, tables, m);
     }
     if j == 3 {
-        return graph_access::module_list_length(numbers, modules, m.0, EXPORT_SYMBOLS);
+        return modules::export_symbol_count(numbers, tables, m);
     }
     1
 }
 
-// What place k of segment j of module m gives.
-pub fn module_pick(
+// What candidate k of segment j of module m gives.
+pub fn module_candidate(
     numbers: &[u32],
-    modules: &[usize],
-    symbols: &[usize],
-    firsts: &[usize],
-    statements: &[usize],
-    verdicts: &[u32],
-    demand: &[usize],
-    keys: &[usize],
-    namespaces: &[usize],
+    tables: &[usize],
     m: ModuleIdx,
     j: usize,
     k: usize,
-) -> Pick
-    requires { ⌜ Prepared (now numbers) (now modules) (now symbols) (now firsts) (now statements) (now verdicts) (now demand) (now keys) (now namespaces) ⌝ }
+) -> Candidate
+    requires { ⌜ Prepared (now numbers) (now tables) ⌝ }
     requires { ⌜ (m .0 < headerIn (now numbers) .modules) × (j < 5) × (k < getD (moduleSegments (graphIn (now numbers)) (lastVerdicts (graphIn (now numbers))) (m .0)) j noSegment .count) ⌝ }
     requires { ⌜ normal (graphIn (now numbers)) (m .0) ≡ true ⌝ }
-    ensures { λ r. ⌜ (r ≡ getD (moduleSegments (graphIn (now (numbers .entry))) (lastVerdicts (graphIn (now (numbers .entry)))) (m .0)) j noSegment .pick k) × GoodPick (graphIn (now (numbers .entry))) r ⌝ }
+    ensures { λ r. ⌜ (r ≡ getD (moduleSegments (graphIn (now (numbers .entry))) (lastVerdicts (graphIn (now (numbers .entry)))) (m .0)) j noSegment .candidate k) × GoodCandidate (graphIn (now (numbers .entry))) r ⌝ }
 {
     if j == 0 {
-        return sweep_pick(
-            numbers,
-            modules,
-            symbols,
-            firsts,
-            statements,
-            verdicts,
-            demand,
-            keys,
-            namespaces,
-            m,
-            StmtIdx(k),
-        );
+        return sweep_candidate(numbers, tables, m, StmtIdx(k));
     }
     if j == 1 {
-        return include_side_effectful_dependencies(
-            numbers,
-            modules,
-            symbols,
-            firsts,
-            statements,
-            verdicts,
-            demand,
-            keys,
-            namespaces,
-            m,
-            k,
-        );
+        return dependency_candidate(numbers, tables, m, k);
     }
     if j == 2 {
-        return eval_pick(
-            numbers,
-            modules,
-            symbols,
-            firsts,
-            statements,
-            verdicts,
-            demand,
-            keys,
-            namespaces,
-            m,
-            k,
-        );
+        return eval_candidate(numbers, tables, m, k);
     }
     if j == 3 {
-        return export_symbol_pick(
-            numbers,
-            modules,
-            symbols,
-            firsts,
-            statements,
-            verdicts,
-            demand,
-            keys,
-            namespaces,
-            m,
-            k,
-        );
+        return export_symbol_candidate(numbers, tables, m, k);
     }
-    dev_pick(
-        numbers,
-        modules,
-        symbols,
-        firsts,
-        statements,
-        verdicts,
-        demand,
-        keys,
-        namespaces,
-        m,
-    )
+    dev_candidate(numbers, tables, m)
 }

@@ -8,8 +8,7 @@ use lib.Dec.{eqb}
 use lib.ListN.{length, getD, drop}
 use Rattle.graph.specs.Check.{Graph}
 use Rattle.graph_access.specs.Names.{owner, symbolName, enumName, enumMember, enumMembers, referenceSymbol, referenceFlag, propertyCount, firstProperty}
-use Rattle.graph_access.specs.Lists.{rootOf}
-use Rattle.facts.specs.Words.{some, normal, moduleOf, symbolOf}
+use Rattle.graph_access.specs.Words.{some, normal, moduleOf, symbolOf, rootOf}
 use Rattle.facts.proofs.Folds.{some-next, some-here, some-none}
 use Rattle.keep_rules.specs.Rules.{inlined}
 

@@ -5,7 +5,7 @@ use mathlib.Core.Bool.{Bool, true, false}
 use lib.Dec.{eqb}
 use Rattle.graph.specs.Check.{Graph}
 use Rattle.graph_access.specs.Names.{moduleType, statementBits}
-use Rattle.facts.specs.Words.{flag, moduleOf, statementOf}
+use Rattle.graph_access.specs.Words.{flag, moduleOf, statementOf}
 use Rattle.keep_rules.specs.Rules.{reasonOf}
 
 module _ (g : Graph) (m i bits type : ℕ) (e : bits ≡ statementBits (statementOf g m i)) (f : type ≡ moduleType (moduleOf g m)) where

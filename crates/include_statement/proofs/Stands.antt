@@ -8,11 +8,11 @@ use lib.ListN.{length, getD, length-drop}
 use Rattle.graph_tables.specs.Tables.{headerIn}
 use Rattle.graph.specs.Check.{graphIn}
 use Rattle.graph_access.specs.Names.{references, referenceKind, referenceSymbol, referenceFlag, propertyCount, firstProperty, dependedOn}
-use Rattle.statement_access.proofs.ReadReferences.{width-0, width-2, width-3, kind-inside}
-use Rattle.statement_access.proofs.Ranges.{ReferenceGood}
-use Rattle.facts.specs.Words.{statementOf}
-use Rattle.facts.specs.Loaded.{Loaded}
-use Rattle.facts.proofs.Indexes.{reference-good-here}
+use Rattle.graph_access.proofs.ReadReferences.{width-0, width-2, width-3, kind-inside}
+use Rattle.graph_access.proofs.StatementRanges.{ReferenceGood}
+use Rattle.graph_access.specs.Words.{statementOf}
+use Rattle.graph.specs.Loaded.{Loaded}
+use Rattle.graph_access.proofs.Indexes.{reference-good-here}
 use Rattle.include_statement.specs.Here.{Here}
 
 module _ {numbers : List ℕ} {m i r place : ℕ} (h : Here numbers m i r place) where
@@ -87,7 +87,7 @@ module _ {numbers : List ℕ} {m i r place : ℕ} (h : Here numbers m i r place)
     pub symbol-is : getD numbers (place + 1) 0 ≡ referenceSymbol row
     symbol-is = plain (getD numbers place 0) refl a b (omega (arith, h .stands .few, h .stands .kind)) .1
 
-  module _ {modules symbols firsts statements : List ℕ} (t : Loaded numbers modules symbols firsts statements) where
+  module _ {tables : List ℕ} (t : Loaded numbers tables) where
     good : ReferenceGood (headerIn numbers .symbols) row
     unfolding graphIn
     good = reference-good-here t m i r (h .module-inside) (h .statement-inside) (h .reference-inside)

@@ -4,8 +4,8 @@ use mathlib.Core.List.{List, []}
 use lib.ListN.{length, getD}
 use Rattle.graph.specs.Check.{graphIn}
 use Rattle.graph_access.specs.Names.{references}
-use Rattle.statement_access.specs.References.{ReferenceAt}
-use Rattle.facts.specs.Words.{statementList, statementOf}
+use Rattle.graph_access.specs.References.{ReferenceAt}
+use Rattle.graph_access.specs.Words.{statementList, statementOf}
 
 -- reference r of statement i of module m stands at `place`
 pub record Here (numbers : List ℕ) (m i r place : ℕ) : Type 0 where

@@ -8,148 +8,97 @@ ghost use Rattle.graph_tables.specs.Tables.{headerIn};
 ghost use Rattle.graph.specs.Check.{graphIn};
 ghost use Rattle.determine_side_effects.specs.Effects.{lastVerdicts};
 ghost use Rattle.facts.specs.Facts.{Good, statementFact, useFact};
-ghost use Rattle.facts.specs.Words.{statementList, statementOf, moduleOf, normal};
+ghost use Rattle.graph_access.specs.Words.{statementList, statementOf, moduleOf, normal};
 ghost use mathlib.Core.Bool.{_&&_};
 ghost use lib.Dec.{eqb};
-ghost use Rattle.facts.specs.Words.{some};
-ghost use Rattle.graph_access.specs.Names.{records, recordTarget, statementRecords, references, enumName, enumMember, enumMembers};
-ghost use Rattle.statement_access.specs.References.{ReferenceAt};
-ghost use Rattle.keep_rules.specs.Rules.{recordOf, bailsOut, recordPick, reasonOf, inlined, plainPick, resolvedPick, referencePlaces, referencePick, forwards};
-ghost use Rattle.keep_rules.specs.Prepared.{Prepared, GoodPick};
+ghost use Rattle.graph_access.specs.Words.{some};
+ghost use Rattle.graph_access.specs.Names.{importRecords, importRecordTarget, statementImportRecords, references, enumName, enumMember, enumMembers};
+ghost use Rattle.graph_access.specs.References.{ReferenceAt};
+ghost use Rattle.keep_rules.specs.Rules.{importRecordOf, bailsOut, importRecordCandidate, reasonOf, inlined, plainCandidate, resolvedCandidate, referenceCandidates, referenceCandidate, forwards};
+ghost use Rattle.keep_rules.specs.Prepared.{Prepared, GoodCandidate};
 ghost use Rattle.include_statement.specs.Here.{Here};
 use facts::Fact;
-use facts::ModuleIdx;
 use facts::Reason;
-use facts::StmtIdx;
-use facts::SymbolIdx;
-use keep_rules::Pick;
+use graph_access::modules;
+use graph_access::modules::IS_CJS_REEXPORT;
+use graph_access::modules::TOP_LEVEL_PURE_DYNAMIC_IMPORT;
+use graph_access::statements;
+use graph_access::statements::REEXPORT_DYNAMIC_EXPORTS;
+use graph_access::symbols;
+use index::ImportRecordIdx;
+use index::ModuleIdx;
+use index::StmtIdx;
+use index::SymbolIdx;
+use keep_rules::Candidate;
 
-// Leading numbers of a module, a record and a symbol, and a module's list of enum members.
-const EXPORTS: usize = 2;
-
-const TYPE: usize = 3;
-
-const FLAGS: usize = 4;
-
-const REEXPORTS: usize = 8;
-
-const TARGET: usize = 0;
-
-const RECORD_KIND: usize = 1;
-
-const RECORD_BITS: usize = 2;
-
-const NAME: usize = 1;
-
-const ENUM_MEMBERS: usize = 8;
-
-// Whether record e of module m, which is resolved to module t, bails out that module.
+// Whether import record e of module m, which is resolved to module t, bails out that module.
 fn bails_out(
     numbers: &[u32],
-    modules: &[usize],
-    symbols: &[usize],
-    firsts: &[usize],
-    statements: &[usize],
-    verdicts: &[u32],
-    demand: &[usize],
-    keys: &[usize],
-    namespaces: &[usize],
+    tables: &[usize],
     m: ModuleIdx,
-    e: usize,
+    e: ImportRecordIdx,
     t: ModuleIdx,
 ) -> bool
-    requires { ⌜ Prepared (now numbers) (now modules) (now symbols) (now firsts) (now statements) (now verdicts) (now demand) (now keys) (now namespaces) ⌝ }
-    requires { ⌜ (m .0 < headerIn (now numbers) .modules) × (t .0 < headerIn (now numbers) .modules) × (e < length (records (moduleOf (graphIn (now numbers)) (m .0)))) × (recordTarget (getD (records (moduleOf (graphIn (now numbers)) (m .0))) e []) ≡ t .0 + 1) ⌝ }
-    ensures { λ r. ⌜ r ≡ bailsOut (graphIn (now (numbers .entry))) (lastVerdicts (graphIn (now (numbers .entry)))) (m .0) (getD (records (moduleOf (graphIn (now (numbers .entry))) (m .0))) e []) ⌝ }
+    requires { ⌜ Prepared (now numbers) (now tables) ⌝ }
+    requires { ⌜ (m .0 < headerIn (now numbers) .modules) × (t .0 < headerIn (now numbers) .modules) × (e .0 < length (importRecords (moduleOf (graphIn (now numbers)) (m .0)))) × (importRecordTarget (getD (importRecords (moduleOf (graphIn (now numbers)) (m .0))) (e .0) []) ≡ t .0 + 1) ⌝ }
+    ensures { λ r. ⌜ r ≡ bailsOut (graphIn (now (numbers .entry))) (lastVerdicts (graphIn (now (numbers .entry)))) (m .0) (getD (importRecords (moduleOf (graphIn (now (numbers .entry))) (m .0))) (e .0) []) ⌝ }
 {
-    if !linking_metadata::is_normal(numbers, modules, symbols, firsts, statements, t) {
+    if !modules::is_normal(numbers, tables, t) {
         return false;
     }
-    if graph_tables::module_number(numbers, modules, t.0, EXPORTS) != 1 {
+    if modules::exports(numbers, tables, t) != 1 {
         return false;
     }
-    if graph_tables::record_number(numbers, modules, m.0, e, RECORD_KIND) == 0 {
+    if modules::import_record_kind(numbers, tables, m, e) == 0 {
         return false;
     }
     if facts::flag(
-        graph_tables::record_number(numbers, modules, m.0, e, RECORD_BITS),
-        1,
+        modules::import_record_bits(numbers, tables, m, e),
+        TOP_LEVEL_PURE_DYNAMIC_IMPORT,
     ) {
-        if !determine_side_effects::has_effects(verdicts, t) {
+        if !determine_side_effects::has_effects(numbers, tables, t) {
             return false;
         }
     }
-    if !facts::flag(graph_tables::module_number(numbers, modules, m.0, FLAGS), 2) {
+    if !facts::flag(modules::flags(numbers, tables, m), IS_CJS_REEXPORT) {
         return true;
     }
-    graph_tables::module_number(numbers, modules, m.0, REEXPORTS) > 1
+    modules::reexport_count(numbers, tables, m) > 1
 }
 
-// K7, place k.
-pub fn scan_import_records_for_cjs_bailout(
+// K7, candidate k (`scan_import_records_for_cjs_bailout`).
+pub fn import_record_candidate(
     numbers: &[u32],
-    modules: &[usize],
-    symbols: &[usize],
-    firsts: &[usize],
-    statements: &[usize],
-    verdicts: &[u32],
-    demand: &[usize],
-    keys: &[usize],
-    namespaces: &[usize],
+    tables: &[usize],
     m: ModuleIdx,
     i: StmtIdx,
     k: usize,
-) -> Pick
-    requires { ⌜ Prepared (now numbers) (now modules) (now symbols) (now firsts) (now statements) (now verdicts) (now demand) (now keys) (now namespaces) ⌝ }
-    requires { ⌜ (m .0 < headerIn (now numbers) .modules) × (i .0 < length (statementList (graphIn (now numbers)) (m .0))) × (k < length (statementRecords (statementOf (graphIn (now numbers)) (m .0) (i .0)))) ⌝ }
-    ensures { λ r. ⌜ (r ≡ recordPick (graphIn (now (numbers .entry))) (lastVerdicts (graphIn (now (numbers .entry)))) (m .0) (i .0) k) × GoodPick (graphIn (now (numbers .entry))) r ⌝ }
+) -> Candidate
+    requires { ⌜ Prepared (now numbers) (now tables) ⌝ }
+    requires { ⌜ (m .0 < headerIn (now numbers) .modules) × (i .0 < length (statementList (graphIn (now numbers)) (m .0))) × (k < length (statementImportRecords (statementOf (graphIn (now numbers)) (m .0) (i .0)))) ⌝ }
+    ensures { λ r. ⌜ (r ≡ importRecordCandidate (graphIn (now (numbers .entry))) (lastVerdicts (graphIn (now (numbers .entry)))) (m .0) (i .0) k) × GoodCandidate (graphIn (now (numbers .entry))) r ⌝ }
 {
-    let e = statement_access::statement_record(numbers, modules, firsts, statements, m.0, i.0, k);
-    let target = graph_tables::record_number(numbers, modules, m.0, e, TARGET);
+    let e = statements::import_record(numbers, tables, m, i, k);
+    let target = modules::import_record_target(numbers, tables, m, e);
     if target == 0 {
-        return Pick::Nothing;
+        return Candidate::Nothing;
     }
     let t = ModuleIdx(target - 1);
-    if bails_out(
-        numbers,
-        modules,
-        symbols,
-        firsts,
-        statements,
-        verdicts,
-        demand,
-        keys,
-        namespaces,
-        m,
-        e,
-        t,
-    ) {
-        return Pick::Gives(Fact::Bailout(t));
+    if bails_out(numbers, tables, m, e, t) {
+        return Candidate::Gives(Fact::Bailout(t));
     }
-    Pick::Nothing
+    Candidate::Nothing
 }
 
 // The reason of the uses that the references of statement i give.
-fn include_kind(
-    numbers: &[u32],
-    modules: &[usize],
-    symbols: &[usize],
-    firsts: &[usize],
-    statements: &[usize],
-    verdicts: &[u32],
-    demand: &[usize],
-    keys: &[usize],
-    namespaces: &[usize],
-    m: ModuleIdx,
-    i: StmtIdx,
-) -> Reason
-    requires { ⌜ Prepared (now numbers) (now modules) (now symbols) (now firsts) (now statements) (now verdicts) (now demand) (now keys) (now namespaces) ⌝ }
+fn include_kind(numbers: &[u32], tables: &[usize], m: ModuleIdx, i: StmtIdx) -> Reason
+    requires { ⌜ Prepared (now numbers) (now tables) ⌝ }
     requires { ⌜ (m .0 < headerIn (now numbers) .modules) × (i .0 < length (statementList (graphIn (now numbers)) (m .0))) ⌝ }
     ensures { λ r. ⌜ (r .bits ≡ reasonOf (graphIn (now (numbers .entry))) (m .0) (i .0)) × (0 < r .bits) × (r .bits < 32) ⌝ }
 {
-    let bits = statement_access::statement_bits(numbers, modules, firsts, statements, m.0, i.0);
-    let json = graph_tables::module_number(numbers, modules, m.0, TYPE) == 2;
-    if facts::flag(bits, 3) {
+    let bits = statements::bits(numbers, tables, m, i);
+    let json = modules::module_type(numbers, tables, m) == 2;
+    if facts::flag(bits, REEXPORT_DYNAMIC_EXPORTS) {
         if json {
             return Reason { bits: 12 };
         }
@@ -162,31 +111,16 @@ fn include_kind(
 }
 
 // Whether an enum of module m by this name has this member.
-fn enum_member(
-    numbers: &[u32],
-    modules: &[usize],
-    symbols: &[usize],
-    firsts: &[usize],
-    statements: &[usize],
-    verdicts: &[u32],
-    demand: &[usize],
-    keys: &[usize],
-    namespaces: &[usize],
-    m: ModuleIdx,
-    name: usize,
-    member: usize,
-) -> bool
-    requires { ⌜ Prepared (now numbers) (now modules) (now symbols) (now firsts) (now statements) (now verdicts) (now demand) (now keys) (now namespaces) ⌝ }
+fn enum_member(numbers: &[u32], tables: &[usize], m: ModuleIdx, name: usize, member: usize) -> bool
+    requires { ⌜ Prepared (now numbers) (now tables) ⌝ }
     requires { ⌜ m .0 < headerIn (now numbers) .modules ⌝ }
     ensures { λ r. ⌜ r ≡ some (λ e. eqb (enumName e) name && eqb (enumMember e) member) (enumMembers (moduleOf (graphIn (now (numbers .entry))) (m .0))) ⌝ }
 {
-    let count = graph_access::module_list_length(numbers, modules, m.0, ENUM_MEMBERS);
+    let count = modules::enum_member_count(numbers, tables, m);
     let mut k: usize = 0;
     while k < count {
-        if graph_access::module_list_number(numbers, modules, m.0, ENUM_MEMBERS, k, 0) == name {
-            if graph_access::module_list_number(numbers, modules, m.0, ENUM_MEMBERS, k, 1)
-                == member
-            {
+        if modules::enum_name(numbers, tables, m, k) == name {
+            if modules::enum_member(numbers, tables, m, k) == member {
                 return true;
             }
         }
@@ -198,35 +132,21 @@ fn enum_member(
 // Whether the reference of kind 3 that stands at `place`, reference r of statement i, is an enum member that is inlined.
 fn is_inlined_enum_member_access(
     numbers: &[u32],
-    modules: &[usize],
-    symbols: &[usize],
-    firsts: &[usize],
-    statements: &[usize],
-    verdicts: &[u32],
-    demand: &[usize],
-    keys: &[usize],
-    namespaces: &[usize],
+    tables: &[usize],
     m: ModuleIdx,
     i: StmtIdx,
     r: usize,
     place: usize,
 ) -> bool
-    requires { ⌜ Prepared (now numbers) (now modules) (now symbols) (now firsts) (now statements) (now verdicts) (now demand) (now keys) (now namespaces) ⌝ }
+    requires { ⌜ Prepared (now numbers) (now tables) ⌝ }
     requires { ⌜ Here (now numbers) (m .0) (i .0) r place ⌝ }
     requires { ⌜ getD (now numbers) place 0 ≡ 3 ⌝ }
     ensures { λ b. ⌜ b ≡ inlined (graphIn (now (numbers .entry))) (getD (references (statementOf (graphIn (now (numbers .entry))) (m .0) (i .0))) r []) ⌝ }
 {
-    let object = rows::wide(numbers[place + 1]);
-    let root = graph_access::root_of(numbers, symbols, object);
-    let owner = linking_metadata::owner(
-        numbers,
-        modules,
-        symbols,
-        firsts,
-        statements,
-        SymbolIdx(root),
-    );
-    if !linking_metadata::is_normal(numbers, modules, symbols, firsts, statements, owner) {
+    let object = SymbolIdx(rows::wide(numbers[place + 1]));
+    let root = symbols::root(numbers, tables, object);
+    let owner = symbols::owner(numbers, tables, root);
+    if !modules::is_normal(numbers, tables, owner) {
         return false;
     }
     if numbers[place + 2] != 0 {
@@ -235,42 +155,22 @@ fn is_inlined_enum_member_access(
     if numbers[place + 3] != 1 {
         return false;
     }
-    let name = graph_tables::symbol_number(numbers, symbols, root, NAME);
-    enum_member(
-        numbers,
-        modules,
-        symbols,
-        firsts,
-        statements,
-        verdicts,
-        demand,
-        keys,
-        namespaces,
-        owner,
-        name,
-        rows::wide(numbers[place + 4]),
-    )
+    let name = symbols::name(numbers, tables, root);
+    enum_member(numbers, tables, owner, name, rows::wide(numbers[place + 4]))
 }
 
-// How many places the reference that stands at `place`, reference r of statement i, has.
-pub fn reference_places(
+// How many candidates the reference that stands at `place`, reference r of statement i, has.
+pub fn reference_candidates(
     numbers: &[u32],
-    modules: &[usize],
-    symbols: &[usize],
-    firsts: &[usize],
-    statements: &[usize],
-    verdicts: &[u32],
-    demand: &[usize],
-    keys: &[usize],
-    namespaces: &[usize],
+    tables: &[usize],
     m: ModuleIdx,
     i: StmtIdx,
     r: usize,
     place: usize,
 ) -> usize
-    requires { ⌜ Prepared (now numbers) (now modules) (now symbols) (now firsts) (now statements) (now verdicts) (now demand) (now keys) (now namespaces) ⌝ }
+    requires { ⌜ Prepared (now numbers) (now tables) ⌝ }
     requires { ⌜ Here (now numbers) (m .0) (i .0) r place ⌝ }
-    ensures { λ n. ⌜ n ≡ referencePlaces (graphIn (now (numbers .entry))) (getD (references (statementOf (graphIn (now (numbers .entry))) (m .0) (i .0))) r []) ⌝ }
+    ensures { λ n. ⌜ n ≡ referenceCandidates (graphIn (now (numbers .entry))) (getD (references (statementOf (graphIn (now (numbers .entry))) (m .0) (i .0))) r []) ⌝ }
 {
     let kind = numbers[place];
     if kind == 1 {
@@ -280,168 +180,61 @@ pub fn reference_places(
         return rows::wide(numbers[place + 3]) + 1;
     }
     if kind == 3 {
-        if is_inlined_enum_member_access(
-            numbers,
-            modules,
-            symbols,
-            firsts,
-            statements,
-            verdicts,
-            demand,
-            keys,
-            namespaces,
-            m,
-            i,
-            r,
-            place,
-        ) {
+        if is_inlined_enum_member_access(numbers, tables, m, i, r, place) {
             return 0;
         }
     }
     let s = rows::wide(numbers[place + 1]);
-    keep_rules::forward_count(
-        numbers,
-        modules,
-        symbols,
-        firsts,
-        statements,
-        verdicts,
-        demand,
-        keys,
-        namespaces,
-        SymbolIdx(s),
-    )
-        + 1
+    keep_rules::forward_count(numbers, tables, SymbolIdx(s)) + 1
 }
 
-// K8, place k of a resolved member.
-fn resolved_pick(
+// K8, candidate k of a resolved member.
+fn resolved_candidate(
     numbers: &[u32],
-    modules: &[usize],
-    symbols: &[usize],
-    firsts: &[usize],
-    statements: &[usize],
-    verdicts: &[u32],
-    demand: &[usize],
-    keys: &[usize],
-    namespaces: &[usize],
+    tables: &[usize],
     m: ModuleIdx,
     i: StmtIdx,
     r: usize,
     place: usize,
     k: usize,
-) -> Pick
-    requires { ⌜ Prepared (now numbers) (now modules) (now symbols) (now firsts) (now statements) (now verdicts) (now demand) (now keys) (now namespaces) ⌝ }
+) -> Candidate
+    requires { ⌜ Prepared (now numbers) (now tables) ⌝ }
     requires { ⌜ Here (now numbers) (m .0) (i .0) r place ⌝ }
-    requires { ⌜ (getD (now numbers) place 0 ≡ 2) × (k < referencePlaces (graphIn (now numbers)) (getD (references (statementOf (graphIn (now numbers)) (m .0) (i .0))) r [])) ⌝ }
-    ensures { λ p. ⌜ (p ≡ resolvedPick (getD (references (statementOf (graphIn (now (numbers .entry))) (m .0) (i .0))) r []) (reasonOf (graphIn (now (numbers .entry))) (m .0) (i .0)) k) × GoodPick (graphIn (now (numbers .entry))) p ⌝ }
+    requires { ⌜ (getD (now numbers) place 0 ≡ 2) × (k < referenceCandidates (graphIn (now numbers)) (getD (references (statementOf (graphIn (now numbers)) (m .0) (i .0))) r [])) ⌝ }
+    ensures { λ p. ⌜ (p ≡ resolvedCandidate (getD (references (statementOf (graphIn (now (numbers .entry))) (m .0) (i .0))) r []) (reasonOf (graphIn (now (numbers .entry))) (m .0) (i .0)) k) × GoodCandidate (graphIn (now (numbers .entry))) p ⌝ }
 {
     if k < rows::wide(numbers[place + 3]) {
-        return Pick::Gives(Fact::Forward(SymbolIdx(rows::wide(numbers[place + 4 + k]))));
+        return Candidate::Gives(Fact::Forward(SymbolIdx(rows::wide(numbers[place + 4 + k]))));
     }
-    let x = include_kind(
-        numbers,
-        modules,
-        symbols,
-        firsts,
-        statements,
-        verdicts,
-        demand,
-        keys,
-        namespaces,
-        m,
-        i,
-    );
+    let x = include_kind(numbers, tables, m, i);
     let s = SymbolIdx(rows::wide(numbers[place + 1]));
     if numbers[place + 2] == 1 {
-        return Pick::Gives(Fact::Use(s, x));
+        return Candidate::Gives(Fact::Use(s, x));
     }
-    Pick::Gives(Fact::Checked(s, x))
+    Candidate::Gives(Fact::CheckedUse(s, x))
 }
 
-// K8, place k of the reference that stands at `place`, reference r of statement i.
-pub fn reference_pick(
+// K8, candidate k of the reference that stands at `place`, reference r of statement i.
+pub fn reference_candidate(
     numbers: &[u32],
-    modules: &[usize],
-    symbols: &[usize],
-    firsts: &[usize],
-    statements: &[usize],
-    verdicts: &[u32],
-    demand: &[usize],
-    keys: &[usize],
-    namespaces: &[usize],
+    tables: &[usize],
     m: ModuleIdx,
     i: StmtIdx,
     r: usize,
     place: usize,
     k: usize,
-) -> Pick
-    requires { ⌜ Prepared (now numbers) (now modules) (now symbols) (now firsts) (now statements) (now verdicts) (now demand) (now keys) (now namespaces) ⌝ }
+) -> Candidate
+    requires { ⌜ Prepared (now numbers) (now tables) ⌝ }
     requires { ⌜ Here (now numbers) (m .0) (i .0) r place ⌝ }
-    requires { ⌜ k < referencePlaces (graphIn (now numbers)) (getD (references (statementOf (graphIn (now numbers)) (m .0) (i .0))) r []) ⌝ }
-    ensures { λ p. ⌜ (p ≡ referencePick (graphIn (now (numbers .entry))) (reasonOf (graphIn (now (numbers .entry))) (m .0) (i .0)) (getD (references (statementOf (graphIn (now (numbers .entry))) (m .0) (i .0))) r []) k) × GoodPick (graphIn (now (numbers .entry))) p ⌝ }
+    requires { ⌜ k < referenceCandidates (graphIn (now numbers)) (getD (references (statementOf (graphIn (now numbers)) (m .0) (i .0))) r []) ⌝ }
+    ensures { λ p. ⌜ (p ≡ referenceCandidate (graphIn (now (numbers .entry))) (reasonOf (graphIn (now (numbers .entry))) (m .0) (i .0)) (getD (references (statementOf (graphIn (now (numbers .entry))) (m .0) (i .0))) r []) k) × GoodCandidate (graphIn (now (numbers .entry))) p ⌝ }
 {
     if numbers[place] == 2 {
-        return resolved_pick(
-            numbers,
-            modules,
-            symbols,
-            firsts,
-            statements,
-            verdicts,
-            demand,
-            keys,
-            namespaces,
-            m,
-            i,
-            r,
-            place,
-            k,
-        );
+        return resolved_candidate(numbers, tables, m, i, r, place, k);
     }
     let s = SymbolIdx(rows::wide(numbers[place + 1]));
-    if k
-        < keep_rules::forward_count(
-            numbers,
-            modules,
-            symbols,
-            firsts,
-            statements,
-            verdicts,
-            demand,
-            keys,
-            namespaces,
-            s,
-        )
-    {
-        return keep_rules::retain_forwarding_declarations(
-            numbers,
-            modules,
-            symbols,
-            firsts,
-            statements,
-            verdicts,
-            demand,
-            keys,
-            namespaces,
-            s,
-            k,
-        );
+    if k < keep_rules::forward_count(numbers, tables, s) {
+        return keep_rules::forward_candidate(numbers, tables, s, k);
     }
-    Pick::Gives(Fact::Checked(
-        s,
-        include_kind(
-            numbers,
-            modules,
-            symbols,
-            firsts,
-            statements,
-            verdicts,
-            demand,
-            keys,
-            namespaces,
-            m,
-            i,
-        ),
-    ))
+    Candidate::Gives(Fact::CheckedUse(s, include_kind(numbers, tables, m, i)))
 }

@@ -6,21 +6,20 @@ use borrow.Author.Tests.{eq-eqb, ne-eqb}
 use lib.Dec.{eqb}
 use Rattle.graph.specs.Check.{Graph}
 use Rattle.graph_access.specs.Names.{owner, aliasNamespace, aliasName}
-use Rattle.graph_access.specs.Lists.{rootOf}
+use Rattle.graph_access.specs.Words.{rootOf, symbolOf}
 use Rattle.facts.specs.Facts.{useFact, bailoutFact}
-use Rattle.facts.specs.Words.{symbolOf}
 use Rattle.linking_metadata.specs.Namespaces.{commonJsOf, isNamespace}
-use Rattle.keep_rules.specs.declared.Pick.{Pick}
-use Rattle.keep_rules.specs.declared.Pick.the-variants.{Gives, Nothing}
-use Rattle.keep_rules.specs.Rules.{when, bailoutPick, defaultAlias, checkedPick}
+use Rattle.keep_rules.specs.declared.Candidate.{Candidate}
+use Rattle.keep_rules.specs.declared.Candidate.the-variants.{Gives, Nothing}
+use Rattle.keep_rules.specs.Rules.{when, bailoutCandidate, defaultAlias, checkedCandidate}
 
-pub bailout-none : (n : ℕ) → n ≡ 0 → Nothing ≡ bailoutPick n
-unfolding bailoutPick
-bailout-none n e = rw (eq-eqb n 0 e, bailoutPick)
+pub bailout-none : (n : ℕ) → n ≡ 0 → Nothing ≡ bailoutCandidate n
+unfolding bailoutCandidate
+bailout-none n e = rw (eq-eqb n 0 e, bailoutCandidate)
 
-pub bailout-some : (n : ℕ) → (n ≡ 0 → ⊥) → Gives (bailoutFact (n - 1)) ≡ bailoutPick n
-unfolding bailoutPick
-bailout-some n e = rw (ne-eqb n 0 e, bailoutPick)
+pub bailout-some : (n : ℕ) → (n ≡ 0 → ⊥) → Gives (bailoutFact (n - 1)) ≡ bailoutCandidate n
+unfolding bailoutCandidate
+bailout-some n e = rw (ne-eqb n 0 e, bailoutCandidate)
 
 -- the root's alias namespace is a
 module _ (g : Graph) (root a : ℕ) (e : a ≡ aliasNamespace (symbolOf g root)) where
@@ -35,31 +34,31 @@ module _ (g : Graph) (root a : ℕ) (e : a ≡ aliasNamespace (symbolOf g root))
   unfolding defaultAlias
   alias-other name f n o = rw (some n, ne-eqb _ 0 (λ z. o (f ∙ z)), defaultAlias)
 
-  pub alias-default : (name : ℕ) {n : ℕ} {r : Pick} → name ≡ aliasName (symbolOf g root) → (a ≡ 0 → ⊥) → name ≡ 0 → n ≡ commonJsOf g (a - 1) → r ≡ bailoutPick n → r ≡ defaultAlias g root
+  pub alias-default : (name : ℕ) {n : ℕ} {r : Candidate} → name ≡ aliasName (symbolOf g root) → (a ≡ 0 → ⊥) → name ≡ 0 → n ≡ commonJsOf g (a - 1) → r ≡ bailoutCandidate n → r ≡ defaultAlias g root
   unfolding defaultAlias
-  alias-default name f n z i h = h ∙ ap bailoutPick (i ∙ ap (λ b. commonJsOf g (b - 1)) e) ∙ rw (some n, eq-eqb _ 0 (sym f ∙ z), defaultAlias)
+  alias-default name f n z i h = h ∙ ap bailoutCandidate (i ∙ ap (λ b. commonJsOf g (b - 1)) e) ∙ rw (some n, eq-eqb _ 0 (sym f ∙ z), defaultAlias)
 
 module _ (g : Graph) (s x k : ℕ) where
-  pub checked-use : k ≡ 0 → Gives (useFact s x) ≡ checkedPick g s x k
-  unfolding checkedPick
-  checked-use z = rw (eq-eqb k 0 z, checkedPick)
+  pub checked-use : k ≡ 0 → Gives (useFact s x) ≡ checkedCandidate g s x k
+  unfolding checkedCandidate
+  checked-use z = rw (eq-eqb k 0 z, checkedCandidate)
 
   module _ (root : ℕ) (i : root ≡ rootOf (g .symbols) s) (n0 : k ≡ 0 → ⊥) where
-    pub checked-root : {n : ℕ} {r : Pick} → k ≡ 1 → n ≡ commonJsOf g root → r ≡ bailoutPick n → r ≡ checkedPick g s x k
-    unfolding checkedPick
-    checked-root z f h = h ∙ ap bailoutPick (f ∙ ap (commonJsOf g) i) ∙ rw (ne-eqb k 0 n0, eq-eqb k 1 z, checkedPick)
+    pub checked-root : {n : ℕ} {r : Candidate} → k ≡ 1 → n ≡ commonJsOf g root → r ≡ bailoutCandidate n → r ≡ checkedCandidate g s x k
+    unfolding checkedCandidate
+    checked-root z f h = h ∙ ap bailoutCandidate (f ∙ ap (commonJsOf g) i) ∙ rw (ne-eqb k 0 n0, eq-eqb k 1 z, checkedCandidate)
 
     is : {b t : Bool} → b ≡ isNamespace g root → b ≡ t → isNamespace g (rootOf (g .symbols) s) ≡ t
     is f t = ap (isNamespace g) (sym i) ∙ sym f ∙ t
 
-    pub checked-namespace : {b : Bool} {o : ℕ} → (k ≡ 1 → ⊥) → k ≡ 2 → b ≡ isNamespace g root → b ≡ true → o ≡ owner (symbolOf g root) → Gives (bailoutFact o) ≡ checkedPick g s x k
-    unfolding checkedPick when
-    checked-namespace n1 z f t w = ap (λ m. Gives (bailoutFact m)) (w ∙ ap (λ r. owner (symbolOf g r)) i) ∙ rw (ne-eqb k 0 n0, ne-eqb k 1 n1, eq-eqb k 2 z, checkedPick, is f t, when)
+    pub checked-namespace : {b : Bool} {o : ℕ} → (k ≡ 1 → ⊥) → k ≡ 2 → b ≡ isNamespace g root → b ≡ true → o ≡ owner (symbolOf g root) → Gives (bailoutFact o) ≡ checkedCandidate g s x k
+    unfolding checkedCandidate when
+    checked-namespace n1 z f t w = ap (λ m. Gives (bailoutFact m)) (w ∙ ap (λ r. owner (symbolOf g r)) i) ∙ rw (ne-eqb k 0 n0, ne-eqb k 1 n1, eq-eqb k 2 z, checkedCandidate, is f t, when)
 
-    pub checked-plain : {b : Bool} → (k ≡ 1 → ⊥) → k ≡ 2 → b ≡ isNamespace g root → b ≡ false → Nothing ≡ checkedPick g s x k
-    unfolding checkedPick when
-    checked-plain n1 z f t = rw (ne-eqb k 0 n0, ne-eqb k 1 n1, eq-eqb k 2 z, checkedPick, is f t, when)
+    pub checked-plain : {b : Bool} → (k ≡ 1 → ⊥) → k ≡ 2 → b ≡ isNamespace g root → b ≡ false → Nothing ≡ checkedCandidate g s x k
+    unfolding checkedCandidate when
+    checked-plain n1 z f t = rw (ne-eqb k 0 n0, ne-eqb k 1 n1, eq-eqb k 2 z, checkedCandidate, is f t, when)
 
-    pub checked-alias : {r : Pick} → (k ≡ 1 → ⊥) → (k ≡ 2 → ⊥) → r ≡ defaultAlias g root → r ≡ checkedPick g s x k
-    unfolding checkedPick
-    checked-alias n1 n2 h = h ∙ ap (defaultAlias g) i ∙ rw (ne-eqb k 0 n0, ne-eqb k 1 n1, ne-eqb k 2 n2, checkedPick)
+    pub checked-alias : {r : Candidate} → (k ≡ 1 → ⊥) → (k ≡ 2 → ⊥) → r ≡ defaultAlias g root → r ≡ checkedCandidate g s x k
+    unfolding checkedCandidate
+    checked-alias n1 n2 h = h ∙ ap (defaultAlias g) i ∙ rw (ne-eqb k 0 n0, ne-eqb k 1 n1, ne-eqb k 2 n2, checkedCandidate)

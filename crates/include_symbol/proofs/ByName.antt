@@ -10,11 +10,11 @@ use lib.ListN.{length, getD, drop, drop-of-length-le}
 use Rattle.graph.specs.Check.{Graph}
 use Rattle.graph_access.specs.Names.{exportName, exportSymbol, resolvedExports, aliasNamespace, aliasName}
 use Rattle.facts.specs.Facts.{useFact}
-use Rattle.facts.specs.Words.{normal, moduleOf, symbolOf}
+use Rattle.graph_access.specs.Words.{normal, moduleOf, symbolOf}
 use Rattle.linking_metadata.specs.Namespaces.{commonJsOf}
-use Rattle.keep_rules.specs.declared.Pick.{Pick}
-use Rattle.keep_rules.specs.declared.Pick.the-variants.{Gives, Nothing}
-use Rattle.keep_rules.specs.Rules.{exportOf, exportPick, aliasPick}
+use Rattle.keep_rules.specs.declared.Candidate.{Candidate}
+use Rattle.keep_rules.specs.declared.Candidate.the-variants.{Gives, Nothing}
+use Rattle.keep_rules.specs.Rules.{exportOf, exportCandidate, aliasCandidate}
 
 -- the rows from row k on have the answer
 module _ (name : ℕ) (rows : List (List ℕ)) (k : ℕ) {whole : ℕ} (left : exportOf name (drop k rows) ≡ whole) where
@@ -34,32 +34,32 @@ module _ (name : ℕ) (rows : List (List ℕ)) (k : ℕ) {whole : ℕ} (left : e
   export-none l = sym (rw (drop-of-length-le rows l, exportOf)) ∙ left
 
 module _ (g : Graph) (name n : ℕ) where
-  pub pick-none : n ≡ 0 → Nothing ≡ exportPick g name n
-  unfolding exportPick
-  pick-none e = rw (eq-eqb n 0 e, exportPick)
+  pub pick-none : n ≡ 0 → Nothing ≡ exportCandidate g name n
+  unfolding exportCandidate
+  pick-none e = rw (eq-eqb n 0 e, exportCandidate)
 
-  pub pick-external : (n ≡ 0 → ⊥) → normal g (n - 1) ≡ false → Nothing ≡ exportPick g name n
-  unfolding exportPick
-  pick-external e f = rw (ne-eqb n 0 e, f, exportPick)
+  pub pick-external : (n ≡ 0 → ⊥) → normal g (n - 1) ≡ false → Nothing ≡ exportCandidate g name n
+  unfolding exportCandidate
+  pick-external e f = rw (ne-eqb n 0 e, f, exportCandidate)
 
-  pub pick-default : (n ≡ 0 → ⊥) → normal g (n - 1) ≡ true → name ≡ 0 → Nothing ≡ exportPick g name n
-  unfolding exportPick
-  pick-default e f z = rw (ne-eqb n 0 e, f, eq-eqb name 0 z, exportPick)
+  pub pick-default : (n ≡ 0 → ⊥) → normal g (n - 1) ≡ true → name ≡ 0 → Nothing ≡ exportCandidate g name n
+  unfolding exportCandidate
+  pick-default e f z = rw (ne-eqb n 0 e, f, eq-eqb name 0 z, exportCandidate)
 
-  pub pick-missing : (n ≡ 0 → ⊥) → normal g (n - 1) ≡ true → (name ≡ 0 → ⊥) → exportOf name (resolvedExports (moduleOf g (n - 1))) ≡ 0 → Nothing ≡ exportPick g name n
-  unfolding exportPick
-  pick-missing e f z m = rw (ne-eqb n 0 e, f, ne-eqb name 0 z, eq-eqb _ 0 m, exportPick)
+  pub pick-missing : (n ≡ 0 → ⊥) → normal g (n - 1) ≡ true → (name ≡ 0 → ⊥) → exportOf name (resolvedExports (moduleOf g (n - 1))) ≡ 0 → Nothing ≡ exportCandidate g name n
+  unfolding exportCandidate
+  pick-missing e f z m = rw (ne-eqb n 0 e, f, ne-eqb name 0 z, eq-eqb _ 0 m, exportCandidate)
 
-  pub pick-found : (x : ℕ) → (n ≡ 0 → ⊥) → normal g (n - 1) ≡ true → (name ≡ 0 → ⊥) → x ≡ exportOf name (resolvedExports (moduleOf g (n - 1))) → (x ≡ 0 → ⊥) → Gives (useFact (x - 1) 1) ≡ exportPick g name n
-  unfolding exportPick
-  pick-found x e f z i m = ap (λ y. Gives (useFact (y - 1) 1)) i ∙ rw (ne-eqb n 0 e, f, ne-eqb name 0 z, ne-eqb _ 0 (λ j. m (i ∙ j)), exportPick)
+  pub pick-found : (x : ℕ) → (n ≡ 0 → ⊥) → normal g (n - 1) ≡ true → (name ≡ 0 → ⊥) → x ≡ exportOf name (resolvedExports (moduleOf g (n - 1))) → (x ≡ 0 → ⊥) → Gives (useFact (x - 1) 1) ≡ exportCandidate g name n
+  unfolding exportCandidate
+  pick-found x e f z i m = ap (λ y. Gives (useFact (y - 1) 1)) i ∙ rw (ne-eqb n 0 e, f, ne-eqb name 0 z, ne-eqb _ 0 (λ j. m (i ∙ j)), exportCandidate)
 
 -- the root's alias namespace is a
 module _ (g : Graph) (root k a : ℕ) (e : a ≡ aliasNamespace (symbolOf g root)) where
-  pub no-alias : a ≡ 0 → Nothing ≡ aliasPick g root k
-  unfolding aliasPick
-  no-alias z = rw (eq-eqb _ 0 (sym e ∙ z), aliasPick)
+  pub no-alias : a ≡ 0 → Nothing ≡ aliasCandidate g root k
+  unfolding aliasCandidate
+  no-alias z = rw (eq-eqb _ 0 (sym e ∙ z), aliasCandidate)
 
-  pub an-alias : (name : ℕ) {n : ℕ} {r : Pick} → (a ≡ 0 → ⊥) → name ≡ aliasName (symbolOf g root) → n ≡ commonJsOf g (a - 1) → r ≡ exportPick g name n → r ≡ aliasPick g root k
-  unfolding aliasPick
-  an-alias name {n} z f i h = h ∙ ap (λ x. exportPick g x n) f ∙ ap (λ x. exportPick g (aliasName (symbolOf g root)) x) (i ∙ ap (λ b. commonJsOf g (b - 1)) e) ∙ rw (ne-eqb _ 0 (λ j. z (e ∙ j)), aliasPick)
+  pub an-alias : (name : ℕ) {n : ℕ} {r : Candidate} → (a ≡ 0 → ⊥) → name ≡ aliasName (symbolOf g root) → n ≡ commonJsOf g (a - 1) → r ≡ exportCandidate g name n → r ≡ aliasCandidate g root k
+  unfolding aliasCandidate
+  an-alias name {n} z f i h = h ∙ ap (λ x. exportCandidate g x n) f ∙ ap (λ x. exportCandidate g (aliasName (symbolOf g root)) x) (i ∙ ap (λ b. commonJsOf g (b - 1)) e) ∙ rw (ne-eqb _ 0 (λ j. z (e ∙ j)), aliasCandidate)

@@ -9,12 +9,11 @@ use lib.Dec.{eqb}
 use lib.ListN.{length}
 use Rattle.graph.specs.Check.{Graph}
 use Rattle.graph_access.specs.Names.{constantBits}
-use Rattle.graph_access.specs.Lists.{rootOf}
+use Rattle.graph_access.specs.Words.{rootOf, flag, option, symbolOf, statementList}
 use Rattle.facts.specs.Facts.{statementFact}
-use Rattle.facts.specs.Words.{flag, option, symbolOf, statementList}
 use Rattle.on_demand.specs.Demand.{gated, bodyOf}
-use Rattle.keep_rules.specs.declared.Pick.the-variants.{Gives, Nothing}
-use Rattle.keep_rules.specs.Rules.{when, bypassed, demanded, demandPlaces, demandPick}
+use Rattle.keep_rules.specs.declared.Candidate.the-variants.{Gives, Nothing}
+use Rattle.keep_rules.specs.Rules.{when, bypassed, demanded, demandCandidates, demandCandidate}
 
 -- the bits are those of the root's constant
 module _ (g : Graph) (s x bits : ℕ) (e : bits ≡ constantBits (symbolOf g (rootOf (g .symbols) s))) where
@@ -58,27 +57,27 @@ module _ (g : Graph) (v : List ℕ) (s x : ℕ) where
   demanded-some root i e h = h ∙ ap (bodyOf g v) i ∙ rw (e, demanded)
 
 module _ (g : Graph) (body : ℕ) where
-  pub demand-none : body ≡ 0 → 0 ≡ demandPlaces g body
-  unfolding demandPlaces
-  demand-none e = rw (eq-eqb body 0 e, demandPlaces)
+  pub demand-none : body ≡ 0 → 0 ≡ demandCandidates g body
+  unfolding demandCandidates
+  demand-none e = rw (eq-eqb body 0 e, demandCandidates)
 
-  pub demand-all : (body ≡ 0 → ⊥) → {n : ℕ} → n ≡ length (statementList g (body - 1)) → n ≡ demandPlaces g body
-  unfolding demandPlaces
-  demand-all n h = h ∙ rw (ne-eqb body 0 n, demandPlaces)
+  pub demand-all : (body ≡ 0 → ⊥) → {n : ℕ} → n ≡ length (statementList g (body - 1)) → n ≡ demandCandidates g body
+  unfolding demandCandidates
+  demand-all n h = h ∙ rw (ne-eqb body 0 n, demandCandidates)
 
   -- a place is a statement of the body
-  pub demand-in : (i : ℕ) → i < demandPlaces g body → (0 < body) × (i < length (statementList g (body - 1)))
-  unfolding demandPlaces
+  pub demand-in : (i : ℕ) → i < demandCandidates g body → (0 < body) × (i < length (statementList g (body - 1)))
+  unfolding demandCandidates
   demand-in i h = go (eqb body 0) refl
     where
       go : (b : Bool) → eqb body 0 ≡ b → (0 < body) × (i < length (statementList g (body - 1)))
-      go true e = absurd (omega (arith, rw (e, demandPlaces) at h))
-      go false e = (omega (arith, eqb-false body 0 e), rw (e, demandPlaces) at h)
+      go true e = absurd (omega (arith, rw (e, demandCandidates) at h))
+      go false e = (omega (arith, eqb-false body 0 e), rw (e, demandCandidates) at h)
 
-  pub demand-gated : (d i : ℕ) → body ≡ d → gated g (body - 1) i ≡ true → Gives (statementFact (body - 1) i) ≡ demandPick g d i
-  unfolding demandPick when
-  demand-gated d i is e = let here : Gives (statementFact (body - 1) i) ≡ demandPick g body i = rw (e, demandPick, when) in here ∙ ap (λ b. demandPick g b i) is
+  pub demand-gated : (d i : ℕ) → body ≡ d → gated g (body - 1) i ≡ true → Gives (statementFact (body - 1) i) ≡ demandCandidate g d i
+  unfolding demandCandidate when
+  demand-gated d i is e = let here : Gives (statementFact (body - 1) i) ≡ demandCandidate g body i = rw (e, demandCandidate, when) in here ∙ ap (λ b. demandCandidate g b i) is
 
-  pub demand-free : (d i : ℕ) → body ≡ d → gated g (body - 1) i ≡ false → Nothing ≡ demandPick g d i
-  unfolding demandPick when
-  demand-free d i is e = let here : Nothing ≡ demandPick g body i = rw (e, demandPick, when) in here ∙ ap (λ b. demandPick g b i) is
+  pub demand-free : (d i : ℕ) → body ≡ d → gated g (body - 1) i ≡ false → Nothing ≡ demandCandidate g d i
+  unfolding demandCandidate when
+  demand-free d i is e = let here : Nothing ≡ demandCandidate g body i = rw (e, demandCandidate, when) in here ∙ ap (λ b. demandCandidate g b i) is

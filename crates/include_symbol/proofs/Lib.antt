@@ -1,4 +1,3 @@
-pub mod Tabled
 pub mod Bailouts
 pub mod Demands
 pub mod ByName

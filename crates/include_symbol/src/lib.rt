@@ -1,355 +1,176 @@
 // K9 to K14: what follows from a use, checked or not (include_symbol of include_statements.rs).
 ghost use mathlib.Core.Path.{_≡_};
-ghost use Prim.Native.Nat.{ℕ, _+_, _-_, _<_, _≤_};
-ghost use mathlib.Core.List.{List, [], _∷_};
-ghost use mathlib.Core.Bool.{Bool, true, false};
-ghost use lib.ListN.{length, getD, drop};
-ghost use Rattle.graph_tables.specs.Tables.{headerIn};
+ghost use Prim.Native.Nat.{_<_, _≤_};
+ghost use lib.ListN.{getD};
+ghost use Rattle.graph_tables.specs.Tables.{headerIn, symbolsIn};
 ghost use Rattle.graph.specs.Check.{graphIn};
 ghost use Rattle.determine_side_effects.specs.Effects.{lastVerdicts};
-ghost use Rattle.facts.specs.Facts.{Good, statementFact, useFact};
-ghost use lib.Dec.{eqb};
-ghost use Rattle.graph_tables.specs.Tables.{symbolsIn};
-ghost use Rattle.graph_access.specs.Lists.{rootOf};
-ghost use Rattle.facts.specs.Words.{statementList, moduleOf, symbolOf, normal};
-ghost use Rattle.graph_access.specs.Names.{owner as ownerIn, resolvedExports, declaringStatements, writtenPropertyStatements};
-ghost use Rattle.keep_rules.specs.Rules.{bailoutPick, defaultAlias, checkedPick, bypassed, demanded, demandPlaces, demandPick, exportOf, exportPick, aliasPick, initializes, wrapperPlaces, wrapperPick, declarationPlaces, declarationPick, writePlaces, writePick, useSegments, noSegment, forwards};
+ghost use Rattle.graph_access.specs.Words.{rootOf, moduleOf};
+ghost use Rattle.graph_access.specs.Names.{resolvedExports};
+ghost use Rattle.keep_rules.specs.Rules.{bailoutCandidate, defaultAlias, checkedCandidate, bypassed, demanded, demandCandidates, demandCandidate, exportOf, exportCandidate, aliasCandidate, needsWrapper, wrapperCandidates, wrapperCandidate, declarationCandidates, declarationCandidate, writeCandidates, writeCandidate, useSegments, noSegment};
 ghost use Rattle.linking_metadata.specs.Namespaces.{targetOf};
-ghost use Rattle.keep_rules.specs.Prepared.{Prepared, GoodPick};
+ghost use Rattle.keep_rules.specs.Prepared.{Prepared, GoodCandidate};
 use facts::Fact;
-use facts::ModuleIdx;
 use facts::Reason;
-use facts::StmtIdx;
-use facts::SymbolIdx;
-use keep_rules::Pick;
-
-// Leading numbers of a module and of a symbol, a module's list of resolved exports, two lists of a symbol.
-const WRAP: usize = 5;
-
-const WRAPPER: usize = 6;
-
-const RESOLVED_EXPORTS: usize = 6;
-
-const ALIAS_NAMESPACE: usize = 3;
-
-const ALIAS_NAME: usize = 4;
-
-const CONSTANT_BITS: usize = 5;
-
-const DECLARING: usize = 1;
-
-const WRITTEN: usize = 2;
+use graph_access::modules;
+use graph_access::options::INLINE_CONST_SMART;
+use graph_access::options::PROPERTY_WRITES_FALSE;
+use graph_access::symbols;
+use graph_access::symbols::COMMONJS;
+use graph_access::symbols::KNOWN;
+use graph_access::symbols::SAFE;
+use index::ModuleIdx;
+use index::StmtIdx;
+use index::SymbolIdx;
+use keep_rules::Candidate;
 
 // The bailout of a module given by 1 more than its index; nothing for 0.
-fn bailout_pick(
-    numbers: &[u32],
-    modules: &[usize],
-    symbols: &[usize],
-    firsts: &[usize],
-    statements: &[usize],
-    verdicts: &[u32],
-    demand: &[usize],
-    keys: &[usize],
-    namespaces: &[usize],
-    n: usize,
-) -> Pick
-    requires { ⌜ Prepared (now numbers) (now modules) (now symbols) (now firsts) (now statements) (now verdicts) (now demand) (now keys) (now namespaces) ⌝ }
+fn bailout_candidate(numbers: &[u32], n: usize) -> Candidate
     requires { ⌜ n ≤ headerIn (now numbers) .modules ⌝ }
-    ensures { λ r. ⌜ (r ≡ bailoutPick n) × GoodPick (graphIn (now (numbers .entry))) r ⌝ }
+    ensures { λ r. ⌜ (r ≡ bailoutCandidate n) × GoodCandidate (graphIn (now (numbers .entry))) r ⌝ }
 {
     if n == 0 {
-        return Pick::Nothing;
+        return Candidate::Nothing;
     }
-    Pick::Gives(Fact::Bailout(ModuleIdx(n - 1)))
+    Candidate::Gives(Fact::Bailout(ModuleIdx(n - 1)))
 }
 
 // The bailout by a root that is an alias of "default".
-fn default_alias(
-    numbers: &[u32],
-    modules: &[usize],
-    symbols: &[usize],
-    firsts: &[usize],
-    statements: &[usize],
-    verdicts: &[u32],
-    demand: &[usize],
-    keys: &[usize],
-    namespaces: &[usize],
-    root: SymbolIdx,
-) -> Pick
-    requires { ⌜ Prepared (now numbers) (now modules) (now symbols) (now firsts) (now statements) (now verdicts) (now demand) (now keys) (now namespaces) ⌝ }
+fn default_alias(numbers: &[u32], tables: &[usize], root: SymbolIdx) -> Candidate
+    requires { ⌜ Prepared (now numbers) (now tables) ⌝ }
     requires { ⌜ root .0 < headerIn (now numbers) .symbols ⌝ }
-    ensures { λ r. ⌜ (r ≡ defaultAlias (graphIn (now (numbers .entry))) (root .0)) × GoodPick (graphIn (now (numbers .entry))) r ⌝ }
+    ensures { λ r. ⌜ (r ≡ defaultAlias (graphIn (now (numbers .entry))) (root .0)) × GoodCandidate (graphIn (now (numbers .entry))) r ⌝ }
 {
-    let alias = graph_tables::symbol_number(numbers, symbols, root.0, ALIAS_NAMESPACE);
+    let alias = symbols::alias_namespace(numbers, tables, root);
     if alias == 0 {
-        return Pick::Nothing;
+        return Candidate::Nothing;
     }
-    if graph_tables::symbol_number(numbers, symbols, root.0, ALIAS_NAME) != 0 {
-        return Pick::Nothing;
+    if symbols::alias_name(numbers, tables, root) != 0 {
+        return Candidate::Nothing;
     }
-    bailout_pick(
+    bailout_candidate(
         numbers,
-        modules,
-        symbols,
-        firsts,
-        statements,
-        verdicts,
-        demand,
-        keys,
-        namespaces,
-        namespaces[alias - 1],
+        linking_metadata::commonjs_of(numbers, tables, SymbolIdx(alias - 1)),
     )
 }
 
-// K9, place k: the use, then the bailouts.
-pub fn check_cjs_bailout(
+// K9, candidate k: the use, then the bailouts (`check_cjs_bailout`).
+pub fn checked_candidate(
     numbers: &[u32],
-    modules: &[usize],
-    symbols: &[usize],
-    firsts: &[usize],
-    statements: &[usize],
-    verdicts: &[u32],
-    demand: &[usize],
-    keys: &[usize],
-    namespaces: &[usize],
+    tables: &[usize],
     s: SymbolIdx,
     x: Reason,
     k: usize,
-) -> Pick
-    requires { ⌜ Prepared (now numbers) (now modules) (now symbols) (now firsts) (now statements) (now verdicts) (now demand) (now keys) (now namespaces) ⌝ }
+) -> Candidate
+    requires { ⌜ Prepared (now numbers) (now tables) ⌝ }
     requires { ⌜ (s .0 < headerIn (now numbers) .symbols) × (0 < x .bits) × (x .bits < 32) × (k < 4) ⌝ }
-    ensures { λ r. ⌜ (r ≡ checkedPick (graphIn (now (numbers .entry))) (s .0) (x .bits) k) × GoodPick (graphIn (now (numbers .entry))) r ⌝ }
+    ensures { λ r. ⌜ (r ≡ checkedCandidate (graphIn (now (numbers .entry))) (s .0) (x .bits) k) × GoodCandidate (graphIn (now (numbers .entry))) r ⌝ }
 {
     if k == 0 {
-        return Pick::Gives(Fact::Use(s, x));
+        return Candidate::Gives(Fact::Use(s, x));
     }
-    let root = graph_access::root_of(numbers, symbols, s.0);
+    let root = symbols::root(numbers, tables, s);
     if k == 1 {
-        return bailout_pick(
+        return bailout_candidate(
             numbers,
-            modules,
-            symbols,
-            firsts,
-            statements,
-            verdicts,
-            demand,
-            keys,
-            namespaces,
-            namespaces[root],
+            linking_metadata::commonjs_of(numbers, tables, root),
         );
     }
     if k == 2 {
-        if linking_metadata::is_namespace(
-            numbers,
-            modules,
-            symbols,
-            firsts,
-            statements,
-            SymbolIdx(root),
-        ) {
-            return Pick::Gives(Fact::Bailout(linking_metadata::owner(
-                numbers,
-                modules,
-                symbols,
-                firsts,
-                statements,
-                SymbolIdx(root),
-            )));
+        if linking_metadata::is_namespace(numbers, tables, root) {
+            return Candidate::Gives(Fact::Bailout(symbols::owner(numbers, tables, root)));
         }
-        return Pick::Nothing;
+        return Candidate::Nothing;
     }
-    default_alias(
-        numbers,
-        modules,
-        symbols,
-        firsts,
-        statements,
-        verdicts,
-        demand,
-        keys,
-        namespaces,
-        SymbolIdx(root),
-    )
+    default_alias(numbers, tables, root)
 }
 
 // Whether a use is of a constant that is inlined.
 pub fn is_bypassed_inlined_constant(
     numbers: &[u32],
-    modules: &[usize],
-    symbols: &[usize],
-    firsts: &[usize],
-    statements: &[usize],
-    verdicts: &[u32],
-    demand: &[usize],
-    keys: &[usize],
-    namespaces: &[usize],
+    tables: &[usize],
     s: SymbolIdx,
     x: Reason,
 ) -> bool
-    requires { ⌜ Prepared (now numbers) (now modules) (now symbols) (now firsts) (now statements) (now verdicts) (now demand) (now keys) (now namespaces) ⌝ }
+    requires { ⌜ Prepared (now numbers) (now tables) ⌝ }
     requires { ⌜ s .0 < headerIn (now numbers) .symbols ⌝ }
     ensures { λ r. ⌜ r ≡ bypassed (graphIn (now (numbers .entry))) (s .0) (x .bits) ⌝ }
 {
-    let root = graph_access::root_of(numbers, symbols, s.0);
-    let bits = graph_tables::symbol_number(numbers, symbols, root, CONSTANT_BITS);
-    if !facts::flag(bits, 0) {
+    let root = symbols::root(numbers, tables, s);
+    let bits = symbols::constant_bits(numbers, tables, root);
+    if !facts::flag(bits, KNOWN) {
         return false;
     }
-    if facts::flag(bits, 2) {
+    if facts::flag(bits, COMMONJS) {
         return false;
     }
     if facts::flag(x.bits, 1) {
         return false;
     }
-    if !keep_rules::option(
-        numbers,
-        modules,
-        symbols,
-        firsts,
-        statements,
-        verdicts,
-        demand,
-        keys,
-        namespaces,
-        1,
-    ) {
+    if !keep_rules::option(numbers, INLINE_CONST_SMART) {
         return true;
     }
-    facts::flag(bits, 1)
+    facts::flag(bits, SAFE)
 }
 
 // K10: 1 more than the module whose body the use demands, or 0.
-fn demanded_body(
-    numbers: &[u32],
-    modules: &[usize],
-    symbols: &[usize],
-    firsts: &[usize],
-    statements: &[usize],
-    verdicts: &[u32],
-    demand: &[usize],
-    keys: &[usize],
-    namespaces: &[usize],
-    s: SymbolIdx,
-    x: Reason,
-) -> usize
-    requires { ⌜ Prepared (now numbers) (now modules) (now symbols) (now firsts) (now statements) (now verdicts) (now demand) (now keys) (now namespaces) ⌝ }
+fn demanded_body(numbers: &[u32], tables: &[usize], s: SymbolIdx, x: Reason) -> usize
+    requires { ⌜ Prepared (now numbers) (now tables) ⌝ }
     requires { ⌜ s .0 < headerIn (now numbers) .symbols ⌝ }
     ensures { λ r. ⌜ (r ≡ demanded (graphIn (now (numbers .entry))) (lastVerdicts (graphIn (now (numbers .entry)))) (s .0) (x .bits)) × (r ≤ headerIn (now (numbers .entry)) .modules) ⌝ }
 {
     if facts::flag(x.bits, 4) {
         return 0;
     }
-    let root = graph_access::root_of(numbers, symbols, s.0);
-    keys[root]
+    let root = symbols::root(numbers, tables, s);
+    on_demand::body_of_key(numbers, tables, root)
 }
 
-// How many places K10 has.
-fn demand_places(
-    numbers: &[u32],
-    modules: &[usize],
-    symbols: &[usize],
-    firsts: &[usize],
-    statements: &[usize],
-    verdicts: &[u32],
-    demand: &[usize],
-    keys: &[usize],
-    namespaces: &[usize],
-    s: SymbolIdx,
-    x: Reason,
-) -> usize
-    requires { ⌜ Prepared (now numbers) (now modules) (now symbols) (now firsts) (now statements) (now verdicts) (now demand) (now keys) (now namespaces) ⌝ }
+// How many candidates K10 has.
+fn demand_candidates(numbers: &[u32], tables: &[usize], s: SymbolIdx, x: Reason) -> usize
+    requires { ⌜ Prepared (now numbers) (now tables) ⌝ }
     requires { ⌜ s .0 < headerIn (now numbers) .symbols ⌝ }
-    ensures { λ r. ⌜ r ≡ demandPlaces (graphIn (now (numbers .entry))) (demanded (graphIn (now (numbers .entry))) (lastVerdicts (graphIn (now (numbers .entry)))) (s .0) (x .bits)) ⌝ }
+    ensures { λ r. ⌜ r ≡ demandCandidates (graphIn (now (numbers .entry))) (demanded (graphIn (now (numbers .entry))) (lastVerdicts (graphIn (now (numbers .entry)))) (s .0) (x .bits)) ⌝ }
 {
-    let body = demanded_body(
-        numbers,
-        modules,
-        symbols,
-        firsts,
-        statements,
-        verdicts,
-        demand,
-        keys,
-        namespaces,
-        s,
-        x,
-    );
+    let body = demanded_body(numbers, tables, s, x);
     if body == 0 {
         return 0;
     }
-    facts::statement_count(
-        numbers,
-        modules,
-        symbols,
-        firsts,
-        statements,
-        ModuleIdx(body - 1),
-    )
+    modules::statement_count(numbers, tables, ModuleIdx(body - 1))
 }
 
-// K10, place i.
-fn drain_body_demand_stmts(
+// K10, candidate i (`drain_body_demand_stmts`).
+fn demand_candidate(
     numbers: &[u32],
-    modules: &[usize],
-    symbols: &[usize],
-    firsts: &[usize],
-    statements: &[usize],
-    verdicts: &[u32],
-    demand: &[usize],
-    keys: &[usize],
-    namespaces: &[usize],
+    tables: &[usize],
     s: SymbolIdx,
     x: Reason,
     i: StmtIdx,
-) -> Pick
-    requires { ⌜ Prepared (now numbers) (now modules) (now symbols) (now firsts) (now statements) (now verdicts) (now demand) (now keys) (now namespaces) ⌝ }
-    requires { ⌜ (s .0 < headerIn (now numbers) .symbols) × (i .0 < demandPlaces (graphIn (now numbers)) (demanded (graphIn (now numbers)) (lastVerdicts (graphIn (now numbers))) (s .0) (x .bits))) ⌝ }
-    ensures { λ r. ⌜ (r ≡ demandPick (graphIn (now (numbers .entry))) (demanded (graphIn (now (numbers .entry))) (lastVerdicts (graphIn (now (numbers .entry)))) (s .0) (x .bits)) (i .0)) × GoodPick (graphIn (now (numbers .entry))) r ⌝ }
+) -> Candidate
+    requires { ⌜ Prepared (now numbers) (now tables) ⌝ }
+    requires { ⌜ (s .0 < headerIn (now numbers) .symbols) × (i .0 < demandCandidates (graphIn (now numbers)) (demanded (graphIn (now numbers)) (lastVerdicts (graphIn (now numbers))) (s .0) (x .bits))) ⌝ }
+    ensures { λ r. ⌜ (r ≡ demandCandidate (graphIn (now (numbers .entry))) (demanded (graphIn (now (numbers .entry))) (lastVerdicts (graphIn (now (numbers .entry)))) (s .0) (x .bits)) (i .0)) × GoodCandidate (graphIn (now (numbers .entry))) r ⌝ }
 {
-    let body = demanded_body(
-        numbers,
-        modules,
-        symbols,
-        firsts,
-        statements,
-        verdicts,
-        demand,
-        keys,
-        namespaces,
-        s,
-        x,
-    );
+    let body = demanded_body(numbers, tables, s, x);
     let b = ModuleIdx(body - 1);
-    if on_demand::is_gated_side_effect_stmt(numbers, modules, symbols, firsts, statements, b, i) {
-        return Pick::Gives(Fact::Statement(b, i));
+    if on_demand::is_gated_side_effect_stmt(numbers, tables, b, i) {
+        return Candidate::Gives(Fact::Statement(b, i));
     }
-    Pick::Nothing
+    Candidate::Nothing
 }
 
 // 1 more than the symbol that module m exports by this name, or 0.
-fn export_of(
-    numbers: &[u32],
-    modules: &[usize],
-    symbols: &[usize],
-    firsts: &[usize],
-    statements: &[usize],
-    verdicts: &[u32],
-    demand: &[usize],
-    keys: &[usize],
-    namespaces: &[usize],
-    m: ModuleIdx,
-    name: usize,
-) -> usize
-    requires { ⌜ Prepared (now numbers) (now modules) (now symbols) (now firsts) (now statements) (now verdicts) (now demand) (now keys) (now namespaces) ⌝ }
+fn export_of(numbers: &[u32], tables: &[usize], m: ModuleIdx, name: usize) -> usize
+    requires { ⌜ Prepared (now numbers) (now tables) ⌝ }
     requires { ⌜ m .0 < headerIn (now numbers) .modules ⌝ }
     ensures { λ r. ⌜ (r ≡ exportOf name (resolvedExports (moduleOf (graphIn (now (numbers .entry))) (m .0)))) × (r ≤ headerIn (now (numbers .entry)) .symbols) ⌝ }
 {
-    let count = graph_access::module_list_length(numbers, modules, m.0, RESOLVED_EXPORTS);
+    let count = modules::resolved_export_count(numbers, tables, m);
     let mut k: usize = 0;
     while k < count {
-        if graph_access::module_list_number(numbers, modules, m.0, RESOLVED_EXPORTS, k, 0) == name {
-            return graph_access::module_list_number(numbers, modules, m.0, RESOLVED_EXPORTS, k, 1)
-                + 1;
+        if modules::resolved_export_name(numbers, tables, m, k) == name {
+            let symbol = modules::resolved_export_symbol(numbers, tables, m, k);
+            return symbol.0 + 1;
         }
         k += 1;
     }
@@ -357,497 +178,208 @@ fn export_of(
 }
 
 // The use of the export by this name of the module given by 1 more than its index.
-fn export_pick(
-    numbers: &[u32],
-    modules: &[usize],
-    symbols: &[usize],
-    firsts: &[usize],
-    statements: &[usize],
-    verdicts: &[u32],
-    demand: &[usize],
-    keys: &[usize],
-    namespaces: &[usize],
-    name: usize,
-    n: usize,
-) -> Pick
-    requires { ⌜ Prepared (now numbers) (now modules) (now symbols) (now firsts) (now statements) (now verdicts) (now demand) (now keys) (now namespaces) ⌝ }
+fn export_candidate(numbers: &[u32], tables: &[usize], name: usize, n: usize) -> Candidate
+    requires { ⌜ Prepared (now numbers) (now tables) ⌝ }
     requires { ⌜ n ≤ headerIn (now numbers) .modules ⌝ }
-    ensures { λ r. ⌜ (r ≡ exportPick (graphIn (now (numbers .entry))) name n) × GoodPick (graphIn (now (numbers .entry))) r ⌝ }
+    ensures { λ r. ⌜ (r ≡ exportCandidate (graphIn (now (numbers .entry))) name n) × GoodCandidate (graphIn (now (numbers .entry))) r ⌝ }
 {
     if n == 0 {
-        return Pick::Nothing;
+        return Candidate::Nothing;
     }
     let m = ModuleIdx(n - 1);
-    if !linking_metadata::is_normal(numbers, modules, symbols, firsts, statements, m) {
-        return Pick::Nothing;
+    if !modules::is_normal(numbers, tables, m) {
+        return Candidate::Nothing;
     }
     if name == 0 {
-        return Pick::Nothing;
+        return Candidate::Nothing;
     }
-    let export = export_of(
-        numbers,
-        modules,
-        symbols,
-        firsts,
-        statements,
-        verdicts,
-        demand,
-        keys,
-        namespaces,
-        m,
-        name,
-    );
+    let export = export_of(numbers, tables, m, name);
     if export == 0 {
-        return Pick::Nothing;
+        return Candidate::Nothing;
     }
-    Pick::Gives(Fact::Use(SymbolIdx(export - 1), Reason { bits: 1 }))
+    Candidate::Gives(Fact::Use(SymbolIdx(export - 1), Reason { bits: 1 }))
 }
 
-// K11.
-fn follow_cjs_namespace_alias(
-    numbers: &[u32],
-    modules: &[usize],
-    symbols: &[usize],
-    firsts: &[usize],
-    statements: &[usize],
-    verdicts: &[u32],
-    demand: &[usize],
-    keys: &[usize],
-    namespaces: &[usize],
-    s: SymbolIdx,
-) -> Pick
-    requires { ⌜ Prepared (now numbers) (now modules) (now symbols) (now firsts) (now statements) (now verdicts) (now demand) (now keys) (now namespaces) ⌝ }
+// K11 (`follow_cjs_namespace_alias`).
+fn alias_candidate(numbers: &[u32], tables: &[usize], s: SymbolIdx) -> Candidate
+    requires { ⌜ Prepared (now numbers) (now tables) ⌝ }
     requires { ⌜ s .0 < headerIn (now numbers) .symbols ⌝ }
-    ensures { λ r. ⌜ (r ≡ aliasPick (graphIn (now (numbers .entry))) (rootOf (symbolsIn (now (numbers .entry))) (s .0)) 0) × GoodPick (graphIn (now (numbers .entry))) r ⌝ }
+    ensures { λ r. ⌜ (r ≡ aliasCandidate (graphIn (now (numbers .entry))) (rootOf (graphIn (now (numbers .entry)) .symbols) (s .0)) 0) × GoodCandidate (graphIn (now (numbers .entry))) r ⌝ }
 {
-    let root = graph_access::root_of(numbers, symbols, s.0);
-    let alias = graph_tables::symbol_number(numbers, symbols, root, ALIAS_NAMESPACE);
+    let root = symbols::root(numbers, tables, s);
+    let alias = symbols::alias_namespace(numbers, tables, root);
     if alias == 0 {
-        return Pick::Nothing;
+        return Candidate::Nothing;
     }
-    let name = graph_tables::symbol_number(numbers, symbols, root, ALIAS_NAME);
-    export_pick(
+    let name = symbols::alias_name(numbers, tables, root);
+    export_candidate(
         numbers,
-        modules,
-        symbols,
-        firsts,
-        statements,
-        verdicts,
-        demand,
-        keys,
-        namespaces,
+        tables,
         name,
-        namespaces[alias - 1],
+        linking_metadata::commonjs_of(numbers, tables, SymbolIdx(alias - 1)),
     )
 }
 
 // Whether using a target needs its owner's wrapper.
-fn initializes_esm(
-    numbers: &[u32],
-    modules: &[usize],
-    symbols: &[usize],
-    firsts: &[usize],
-    statements: &[usize],
-    verdicts: &[u32],
-    demand: &[usize],
-    keys: &[usize],
-    namespaces: &[usize],
-    t: SymbolIdx,
-) -> bool
-    requires { ⌜ Prepared (now numbers) (now modules) (now symbols) (now firsts) (now statements) (now verdicts) (now demand) (now keys) (now namespaces) ⌝ }
+fn needs_wrapper(numbers: &[u32], tables: &[usize], t: SymbolIdx) -> bool
+    requires { ⌜ Prepared (now numbers) (now tables) ⌝ }
     requires { ⌜ t .0 < headerIn (now numbers) .symbols ⌝ }
-    ensures { λ r. ⌜ r ≡ initializes (graphIn (now (numbers .entry))) (t .0) ⌝ }
+    ensures { λ r. ⌜ r ≡ needsWrapper (graphIn (now (numbers .entry))) (t .0) ⌝ }
 {
-    let o = linking_metadata::owner(numbers, modules, symbols, firsts, statements, t);
-    if !linking_metadata::is_normal(numbers, modules, symbols, firsts, statements, o) {
+    let o = symbols::owner(numbers, tables, t);
+    if !modules::is_normal(numbers, tables, o) {
         return false;
     }
-    if graph_tables::module_number(numbers, modules, o.0, WRAP) != 2 {
+    if modules::wrap(numbers, tables, o) != 2 {
         return false;
     }
-    let wrapper = graph_tables::module_number(numbers, modules, o.0, WRAPPER);
+    let wrapper = modules::wrapper(numbers, tables, o);
     if wrapper == 0 {
         return false;
     }
     wrapper != t.0 + 1
 }
 
-// How many places K12 has.
-fn wrapper_places(
-    numbers: &[u32],
-    modules: &[usize],
-    symbols: &[usize],
-    firsts: &[usize],
-    statements: &[usize],
-    verdicts: &[u32],
-    demand: &[usize],
-    keys: &[usize],
-    namespaces: &[usize],
-    s: SymbolIdx,
-) -> usize
-    requires { ⌜ Prepared (now numbers) (now modules) (now symbols) (now firsts) (now statements) (now verdicts) (now demand) (now keys) (now namespaces) ⌝ }
+// How many candidates K12 has.
+fn wrapper_candidates(numbers: &[u32], tables: &[usize], s: SymbolIdx) -> usize
+    requires { ⌜ Prepared (now numbers) (now tables) ⌝ }
     requires { ⌜ s .0 < headerIn (now numbers) .symbols ⌝ }
-    ensures { λ r. ⌜ r ≡ wrapperPlaces (graphIn (now (numbers .entry))) (s .0) (targetOf (graphIn (now (numbers .entry))) (s .0)) ⌝ }
+    ensures { λ r. ⌜ r ≡ wrapperCandidates (graphIn (now (numbers .entry))) (s .0) (targetOf (graphIn (now (numbers .entry))) (s .0)) ⌝ }
 {
-    let t = linking_metadata::target_of(numbers, modules, symbols, firsts, statements, s);
-    if initializes_esm(
-        numbers,
-        modules,
-        symbols,
-        firsts,
-        statements,
-        verdicts,
-        demand,
-        keys,
-        namespaces,
-        t,
-    ) {
-        return 1
-            + keep_rules::forward_count(
-                numbers,
-                modules,
-                symbols,
-                firsts,
-                statements,
-                verdicts,
-                demand,
-                keys,
-                namespaces,
-                s,
-            );
+    let t = linking_metadata::target_of(numbers, tables, s);
+    if needs_wrapper(numbers, tables, t) {
+        return 1 + keep_rules::forward_count(numbers, tables, s);
     }
     0
 }
 
-// K12, place k.
-fn demand_esm_initialization(
-    numbers: &[u32],
-    modules: &[usize],
-    symbols: &[usize],
-    firsts: &[usize],
-    statements: &[usize],
-    verdicts: &[u32],
-    demand: &[usize],
-    keys: &[usize],
-    namespaces: &[usize],
-    s: SymbolIdx,
-    k: usize,
-) -> Pick
-    requires { ⌜ Prepared (now numbers) (now modules) (now symbols) (now firsts) (now statements) (now verdicts) (now demand) (now keys) (now namespaces) ⌝ }
-    requires { ⌜ (s .0 < headerIn (now numbers) .symbols) × (k < wrapperPlaces (graphIn (now numbers)) (s .0) (targetOf (graphIn (now numbers)) (s .0))) ⌝ }
-    ensures { λ r. ⌜ (r ≡ wrapperPick (graphIn (now (numbers .entry))) (s .0) (targetOf (graphIn (now (numbers .entry))) (s .0)) k) × GoodPick (graphIn (now (numbers .entry))) r ⌝ }
+// K12, candidate k (`demand_esm_initialization`).
+fn wrapper_candidate(numbers: &[u32], tables: &[usize], s: SymbolIdx, k: usize) -> Candidate
+    requires { ⌜ Prepared (now numbers) (now tables) ⌝ }
+    requires { ⌜ (s .0 < headerIn (now numbers) .symbols) × (k < wrapperCandidates (graphIn (now numbers)) (s .0) (targetOf (graphIn (now numbers)) (s .0))) ⌝ }
+    ensures { λ r. ⌜ (r ≡ wrapperCandidate (graphIn (now (numbers .entry))) (s .0) (targetOf (graphIn (now (numbers .entry))) (s .0)) k) × GoodCandidate (graphIn (now (numbers .entry))) r ⌝ }
 {
     if k == 0 {
-        let t = linking_metadata::target_of(numbers, modules, symbols, firsts, statements, s);
-        let o = linking_metadata::owner(numbers, modules, symbols, firsts, statements, t);
-        let wrapper = graph_tables::module_number(numbers, modules, o.0, WRAPPER);
-        return Pick::Gives(Fact::Use(SymbolIdx(wrapper - 1), Reason { bits: 1 }));
+        let t = linking_metadata::target_of(numbers, tables, s);
+        let o = symbols::owner(numbers, tables, t);
+        let wrapper = modules::wrapper(numbers, tables, o);
+        return Candidate::Gives(Fact::Use(SymbolIdx(wrapper - 1), Reason { bits: 1 }));
     }
-    keep_rules::retain_forwarding_declarations(
-        numbers,
-        modules,
-        symbols,
-        firsts,
-        statements,
-        verdicts,
-        demand,
-        keys,
-        namespaces,
-        s,
-        k - 1,
-    )
+    keep_rules::forward_candidate(numbers, tables, s, k - 1)
 }
 
-// How many places K13 has.
-fn declaration_places(
-    numbers: &[u32],
-    modules: &[usize],
-    symbols: &[usize],
-    firsts: &[usize],
-    statements: &[usize],
-    verdicts: &[u32],
-    demand: &[usize],
-    keys: &[usize],
-    namespaces: &[usize],
-    s: SymbolIdx,
-) -> usize
-    requires { ⌜ Prepared (now numbers) (now modules) (now symbols) (now firsts) (now statements) (now verdicts) (now demand) (now keys) (now namespaces) ⌝ }
+// How many candidates K13 has.
+fn declaration_candidates(numbers: &[u32], tables: &[usize], s: SymbolIdx) -> usize
+    requires { ⌜ Prepared (now numbers) (now tables) ⌝ }
     requires { ⌜ s .0 < headerIn (now numbers) .symbols ⌝ }
-    ensures { λ r. ⌜ r ≡ declarationPlaces (graphIn (now (numbers .entry))) (targetOf (graphIn (now (numbers .entry))) (s .0)) ⌝ }
+    ensures { λ r. ⌜ r ≡ declarationCandidates (graphIn (now (numbers .entry))) (targetOf (graphIn (now (numbers .entry))) (s .0)) ⌝ }
 {
-    let t = linking_metadata::target_of(numbers, modules, symbols, firsts, statements, s);
-    let o = linking_metadata::owner(numbers, modules, symbols, firsts, statements, t);
-    if linking_metadata::is_normal(numbers, modules, symbols, firsts, statements, o) {
-        return graph_access::symbol_list_length(numbers, symbols, t.0, DECLARING) + 1;
+    let t = linking_metadata::target_of(numbers, tables, s);
+    let o = symbols::owner(numbers, tables, t);
+    if modules::is_normal(numbers, tables, o) {
+        return symbols::declaring_count(numbers, tables, t) + 1;
     }
     0
 }
 
-// K13, place k.
-fn declaration_pick(
+// K13, candidate k.
+fn declaration_candidate(
     numbers: &[u32],
-    modules: &[usize],
-    symbols: &[usize],
-    firsts: &[usize],
-    statements: &[usize],
-    verdicts: &[u32],
-    demand: &[usize],
-    keys: &[usize],
-    namespaces: &[usize],
+    tables: &[usize],
     s: SymbolIdx,
     x: Reason,
     k: usize,
-) -> Pick
-    requires { ⌜ Prepared (now numbers) (now modules) (now symbols) (now firsts) (now statements) (now verdicts) (now demand) (now keys) (now namespaces) ⌝ }
-    requires { ⌜ (s .0 < headerIn (now numbers) .symbols) × (k < declarationPlaces (graphIn (now numbers)) (targetOf (graphIn (now numbers)) (s .0))) ⌝ }
-    ensures { λ r. ⌜ (r ≡ declarationPick (graphIn (now (numbers .entry))) (targetOf (graphIn (now (numbers .entry))) (s .0)) (x .bits) k) × GoodPick (graphIn (now (numbers .entry))) r ⌝ }
+) -> Candidate
+    requires { ⌜ Prepared (now numbers) (now tables) ⌝ }
+    requires { ⌜ (s .0 < headerIn (now numbers) .symbols) × (k < declarationCandidates (graphIn (now numbers)) (targetOf (graphIn (now numbers)) (s .0))) ⌝ }
+    ensures { λ r. ⌜ (r ≡ declarationCandidate (graphIn (now (numbers .entry))) (targetOf (graphIn (now (numbers .entry))) (s .0)) (x .bits) k) × GoodCandidate (graphIn (now (numbers .entry))) r ⌝ }
 {
-    let t = linking_metadata::target_of(numbers, modules, symbols, firsts, statements, s);
-    let o = linking_metadata::owner(numbers, modules, symbols, firsts, statements, t);
-    if k < graph_access::symbol_list_length(numbers, symbols, t.0, DECLARING) {
-        let i = graph_access::symbol_list_number(numbers, symbols, t.0, DECLARING, k);
-        return Pick::Gives(Fact::Statement(o, StmtIdx(i)));
+    let t = linking_metadata::target_of(numbers, tables, s);
+    let o = symbols::owner(numbers, tables, t);
+    if k < symbols::declaring_count(numbers, tables, t) {
+        let i = symbols::declaring(numbers, tables, t, k);
+        return Candidate::Gives(Fact::Statement(o, i));
     }
-    if linking_metadata::is_namespace(numbers, modules, symbols, firsts, statements, t) {
+    if linking_metadata::is_namespace(numbers, tables, t) {
         if facts::flag(x.bits, 4) {
-            return Pick::Nothing;
+            return Candidate::Nothing;
         }
     }
-    Pick::Gives(Fact::Module(o))
+    Candidate::Gives(Fact::Module(o))
 }
 
-// How many places K14 has.
-fn write_places(
-    numbers: &[u32],
-    modules: &[usize],
-    symbols: &[usize],
-    firsts: &[usize],
-    statements: &[usize],
-    verdicts: &[u32],
-    demand: &[usize],
-    keys: &[usize],
-    namespaces: &[usize],
-    s: SymbolIdx,
-) -> usize
-    requires { ⌜ Prepared (now numbers) (now modules) (now symbols) (now firsts) (now statements) (now verdicts) (now demand) (now keys) (now namespaces) ⌝ }
+// How many candidates K14 has.
+fn write_candidates(numbers: &[u32], tables: &[usize], s: SymbolIdx) -> usize
+    requires { ⌜ Prepared (now numbers) (now tables) ⌝ }
     requires { ⌜ s .0 < headerIn (now numbers) .symbols ⌝ }
-    ensures { λ r. ⌜ r ≡ writePlaces (graphIn (now (numbers .entry))) (s .0) ⌝ }
+    ensures { λ r. ⌜ r ≡ writeCandidates (graphIn (now (numbers .entry))) (s .0) ⌝ }
 {
-    if !keep_rules::option(
-        numbers,
-        modules,
-        symbols,
-        firsts,
-        statements,
-        verdicts,
-        demand,
-        keys,
-        namespaces,
-        3,
-    ) {
+    if !keep_rules::option(numbers, PROPERTY_WRITES_FALSE) {
         return 0;
     }
-    let o = linking_metadata::owner(numbers, modules, symbols, firsts, statements, s);
-    if linking_metadata::is_normal(numbers, modules, symbols, firsts, statements, o) {
-        return graph_access::symbol_list_length(numbers, symbols, s.0, WRITTEN);
+    let o = symbols::owner(numbers, tables, s);
+    if modules::is_normal(numbers, tables, o) {
+        return symbols::written_count(numbers, tables, s);
     }
     0
 }
 
-// K14, place k.
-fn include_property_write_referencing_stmts(
-    numbers: &[u32],
-    modules: &[usize],
-    symbols: &[usize],
-    firsts: &[usize],
-    statements: &[usize],
-    verdicts: &[u32],
-    demand: &[usize],
-    keys: &[usize],
-    namespaces: &[usize],
-    s: SymbolIdx,
-    k: usize,
-) -> Pick
-    requires { ⌜ Prepared (now numbers) (now modules) (now symbols) (now firsts) (now statements) (now verdicts) (now demand) (now keys) (now namespaces) ⌝ }
-    requires { ⌜ (s .0 < headerIn (now numbers) .symbols) × (k < writePlaces (graphIn (now numbers)) (s .0)) ⌝ }
-    ensures { λ r. ⌜ (r ≡ writePick (graphIn (now (numbers .entry))) (s .0) k) × GoodPick (graphIn (now (numbers .entry))) r ⌝ }
+// K14, candidate k (`include_property_write_referencing_stmts`).
+fn write_candidate(numbers: &[u32], tables: &[usize], s: SymbolIdx, k: usize) -> Candidate
+    requires { ⌜ Prepared (now numbers) (now tables) ⌝ }
+    requires { ⌜ (s .0 < headerIn (now numbers) .symbols) × (k < writeCandidates (graphIn (now numbers)) (s .0)) ⌝ }
+    ensures { λ r. ⌜ (r ≡ writeCandidate (graphIn (now (numbers .entry))) (s .0) k) × GoodCandidate (graphIn (now (numbers .entry))) r ⌝ }
 {
-    let o = linking_metadata::owner(numbers, modules, symbols, firsts, statements, s);
-    let i = graph_access::symbol_list_number(numbers, symbols, s.0, WRITTEN, k);
-    Pick::Gives(Fact::Statement(o, StmtIdx(i)))
+    let o = symbols::owner(numbers, tables, s);
+    let i = symbols::written(numbers, tables, s, k);
+    Candidate::Gives(Fact::Statement(o, i))
 }
 
-// How many places segment j of a use has.
-pub fn use_places(
-    numbers: &[u32],
-    modules: &[usize],
-    symbols: &[usize],
-    firsts: &[usize],
-    statements: &[usize],
-    verdicts: &[u32],
-    demand: &[usize],
-    keys: &[usize],
-    namespaces: &[usize],
-    s: SymbolIdx,
-    x: Reason,
-    j: usize,
-) -> usize
-    requires { ⌜ Prepared (now numbers) (now modules) (now symbols) (now firsts) (now statements) (now verdicts) (now demand) (now keys) (now namespaces) ⌝ }
+// How many candidates segment j of a use has.
+pub fn use_candidates(numbers: &[u32], tables: &[usize], s: SymbolIdx, x: Reason, j: usize) -> usize
+    requires { ⌜ Prepared (now numbers) (now tables) ⌝ }
     requires { ⌜ (s .0 < headerIn (now numbers) .symbols) × (j < 5) ⌝ }
     ensures { λ r. ⌜ r ≡ getD (useSegments (graphIn (now (numbers .entry))) (lastVerdicts (graphIn (now (numbers .entry)))) (s .0) (x .bits)) j noSegment .count ⌝ }
 {
     if j == 0 {
-        return demand_places(
-            numbers,
-            modules,
-            symbols,
-            firsts,
-            statements,
-            verdicts,
-            demand,
-            keys,
-            namespaces,
-            s,
-            x,
-        );
+        return demand_candidates(numbers, tables, s, x);
     }
     if j == 1 {
         return 1;
     }
     if j == 2 {
-        return wrapper_places(
-            numbers,
-            modules,
-            symbols,
-            firsts,
-            statements,
-            verdicts,
-            demand,
-            keys,
-            namespaces,
-            s,
-        );
+        return wrapper_candidates(numbers, tables, s);
     }
     if j == 3 {
-        return declaration_places(
-            numbers,
-            modules,
-            symbols,
-            firsts,
-            statements,
-            verdicts,
-            demand,
-            keys,
-            namespaces,
-            s,
-        );
+        return declaration_candidates(numbers, tables, s);
     }
-    write_places(
-        numbers,
-        modules,
-        symbols,
-        firsts,
-        statements,
-        verdicts,
-        demand,
-        keys,
-        namespaces,
-        s,
-    )
+    write_candidates(numbers, tables, s)
 }
 
-// What place k of segment j of a use gives.
-pub fn use_pick(
+// What candidate k of segment j of a use gives.
+pub fn use_candidate(
     numbers: &[u32],
-    modules: &[usize],
-    symbols: &[usize],
-    firsts: &[usize],
-    statements: &[usize],
-    verdicts: &[u32],
-    demand: &[usize],
-    keys: &[usize],
-    namespaces: &[usize],
+    tables: &[usize],
     s: SymbolIdx,
     x: Reason,
     j: usize,
     k: usize,
-) -> Pick
-    requires { ⌜ Prepared (now numbers) (now modules) (now symbols) (now firsts) (now statements) (now verdicts) (now demand) (now keys) (now namespaces) ⌝ }
+) -> Candidate
+    requires { ⌜ Prepared (now numbers) (now tables) ⌝ }
     requires { ⌜ (s .0 < headerIn (now numbers) .symbols) × (j < 5) × (k < getD (useSegments (graphIn (now numbers)) (lastVerdicts (graphIn (now numbers))) (s .0) (x .bits)) j noSegment .count) ⌝ }
-    ensures { λ r. ⌜ (r ≡ getD (useSegments (graphIn (now (numbers .entry))) (lastVerdicts (graphIn (now (numbers .entry)))) (s .0) (x .bits)) j noSegment .pick k) × GoodPick (graphIn (now (numbers .entry))) r ⌝ }
+    ensures { λ r. ⌜ (r ≡ getD (useSegments (graphIn (now (numbers .entry))) (lastVerdicts (graphIn (now (numbers .entry)))) (s .0) (x .bits)) j noSegment .candidate k) × GoodCandidate (graphIn (now (numbers .entry))) r ⌝ }
 {
     if j == 0 {
-        return drain_body_demand_stmts(
-            numbers,
-            modules,
-            symbols,
-            firsts,
-            statements,
-            verdicts,
-            demand,
-            keys,
-            namespaces,
-            s,
-            x,
-            StmtIdx(k),
-        );
+        return demand_candidate(numbers, tables, s, x, StmtIdx(k));
     }
     if j == 1 {
-        return follow_cjs_namespace_alias(
-            numbers,
-            modules,
-            symbols,
-            firsts,
-            statements,
-            verdicts,
-            demand,
-            keys,
-            namespaces,
-            s,
-        );
+        return alias_candidate(numbers, tables, s);
     }
     if j == 2 {
-        return demand_esm_initialization(
-            numbers,
-            modules,
-            symbols,
-            firsts,
-            statements,
-            verdicts,
-            demand,
-            keys,
-            namespaces,
-            s,
-            k,
-        );
+        return wrapper_candidate(numbers, tables, s, k);
     }
     if j == 3 {
-        return declaration_pick(
-            numbers,
-            modules,
-            symbols,
-            firsts,
-            statements,
-            verdicts,
-            demand,
-            keys,
-            namespaces,
-            s,
-            x,
-            k,
-        );
+        return declaration_candidate(numbers, tables, s, x, k);
     }
-    include_property_write_referencing_stmts(
-        numbers,
-        modules,
-        symbols,
-        firsts,
-        statements,
-        verdicts,
-        demand,
-        keys,
-        namespaces,
-        s,
-        k,
-    )
+    write_candidate(numbers, tables, s, k)
 }

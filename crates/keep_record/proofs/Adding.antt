@@ -1,17 +1,18 @@
 -- Lines added in turn.
-use Prim.Native.Nat.{ℕ, zero, suc, _+_, _*_, _-_, _<_, _≤_}
+use Prim.Native.Nat.{ℕ, zero, suc, _-_, _<_, _≤_}
 use mathlib.Core.Path.{_≡_, refl, ap, _∙_, sym}
-use mathlib.Core.Bool.{Bool, true, false, _||_, or-true, or-false, or-assoc}
-use mathlib.Core.List.{List, [], _∷_, _++_, map, append-nil, append-assoc}
+use mathlib.Core.Bool.{Bool, true, false, _||_, or-true, or-assoc}
+use mathlib.Core.List.{List, [], _∷_, _++_, append-nil, append-assoc}
 use native.Mathlib.Omega.{arith}
-use borrow.Author.Tests.{eq-eqb, eqb-true, eqb-false, ne-eqb}
+use borrow.Author.Tests.{eq-eqb, eqb-false, ne-eqb}
 use lib.Dec.{eqb}
 use lib.ListN.{length, getD, length-append}
 use Rattle.graph.specs.Check.{Graph}
 use Rattle.facts.specs.declared.Fact.{Fact}
 use Rattle.facts.specs.Facts.{markOf}
 use Rattle.keep_record.specs.declared.Line.{Line}
-use Rattle.keep_record.specs.Lines.{elem, marksOf, has, added, adds, Distinct}
+use Rattle.keep_record.specs.Lines.{elem, marksOf, stays, marksFrom, has, added, adds}
+use Rattle.keep_record.specs.Held.{Distinct}
 
 -- numbers in a list
 pub elem-append : (x : ℕ) (xs ys : List ℕ) → elem x (xs ++ ys) ≡ (elem x xs || elem x ys)
@@ -25,7 +26,7 @@ elem-at [] k h = absurd (omega arith)
 elem-at (x ∷ xs) zero h = rw (eq-eqb x x refl)
 elem-at (x ∷ xs) (suc k) h = ap (λ b. eqb (getD xs k 0) x || b) (elem-at xs k (omega arith)) ∙ or-true (eqb (getD xs k 0) x)
 
-pub marks-append : (g : Graph) (xs ys : List Line) → marksOf g (xs ++ ys) ≡ marksOf g xs ++ marksOf g ys
+marks-append : (g : Graph) (xs ys : List Line) → marksOf g (xs ++ ys) ≡ marksOf g xs ++ marksOf g ys
 unfolding marksOf
 marks-append g [] ys = refl
 marks-append g (x ∷ xs) ys = ap (λ l. markOf g (x .fact) ∷ l) (marks-append g xs ys)
@@ -74,78 +75,112 @@ distinct-more [] y d e = (refl, _)
 distinct-more (x ∷ xs) y d e =
     (elem-more x y xs ∙ neither (eqb x y) (elem x xs) (eqb-turned y x (left-false (eqb y x) (elem y xs) e)) (d .0), distinct-more xs y (d .1) (right-false (eqb y x) (elem y xs) e))
 
--- the facts that have a line keep one
+-- the marks over a base
 module _ (g : Graph) where
-  has-append : (lines rest : List Line) (f : Fact) → has g lines f ≡ true → has g (lines ++ rest) f ≡ true
+  pub from-stays : (base : ℕ) (l : Line) (ls : List Line) → stays (l .fact) ≡ true → marksFrom g (suc base) (l ∷ ls) ≡ markOf g (l .fact) ∷ marksFrom g base ls
+  unfolding marksFrom
+  from-stays base l ls e = rw (e, marksFrom)
+
+  pub from-goes : (base : ℕ) (l : Line) (ls : List Line) → stays (l .fact) ≡ false → marksFrom g (suc base) (l ∷ ls) ≡ marksFrom g base ls
+  unfolding marksFrom
+  from-goes base l ls e = rw (e, marksFrom)
+
+  from-append : (base : ℕ) (xs ys : List Line) → marksFrom g base (xs ++ ys) ≡ marksFrom g base xs ++ marksFrom g (base - length xs) ys
+  unfolding marksFrom
+  from-append zero xs ys = let z : 0 - length xs ≡ 0 = omega arith in rw z (marks-append g xs ys)
+  from-append (suc base) [] ys = let z : suc base - 0 ≡ suc base = omega arith in rw z
+  from-append (suc base) (x ∷ xs) ys = go (stays (x .fact)) refl (from-append base xs ys)
+    where
+      z : suc base - suc (length xs) ≡ base - length xs
+      z = omega arith
+
+      go : (b : Bool) → stays (x .fact) ≡ b → marksFrom g base (xs ++ ys) ≡ marksFrom g base xs ++ marksFrom g (base - length xs) ys
+          → marksFrom g (suc base) (x ∷ (xs ++ ys)) ≡ marksFrom g (suc base) (x ∷ xs) ++ marksFrom g (suc base - suc (length xs)) ys
+      go true e r = rw (z, from-stays base x (xs ++ ys) e, from-stays base x xs e) (ap (λ l. markOf g (x .fact) ∷ l) r)
+      go false e r = rw (z, from-goes base x (xs ++ ys) e, from-goes base x xs e) r
+
+  -- of further lines all count
+  pub own-append : (base : ℕ) (xs ys : List Line) → base ≤ length xs → marksFrom g base (xs ++ ys) ≡ marksFrom g base xs ++ marksOf g ys
+  unfolding marksFrom
+  own-append base xs ys h = let z : base - length xs ≡ 0 = omega arith in from-append base xs ys ∙ ap (λ b. marksFrom g base xs ++ marksFrom g b ys) z
+
+-- the facts that are there stay
+module _ (g : Graph) (base : ℕ) where
+  pub has-append : (lines rest : List Line) (f : Fact) → has g base lines f ≡ true → has g base (lines ++ rest) f ≡ true
   unfolding has
   has-append lines rest f h =
-      ap (λ l. elem (markOf g f) l) (marks-append g lines rest) ∙ elem-append (markOf g f) (marksOf g lines) (marksOf g rest) ∙ ap (λ b. b || elem (markOf g f) (marksOf g rest)) h
+      let m = markOf g f in
+      let more = marksFrom g (base - length lines) rest in
+      ap (λ l. elem m l) (from-append g base lines rest) ∙ elem-append m (marksFrom g base lines) more ∙ ap (λ b. b || elem m more) h
 
-  has-last : (lines : List Line) (l : Line) → has g (lines ++ (l ∷ [])) (l .fact) ≡ true
+  has-last : (lines : List Line) (l : Line) → base ≤ length lines → has g base (lines ++ (l ∷ [])) (l .fact) ≡ true
   unfolding has marksOf
-  has-last lines l =
+  has-last lines l h =
       let m = markOf g (l .fact) in
-      ap (λ xs. elem m xs) (marks-append g lines (l ∷ [])) ∙ elem-more m m (marksOf g lines) ∙ ap (λ b. b || elem m (marksOf g lines)) (eq-eqb m m refl)
+      ap (λ xs. elem m xs) (own-append g base lines (l ∷ []) h) ∙ elem-more m m (marksFrom g base lines) ∙ ap (λ b. b || elem m (marksFrom g base lines)) (eq-eqb m m refl)
 
-  pub added-old : (lines : List Line) (l : Line) → has g lines (l .fact) ≡ true → added g lines l ≡ lines
+  pub added-old : (lines : List Line) (l : Line) → has g base lines (l .fact) ≡ true → added g base lines l ≡ lines
   unfolding added
   added-old lines l e = rw (e, added)
 
-  pub added-new : (lines : List Line) (l : Line) → has g lines (l .fact) ≡ false → added g lines l ≡ lines ++ (l ∷ [])
+  pub added-new : (lines : List Line) (l : Line) → has g base lines (l .fact) ≡ false → added g base lines l ≡ lines ++ (l ∷ [])
   unfolding added
   added-new lines l e = rw (e, added)
 
-  pub added-prefix : (lines : List Line) (l : Line) → (rest : List Line) × (added g lines l ≡ lines ++ rest)
-  added-prefix lines l = go (has g lines (l .fact)) refl
+  pub added-prefix : (lines : List Line) (l : Line) → (rest : List Line) × (added g base lines l ≡ lines ++ rest)
+  added-prefix lines l = go (has g base lines (l .fact)) refl
     where
-      go : (b : Bool) → has g lines (l .fact) ≡ b → (rest : List Line) × (added g lines l ≡ lines ++ rest)
+      go : (b : Bool) → has g base lines (l .fact) ≡ b → (rest : List Line) × (added g base lines l ≡ lines ++ rest)
       go true e = ([], added-old lines l e ∙ sym (append-nil lines))
       go false e = (l ∷ [], added-new lines l e)
 
-  pub added-has : (lines : List Line) (l : Line) → has g (added g lines l) (l .fact) ≡ true
-  added-has lines l = go (has g lines (l .fact)) refl
-    where
-      go : (b : Bool) → has g lines (l .fact) ≡ b → has g (added g lines l) (l .fact) ≡ true
-      go true e = ap (λ ls. has g ls (l .fact)) (added-old lines l e) ∙ e
-      go false e = ap (λ ls. has g ls (l .fact)) (added-new lines l e) ∙ has-last lines l
+  pub added-longer : (lines : List Line) (l : Line) → length lines ≤ length (added g base lines l)
+  added-longer lines l = let p = added-prefix lines l in omega (arith, ap length (p .1), length-append lines (p .0))
 
-  pub distinct-last : (lines : List Line) (l : Line) → Distinct (marksOf g lines) → has g lines (l .fact) ≡ false → Distinct (marksOf g (lines ++ (l ∷ [])))
+  pub added-has : (lines : List Line) (l : Line) → base ≤ length lines → has g base (added g base lines l) (l .fact) ≡ true
+  added-has lines l h = go (has g base lines (l .fact)) refl
+    where
+      go : (b : Bool) → has g base lines (l .fact) ≡ b → has g base (added g base lines l) (l .fact) ≡ true
+      go true e = ap (λ ls. has g base ls (l .fact)) (added-old lines l e) ∙ e
+      go false e = ap (λ ls. has g base ls (l .fact)) (added-new lines l e) ∙ has-last lines l h
+
+  pub distinct-last : (lines : List Line) (l : Line) → base ≤ length lines → Distinct (marksFrom g base lines) → has g base lines (l .fact) ≡ false → Distinct (marksFrom g base (lines ++ (l ∷ [])))
   unfolding has marksOf
-  distinct-last lines l d e = rw (marks-append g lines (l ∷ [])) (distinct-more (marksOf g lines) (markOf g (l .fact)) d e)
+  distinct-last lines l h d e = rw (own-append g base lines (l ∷ []) h) (distinct-more (marksFrom g base lines) (markOf g (l .fact)) d e)
 
-  pub added-distinct : (lines : List Line) (l : Line) → Distinct (marksOf g lines) → Distinct (marksOf g (added g lines l))
-  added-distinct lines l d = go (has g lines (l .fact)) refl
+  pub added-distinct : (lines : List Line) (l : Line) → base ≤ length lines → Distinct (marksFrom g base lines) → Distinct (marksFrom g base (added g base lines l))
+  added-distinct lines l h d = go (has g base lines (l .fact)) refl
     where
-      go : (b : Bool) → has g lines (l .fact) ≡ b → Distinct (marksOf g (added g lines l))
+      go : (b : Bool) → has g base lines (l .fact) ≡ b → Distinct (marksFrom g base (added g base lines l))
       go true e = rw (added-old lines l e) d
-      go false e = rw (added-new lines l e) (distinct-last lines l d e)
+      go false e = rw (added-new lines l e) (distinct-last lines l h d e)
 
-  pub adds-prefix : (lines ls : List Line) → (rest : List Line) × (adds g lines ls ≡ lines ++ rest)
+  pub adds-prefix : (lines ls : List Line) → (rest : List Line) × (adds g base lines ls ≡ lines ++ rest)
   unfolding adds
   adds-prefix lines [] = ([], sym (append-nil lines))
   adds-prefix lines (l ∷ ls) =
       let p = added-prefix lines l in
-      let q = adds-prefix (added g lines l) ls in
+      let q = adds-prefix (added g base lines l) ls in
       (p .0 ++ q .0, q .1 ∙ ap (λ xs. xs ++ q .0) (p .1) ∙ append-assoc lines (p .0) (q .0))
 
-  pub adds-longer : (lines ls : List Line) → length lines ≤ length (adds g lines ls)
+  pub adds-longer : (lines ls : List Line) → length lines ≤ length (adds g base lines ls)
   adds-longer lines ls = let p = adds-prefix lines ls in omega (arith, ap length (p .1), length-append lines (p .0))
 
-  pub adds-append : (lines xs ys : List Line) → adds g lines (xs ++ ys) ≡ adds g (adds g lines xs) ys
+  pub adds-append : (lines xs ys : List Line) → adds g base lines (xs ++ ys) ≡ adds g base (adds g base lines xs) ys
   unfolding adds
   adds-append lines [] ys = refl
-  adds-append lines (x ∷ xs) ys = adds-append (added g lines x) xs ys
+  adds-append lines (x ∷ xs) ys = adds-append (added g base lines x) xs ys
 
-  pub has-kept : (lines ls : List Line) (f : Fact) → has g lines f ≡ true → has g (adds g lines ls) f ≡ true
-  has-kept lines ls f h = let p = adds-prefix lines ls in ap (λ xs. has g xs f) (p .1) ∙ has-append lines (p .0) f h
+  pub has-kept : (lines ls : List Line) (f : Fact) → has g base lines f ≡ true → has g base (adds g base lines ls) f ≡ true
+  has-kept lines ls f h = let p = adds-prefix lines ls in ap (λ xs. has g base xs f) (p .1) ∙ has-append lines (p .0) f h
 
-  pub has-after : (lines ls : List Line) (k : ℕ) (d : Line) → k < length ls → has g (adds g lines ls) (getD ls k d .fact) ≡ true
+  pub has-after : (lines ls : List Line) (k : ℕ) (d : Line) → base ≤ length lines → k < length ls → has g base (adds g base lines ls) (getD ls k d .fact) ≡ true
   unfolding adds
-  has-after lines [] k d h = absurd (omega arith)
-  has-after lines (l ∷ ls) zero d h = has-kept (added g lines l) ls (l .fact) (added-has lines l)
-  has-after lines (l ∷ ls) (suc k) d h = has-after (added g lines l) ls k d (omega arith)
+  has-after lines [] k d b h = absurd (omega arith)
+  has-after lines (l ∷ ls) zero d b h = has-kept (added g base lines l) ls (l .fact) (added-has lines l b)
+  has-after lines (l ∷ ls) (suc k) d b h = has-after (added g base lines l) ls k d (omega (arith, added-longer lines l)) (omega arith)
 
-  pub adds-distinct : (lines ls : List Line) → Distinct (marksOf g lines) → Distinct (marksOf g (adds g lines ls))
+  pub adds-distinct : (lines ls : List Line) → base ≤ length lines → Distinct (marksFrom g base lines) → Distinct (marksFrom g base (adds g base lines ls))
   unfolding adds
-  adds-distinct lines [] d = d
-  adds-distinct lines (l ∷ ls) d = adds-distinct (added g lines l) ls (added-distinct lines l d)
+  adds-distinct lines [] b d = d
+  adds-distinct lines (l ∷ ls) b d = adds-distinct (added g base lines l) ls (omega (arith, added-longer lines l)) (added-distinct lines l b d)

@@ -1,33 +1,65 @@
 -- How many lines there can be: their marks differ.
-use Prim.Native.Nat.{ℕ, zero, suc, _+_, _*_, _-_, _<_, _≤_}
+use Prim.Native.Nat.{ℕ, zero, suc, _+_, _<_, _≤_}
 use mathlib.Core.Path.{_≡_, refl, ap, _∙_, sym}
-use mathlib.Core.Bool.{Bool, true, false, _||_, true≢false}
-use mathlib.Core.List.{List, [], _∷_, _++_}
-use native.Mathlib.Decide.{ℕ-discrete, decLt}
+use mathlib.Core.Bool.{Bool, true, false, _||_, or-true, true≢false}
+use mathlib.Core.List.{List, [], _∷_}
+use native.Mathlib.Decide.{ℕ-discrete}
 use native.Mathlib.Omega.{arith}
-use borrow.Author.Tests.{eq-eqb, ne-eqb, eqb-true, eqb-false}
+use borrow.Author.Tests.{eq-eqb, eqb-true}
 use lib.Dec.{eqb}
 use lib.ListN.{length, getD}
 use Rattle.graph.specs.Check.{Graph, graphIn}
 use Rattle.facts.specs.declared.Fact.{Fact}
 use Rattle.facts.specs.Facts.{Good, markOf, markCount, moduleFact}
-use Rattle.facts.specs.Loaded.{Loaded}
+use Rattle.graph.specs.Loaded.{Loaded}
 use Rattle.facts.proofs.Marks.{mark-below}
 use Rattle.keep_record.specs.declared.Line.{Line}
-use Rattle.keep_record.specs.Lines.{elem, marksOf, lineAt, linesOf, Distinct, Held}
+use Rattle.keep_record.specs.Lines.{elem, marksOf, stays, marksFrom, has}
+use Rattle.keep_record.specs.Held.{linesOf, Distinct, Held}
 use Rattle.keep_record.proofs.Rows.{lines-length, lines-at}
-use Rattle.keep_record.proofs.Adding.{elem-at, marks-length, marks-at, neither, left-false, right-false, eqb-turned}
+use Rattle.keep_record.proofs.Adding.{elem-at, marks-length, marks-at, from-stays, from-goes, neither, left-false, right-false, eqb-turned}
 
--- a number that is not in a list is not at any place of it
-not-there : (x : ℕ) (xs : List ℕ) (k : ℕ) → elem x xs ≡ false → k < length xs → x ≡ getD xs k 0 → ⊥
-not-there x xs k e h q = let z : _≡_ {A = Bool} true false = sym (elem-at xs k h) ∙ ap (λ y. elem y xs) (sym q) ∙ e in true≢false z
+-- the fact of a line is there, if the line is not of the base or its fact stays; of two such lines the facts differ
+module _ (g : Graph) (d : Line) where
+  line-there : (base : ℕ) (ls : List Line) (k : ℕ) → k < length ls → (k < base → stays (getD ls k d .fact) ≡ true) → has g base ls (getD ls k d .fact) ≡ true
+  unfolding has marksFrom elem
+  line-there zero ls k h s = ap (λ x. elem x (marksOf g ls)) (sym (marks-at g ls k d h)) ∙ elem-at (marksOf g ls) k (omega (arith, h, marks-length g ls))
+  line-there (suc base) [] k h s = absurd (omega arith)
+  line-there (suc base) (l ∷ ls) zero h s = let m = markOf g (l .fact) in rw (from-stays g base l ls (s (omega arith)), eq-eqb m m refl)
+  line-there (suc base) (l ∷ ls) (suc k) h s = go (stays (l .fact)) refl (line-there base ls k (omega arith) (λ q. s (omega arith)))
+    where
+      m : ℕ
+      m = markOf g (getD ls k d .fact)
 
-pub distinct-apart : (xs : List ℕ) (i k : ℕ) → Distinct xs → i < length xs → k < length xs → getD xs i 0 ≡ getD xs k 0 → i ≡ k
-distinct-apart [] i k d h l e = absurd (omega arith)
-distinct-apart (x ∷ xs) zero zero d h l e = refl
-distinct-apart (x ∷ xs) zero (suc k) d h l e = absurd (not-there x xs k (d .0) (omega arith) e)
-distinct-apart (x ∷ xs) (suc i) zero d h l e = absurd (not-there x xs i (d .0) (omega arith) (sym e))
-distinct-apart (x ∷ xs) (suc i) (suc k) d h l e = ap suc (distinct-apart xs i k (d .1) (omega arith) (omega arith) e)
+      go : (b : Bool) → stays (l .fact) ≡ b → elem m (marksFrom g base ls) ≡ true → elem m (marksFrom g (suc base) (l ∷ ls)) ≡ true
+      go true e r = rw (from-stays g base l ls e) (ap (λ b. eqb m (markOf g (l .fact)) || b) r ∙ or-true (eqb m (markOf g (l .fact))))
+      go false e r = rw (from-goes g base l ls e) r
+
+  later-distinct : (base : ℕ) (l : Line) (ls : List Line) → Distinct (marksFrom g (suc base) (l ∷ ls)) → Distinct (marksFrom g base ls)
+  later-distinct base l ls a = go (stays (l .fact)) refl
+    where
+      go : (b : Bool) → stays (l .fact) ≡ b → Distinct (marksFrom g base ls)
+      go true e = (rw (from-stays g base l ls e) at a) .1
+      go false e = rw (from-goes g base l ls e) at a
+
+  -- a later line of the same fact
+  not-again : (base : ℕ) (f : Fact) (ls : List Line) (k : ℕ) → elem (markOf g f) (marksFrom g base ls) ≡ false → k < length ls → (k < base → stays f ≡ true) → f ≡ getD ls k d .fact → ⊥
+  unfolding has
+  not-again base f ls k n h s e =
+      let there = line-there base ls k h (λ q. ap stays (sym e) ∙ s q) in
+      let z : _≡_ {A = Bool} true false = sym there ∙ ap (λ x. elem (markOf g x) (marksFrom g base ls)) (sym e) ∙ n in
+      true≢false z
+
+  pub lines-apart : (base : ℕ) (ls : List Line) → Distinct (marksFrom g base ls) → (i k : ℕ) → i < k → k < length ls → (i < base → stays (getD ls i d .fact) ≡ true) → getD ls i d .fact ≡ getD ls k d .fact → ⊥
+  unfolding marksFrom marksOf
+  lines-apart base [] a i k l h s e = omega (arith, h)
+  lines-apart base (x ∷ xs) a i zero l h s e = omega (arith, l)
+  lines-apart zero (x ∷ xs) a zero (suc k) l h s e = not-again 0 (x .fact) xs k (a .0) (omega arith) (λ q. absurd (omega arith)) e
+  lines-apart zero (x ∷ xs) a (suc i) (suc k) l h s e = lines-apart 0 xs (a .1) i k (omega arith) (omega arith) (λ q. absurd (omega arith)) e
+  lines-apart (suc base) (x ∷ xs) a zero (suc k) l h s e =
+      let t = s (omega arith) in
+      not-again base (x .fact) xs k ((rw (from-stays g base x xs t) at a) .0) (omega arith) (λ q. t) e
+  lines-apart (suc base) (x ∷ xs) a (suc i) (suc k) l h s e = lines-apart base xs (later-distinct base x xs a) i k (omega arith) (omega arith) (λ q. s (omega arith)) e
 
 -- a list without the number n
 unfoldable without : ℕ → List ℕ → List ℕ
@@ -111,20 +143,46 @@ elem-place y (x ∷ xs) e = go (eqb y x) refl e (λ r. elem-place y xs r)
 pub distinct-below : (n : ℕ) (xs : List ℕ) → Distinct xs → ((i : ℕ) → i < length xs → getD xs i 0 < n) → length xs ≤ n
 distinct-below n xs d b = few n xs d (λ y e. let p = elem-place y xs e in rw (p .2) (b (p .0) (p .1)))
 
-pub lines-few : (g : Graph) (lines : List Line) (d : Line) → ((f : Fact) → Good g f → markOf g f < markCount g) → Distinct (marksOf g lines) → ((k : ℕ) → k < length lines → Good g (getD lines k d .fact))
-    → length lines ≤ markCount g
-lines-few g lines d below apart good =
-    let size = marks-length g lines in
-    let each : (i : ℕ) → i < length (marksOf g lines) → getD (marksOf g lines) i 0 < markCount g = λ i h. let l : i < length lines = omega (arith, size) in rw (marks-at g lines i d l) (below (getD lines i d .fact) (good i l)) in
-    omega (arith, size, distinct-below (markCount g) (marksOf g lines) apart each)
+-- every mark over a base is that of a line, and the lines are no more than the base and the marks
+module _ (g : Graph) where
+  from-below : (n base : ℕ) (ls : List Line) (d : Line) → ((k : ℕ) → k < length ls → markOf g (getD ls k d .fact) < n) → (i : ℕ) → i < length (marksFrom g base ls) → getD (marksFrom g base ls) i 0 < n
+  unfolding marksFrom
+  from-below n zero ls d b i h =
+      let l : i < length ls = omega (arith, h, marks-length g ls) in rw (marks-at g ls i d l) (b i l)
+  from-below n (suc base) [] d b i h = absurd (omega arith)
+  from-below n (suc base) (l ∷ ls) d b i h = go (stays (l .fact)) refl (λ j q. from-below n base ls d (λ k r. b (suc k) (omega (arith, r))) j q)
+    where
+      on : ((j : ℕ) → j < length (marksFrom g base ls) → getD (marksFrom g base ls) j 0 < n) → (j : ℕ) → j < length (markOf g (l .fact) ∷ marksFrom g base ls) → getD (markOf g (l .fact) ∷ marksFrom g base ls) j 0 < n
+      on r zero q = b 0 (omega arith)
+      on r (suc j) q = r j (omega (arith, q))
 
-module _ {numbers modules symbols firsts statements : List ℕ} (t : Loaded numbers modules symbols firsts statements) where
-  pub held-few : (marks row : List ℕ) (count : ℕ) → Held (graphIn numbers) marks row count → count ≤ markCount (graphIn numbers)
-  held-few marks row count h =
-      let d : Line = record { fact = moduleFact 0; rule = 0; first = 0; second = 0 } in
+      go : (c : Bool) → stays (l .fact) ≡ c → ((j : ℕ) → j < length (marksFrom g base ls) → getD (marksFrom g base ls) j 0 < n) → getD (marksFrom g (suc base) (l ∷ ls)) i 0 < n
+      go true e r = rw (from-stays g base l ls e) (on r i (rw (from-stays g base l ls e) at h))
+      go false e r = rw (from-goes g base l ls e) (r i (rw (from-goes g base l ls e) at h))
+
+  from-length : (base : ℕ) (ls : List Line) → length ls ≤ base + length (marksFrom g base ls)
+  unfolding marksFrom
+  from-length zero ls = omega (arith, marks-length g ls)
+  from-length (suc base) [] = omega arith
+  from-length (suc base) (l ∷ ls) = go (stays (l .fact)) refl (from-length base ls)
+    where
+      go : (c : Bool) → stays (l .fact) ≡ c → length ls ≤ base + length (marksFrom g base ls) → length (l ∷ ls) ≤ suc base + length (marksFrom g (suc base) (l ∷ ls))
+      go true e r = rw (from-stays g base l ls e) (omega (arith, r))
+      go false e r = rw (from-goes g base l ls e) (omega (arith, r))
+
+  pub lines-few : (base : ℕ) (lines : List Line) (d : Line) → ((f : Fact) → Good g f → markOf g f < markCount g) → Distinct (marksFrom g base lines) → ((k : ℕ) → k < length lines → Good g (getD lines k d .fact))
+      → length lines ≤ base + markCount g
+  lines-few base lines d below apart good =
+      let each = from-below (markCount g) base lines d (λ k h. below (getD lines k d .fact) (good k h)) in
+      omega (arith, from-length base lines, distinct-below (markCount g) (marksFrom g base lines) apart each)
+
+module _ {numbers tables : List ℕ} (t : Loaded numbers tables) where
+  pub held-few : (base : ℕ) (marks row : List ℕ) (count : ℕ) → Held (graphIn numbers) base marks row count → count ≤ base + markCount (graphIn numbers)
+  held-few base marks row count h =
+      let d : Line = record { fact = moduleFact 0; rule = 0; because = 0; and = 0 } in
       let size = lines-length count row in
       let good : (k : ℕ) → k < length (linesOf count row) → Good (graphIn numbers) (getD (linesOf count row) k d .fact) = λ k l. let q : k < count = omega (arith, size) in rw (lines-at count row k d q) (h .good k q) in
-      omega (arith, size, lines-few (graphIn numbers) (linesOf count row) d (λ f. mark-below t f) (h .apart) good)
+      omega (arith, size, lines-few (graphIn numbers) base (linesOf count row) d (λ f. mark-below t f) (h .apart) good)
 
   -- and few enough to be written
   pub marks-few : markCount (graphIn numbers) ≤ 1050624

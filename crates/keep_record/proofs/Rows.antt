@@ -1,20 +1,19 @@
 -- Lines in a row of numbers.
 use Prim.Native.Nat.{ℕ, zero, suc, _+_, _*_, _-_, _<_, _≤_}
 use mathlib.Core.Path.{_≡_, refl, ap, _∙_, sym}
-use mathlib.Core.Bool.{false}
 use mathlib.Core.List.{List, [], _∷_, _++_, append-assoc}
-use native.Mathlib.Numerals.{add-one}
 use native.Mathlib.Omega.{arith}
-use lib.ListN.{length, getD, take, drop, replicate, length-append, length-replicate}
+use lib.ListN.{length, getD, take, replicate, length-replicate, drop-of-length-le}
 use lib.Seq.{getD-take, getD-append-add}
-use Rattle.bit_row.specs.Row.{bitAt}
+use Rattle.bit_row.specs.Row.{cleared}
 use Rattle.bit_row.proofs.Cleared.{zeros-unset}
 use Rattle.graph.specs.Check.{Graph}
-use Rattle.facts.specs.Facts.{kindOf, firstPart, secondPart, factOf, markCount}
-use Rattle.facts.specs.Words.{tabulate}
+use Rattle.facts.specs.Facts.{kindOf, markCount}
+use Rattle.graph_access.specs.Words.{tabulate}
 use Rattle.facts.proofs.Marks.{fact-back}
 use Rattle.keep_record.specs.declared.Line.{Line}
-use Rattle.keep_record.specs.Lines.{numbersOf, written, lineAt, linesOf, elem, marksOf, Held}
+use Rattle.keep_record.specs.Lines.{numbersOf, written, elem, marksOf, marksFrom}
+use Rattle.keep_record.specs.Held.{lineAt, linesOf, Held}
 
 -- lists by number
 module _ {A : Type 0} (f : ℕ → A) where
@@ -112,10 +111,12 @@ written-append [] ys = refl
 written-append (x ∷ xs) ys = ap (λ l. numbersOf x ++ l) (written-append xs ys) ∙ sym (append-assoc (numbersOf x) (written xs) (written ys))
 
 -- no lines in rows of zeros
-zeros-held : (g : Graph) (marks : List ℕ) (m n : ℕ) → markCount g ≤ 8 * length marks → marks ≡ replicate m 0 → Held g marks (replicate n 0) 0
-unfolding linesOf tabulate marksOf elem written
+zeros-held : (g : Graph) (marks : List ℕ) (m n : ℕ) → markCount g ≤ 8 * length marks → marks ≡ replicate m 0 → Held g 0 marks (replicate n 0) 0
+unfolding linesOf tabulate marksOf marksFrom elem written
 zeros-held g marks m n w e =
     record {
+      base-inside = omega arith;
+      base-few = omega arith;
       room = omega arith;
       wide = w;
       marked = λ j. rw e (zeros-unset m j);
@@ -124,5 +125,17 @@ zeros-held g marks m n w e =
       zero-behind = let z : n ≡ n - 6 * 0 = omega arith in rw (length-replicate {A = ℕ} n 0) (ap (λ i. replicate i 0) z);
     }
 
-pub held-cleared : (g : Graph) (marks row : List ℕ) (m n : ℕ) → markCount g ≤ 8 * length marks → marks ≡ replicate m 0 → row ≡ replicate n 0 → Held g marks row 0
+pub held-cleared : (g : Graph) (marks row : List ℕ) (m n : ℕ) → markCount g ≤ 8 * length marks → marks ≡ replicate m 0 → row ≡ replicate n 0 → Held g 0 marks row 0
 held-cleared g marks row m n w e z = rw z (zeros-held g marks m n w e)
+
+-- a row that is cleared whole
+pub cleared-whole : (n : ℕ) (row : List ℕ) → length row ≤ n → cleared n row ≡ replicate n 0
+unfolding cleared
+cleared-whole n row h = rw (drop-of-length-le row h) append-nothing
+  where
+    append-nothing : replicate {A = ℕ} n 0 ++ [] ≡ replicate n 0
+    append-nothing = none n
+      where
+        none : (k : ℕ) → replicate {A = ℕ} k 0 ++ [] ≡ replicate k 0
+        none zero = refl
+        none (suc k) = ap (λ (l : List ℕ). 0 ∷ l) (none k)

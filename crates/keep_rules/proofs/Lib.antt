@@ -1,4 +1,3 @@
 pub mod Picks
 pub mod Forwards
 pub mod Segments
-pub mod Verdicts

@@ -5,24 +5,24 @@ use native.Mathlib.Omega.{arith}
 use Rattle.graph.specs.Check.{Graph}
 use Rattle.facts.specs.declared.Fact.{Fact}
 use Rattle.facts.specs.Facts.{Good}
-use Rattle.keep_rules.specs.Prepared.{GoodPick}
-use Rattle.keep_rules.specs.declared.Pick.{Pick}
-use Rattle.keep_rules.specs.declared.Pick.the-variants.{Gives, Nothing}
+use Rattle.keep_rules.specs.Prepared.{GoodCandidate}
+use Rattle.keep_rules.specs.declared.Candidate.{Candidate}
+use Rattle.keep_rules.specs.declared.Candidate.the-variants.{Gives, Nothing}
 
 -- the fact that is given, another one for nothing; and how many are given
-given : Fact → Pick → Fact
+given : Fact → Candidate → Fact
 given other (Gives f) = f
 given other Nothing = other
 
-many : Pick → ℕ
+many : Candidate → ℕ
 many (Gives f) = 1
 many Nothing = 0
 
-pub gives-good : {g : Graph} {f : Fact} → Good g f → GoodPick g (Gives f)
+pub gives-good : {g : Graph} {f : Fact} → Good g f → GoodCandidate g (Gives f)
 unfolding given
 gives-good {g} {f} h = record { known = λ e i. subst (λ x. Good g x) (ap (given f) i) h }
 
-pub nothing-good : {g : Graph} → GoodPick g Nothing
+pub nothing-good : {g : Graph} → GoodCandidate g Nothing
 unfolding many
 nothing-good {g} = record { known = λ f i. absurd (clash (ap many i)) }
   where

@@ -4,15 +4,15 @@ use mathlib.Core.Path.{_≡_, refl, ap}
 use native.Mathlib.Omega.{arith}
 use Rattle.keep_rules.specs.Rules.{Segment}
 
--- a place of the segment
+-- a candidate of the segment
 pub place-in : {q r : Segment} (k : ℕ) → q ≡ r → k < r .count → k < q .count
 place-in k e h = omega (arith, h, ap (λ (x : Segment). x .count) e)
 
 pub counted : {q r : Segment} → q ≡ r → q .count ≡ r .count
 counted e = ap (λ (x : Segment). x .count) e
 
-pub picked : {q r : Segment} (k : ℕ) → q ≡ r → q .pick k ≡ r .pick k
-picked k e = ap (λ (x : Segment). x .pick k) e
+pub picked : {q r : Segment} (k : ℕ) → q ≡ r → q .candidate k ≡ r .candidate k
+picked k e = ap (λ (x : Segment). x .candidate k) e
 
 -- the last of five
 pub last : (j : ℕ) → j < 5 → (j ≡ 0 → ⊥) → (j ≡ 1 → ⊥) → (j ≡ 2 → ⊥) → (j ≡ 3 → ⊥) → j ≡ 4

@@ -8,82 +8,45 @@ ghost use Rattle.graph_tables.specs.Tables.{headerIn};
 ghost use Rattle.graph.specs.Check.{graphIn};
 ghost use Rattle.determine_side_effects.specs.Effects.{lastVerdicts};
 ghost use Rattle.facts.specs.Facts.{Good, statementFact, useFact};
-ghost use Rattle.facts.specs.Words.{option as optionOf};
-ghost use Rattle.keep_rules.specs.Rules.{forwards, forwardPick};
-ghost use Rattle.keep_rules.specs.Prepared.{Prepared, GoodPick};
+ghost use Rattle.graph_access.specs.Words.{option as optionOf};
+ghost use Rattle.keep_rules.specs.Rules.{forwards, forwardCandidate};
+ghost use Rattle.keep_rules.specs.Prepared.{Prepared, GoodCandidate};
 use facts::Fact;
-use facts::SymbolIdx;
+use graph_access::symbols;
+use index::SymbolIdx;
 
-const CHAIN: usize = 0;
-
-// What one place gives.
-pub enum Pick {
+// What one candidate of a rule gives.
+pub enum Candidate {
     Gives(Fact),
     Nothing,
 }
 
 // An option bit.
-pub fn option(
-    numbers: &[u32],
-    modules: &[usize],
-    symbols: &[usize],
-    firsts: &[usize],
-    statements: &[usize],
-    verdicts: &[u32],
-    demand: &[usize],
-    keys: &[usize],
-    namespaces: &[usize],
-    k: usize,
-) -> bool
-    requires { ⌜ Prepared (now numbers) (now modules) (now symbols) (now firsts) (now statements) (now verdicts) (now demand) (now keys) (now namespaces) ⌝ }
-    requires { ⌜ k < 32 ⌝ }
+pub fn option(numbers: &[u32], k: usize) -> bool
+    requires { ⌜ (7 ≤ length (now numbers)) × (k < 32) ⌝ }
     ensures { λ r. ⌜ r ≡ optionOf (graphIn (now (numbers .entry))) k ⌝ }
 {
     let h = graph::header_of(numbers);
     facts::flag(h.options, k)
 }
 
-// How many forwards a symbol has: itself and its chain.
-pub fn forward_count(
-    numbers: &[u32],
-    modules: &[usize],
-    symbols: &[usize],
-    firsts: &[usize],
-    statements: &[usize],
-    verdicts: &[u32],
-    demand: &[usize],
-    keys: &[usize],
-    namespaces: &[usize],
-    s: SymbolIdx,
-) -> usize
-    requires { ⌜ Prepared (now numbers) (now modules) (now symbols) (now firsts) (now statements) (now verdicts) (now demand) (now keys) (now namespaces) ⌝ }
+// How many forwards a symbol has: itself and its chain (`retain_forwarding_declarations`).
+pub fn forward_count(numbers: &[u32], tables: &[usize], s: SymbolIdx) -> usize
+    requires { ⌜ Prepared (now numbers) (now tables) ⌝ }
     requires { ⌜ s .0 < headerIn (now numbers) .symbols ⌝ }
     ensures { λ r. ⌜ (r ≡ forwards (graphIn (now (numbers .entry))) (s .0)) × (r < 32768) ⌝ }
 {
-    1 + graph_access::symbol_list_length(numbers, symbols, s.0, CHAIN)
+    1 + symbols::export_chain_count(numbers, tables, s)
 }
 
 // Forward k of a symbol.
-pub fn retain_forwarding_declarations(
-    numbers: &[u32],
-    modules: &[usize],
-    symbols: &[usize],
-    firsts: &[usize],
-    statements: &[usize],
-    verdicts: &[u32],
-    demand: &[usize],
-    keys: &[usize],
-    namespaces: &[usize],
-    s: SymbolIdx,
-    k: usize,
-) -> Pick
-    requires { ⌜ Prepared (now numbers) (now modules) (now symbols) (now firsts) (now statements) (now verdicts) (now demand) (now keys) (now namespaces) ⌝ }
+pub fn forward_candidate(numbers: &[u32], tables: &[usize], s: SymbolIdx, k: usize) -> Candidate
+    requires { ⌜ Prepared (now numbers) (now tables) ⌝ }
     requires { ⌜ (s .0 < headerIn (now numbers) .symbols) × (k < forwards (graphIn (now numbers)) (s .0)) ⌝ }
-    ensures { λ r. ⌜ (r ≡ forwardPick (graphIn (now (numbers .entry))) (s .0) k) × GoodPick (graphIn (now (numbers .entry))) r ⌝ }
+    ensures { λ r. ⌜ (r ≡ forwardCandidate (graphIn (now (numbers .entry))) (s .0) k) × GoodCandidate (graphIn (now (numbers .entry))) r ⌝ }
 {
     if k == 0 {
-        return Pick::Gives(Fact::Forward(s));
+        return Candidate::Gives(Fact::Forward(s));
     }
-    let f = graph_access::symbol_list_number(numbers, symbols, s.0, CHAIN, k - 1);
-    Pick::Gives(Fact::Forward(SymbolIdx(f)))
+    Candidate::Gives(Fact::Forward(symbols::export_chain(numbers, tables, s, k - 1)))
 }

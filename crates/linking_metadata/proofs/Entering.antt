@@ -1,16 +1,20 @@
--- The loops that fill the table of CommonJS namespaces.
-use Prim.Native.Nat.{ℕ, zero, suc, _+_, _-_, _<_, _≤_}
+-- The loop by which a module enters its CommonJS namespaces.
+use Prim.Native.Nat.{ℕ, _+_, _<_, _≤_}
 use mathlib.Core.Path.{_≡_, refl, ap, _∙_, sym}
 use mathlib.Core.Logic.{_≢_}
 use mathlib.Core.Bool.{Bool, true, false}
-use mathlib.Core.List.{List, [], _∷_}
+use mathlib.Core.List.{List, []}
 use native.Mathlib.Decide.{ℕ-discrete}
 use native.Mathlib.Numerals.{add-one}
 use native.Mathlib.Omega.{arith}
 use borrow.Author.Tests.{eqb-true, eqb-false, eq-eqb, ne-eqb}
 use lib.Dec.{eqb}
 use lib.Seq.{drop-cons, getD-set-same, getD-set-other}
-use lib.ListN.{length, getD, set, length-set, drop, drop-of-length-le}
+use lib.ListN.{length, getD, set, drop, drop-of-length-le}
+use Rattle.graph_format.specs.declared.Header.{Header}
+use Rattle.tables.specs.Layout.{sizes, startOf, Laid, Kept, namespacesIn}
+use Rattle.tables.proofs.Sections.{section-length, kept-none, kept-set}
+use Rattle.tables.proofs.Writing.{section-set}
 use Rattle.graph_access.specs.Names.{namespaceSymbol, namespaceModule}
 use Rattle.linking_metadata.specs.Namespaces.{namespaceIn}
 
@@ -59,17 +63,25 @@ module _ (own : ℕ → ℕ) (m : ℕ) (rows : List (List ℕ)) (k : ℕ) (l : k
       same : own s ≡ m → b ≡ elim (eqb (namespaceSymbol row) s) [ true ↦ namespaceModule row + 1 | false ↦ b ]
       same e = let d : y ≢ s = λ z. n (ap own z ∙ e) in let f = ne-eqb y s d in rw (sym is, f)
 
--- a turn of the loop: the table has been written to, or not
-pub record Turn (own : ℕ → ℕ) (m : ℕ) (rows : List (List ℕ)) (k : ℕ) (table later : List ℕ) : Type 0 where
-  pub long : length later ≡ length table
-  pub entries : (s : ℕ) → byRows (own s) m s (drop (k + 1) rows) (getD later s 0) ≡ byRows (own s) m s (drop k rows) (getD table s 0)
+-- a turn of the loop: the section has been written to, or not
+pub record Turn (own : ℕ → ℕ) (m : ℕ) (rows : List (List ℕ)) (k : ℕ) (h : Header) (tables later : List ℕ) : Type 0 where
+  pub kept : Kept (startOf h 8) tables later
+  pub entries : (s : ℕ) → byRows (own s) m s (drop (k + 1) rows) (getD (namespacesIn later) s 0) ≡ byRows (own s) m s (drop k rows) (getD (namespacesIn tables) s 0)
 
-module _ (own : ℕ → ℕ) (m : ℕ) (rows : List (List ℕ)) (k : ℕ) (l : k < length rows) (table later : List ℕ) (y : ℕ) (is : y ≡ namespaceSymbol (getD rows k [])) where
-  pub turn-own : (x : ℕ) → x ≡ namespaceModule (getD rows k []) → y < length table → own y ≡ m → later ≡ set table y (x + 1) → Turn own m rows k table later
-  turn-own x of i mine e = rw e (record { long = length-set table y (x + 1); entries = step-own own m rows k l table y x is of i mine })
+module _ (own : ℕ → ℕ) (m : ℕ) (rows : List (List ℕ)) (k : ℕ) (l : k < length rows) (h : Header) (tables later : List ℕ) (y : ℕ) (is : y ≡ namespaceSymbol (getD rows k [])) where
+  pub turn-own : Laid h 10 tables → (base : ℕ) → base ≡ startOf h 8 → y < h .symbols → (x : ℕ) → x ≡ namespaceModule (getD rows k []) → own y ≡ m → later ≡ set tables (base + y) (x + 1)
+      → Turn own m rows k h tables later
+  unfolding sizes
+  turn-own t base b i x of mine e =
+      let w : namespacesIn later ≡ set (namespacesIn tables) y (x + 1) = ap namespacesIn (e ∙ ap (λ at. set tables (at + y) (x + 1)) b) ∙ section-set t 8 (omega arith) y (x + 1) i in
+      let r : y < length (namespacesIn tables) = omega (arith, i, section-length t 8 (omega arith)) in
+      record {
+        kept = rw e (kept-set (startOf h 8) (base + y) (x + 1) (omega (arith, b)) kept-none);
+        entries = λ s. ap (λ table. byRows (own s) m s (drop (k + 1) rows) (getD table s 0)) w ∙ step-own own m rows k l (namespacesIn tables) y x is of r mine s;
+      }
 
-  pub turn-other : own y ≢ m → later ≡ table → Turn own m rows k table later
-  turn-other n e = rw e (record { long = refl; entries = λ s. step-other own m rows k l y is n s (getD table s 0) })
+  pub turn-other : own y ≢ m → later ≡ tables → Turn own m rows k h tables later
+  turn-other n e = rw e (record { kept = kept-none; entries = λ s. step-other own m rows k l y is n s (getD (namespacesIn tables) s 0) })
 
 pub by-end : (own m s : ℕ) (rows : List (List ℕ)) (k b : ℕ) → length rows ≤ k → byRows own m s (drop k rows) b ≡ b
 unfolding byRows namespaceIn

@@ -1,1 +1,2 @@
 pub mod Namespaces
+pub mod Tabled

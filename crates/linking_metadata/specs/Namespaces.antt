@@ -7,8 +7,8 @@ use lib.Dec.{eqb}
 use lib.ListN.{length, getD}
 use Rattle.graph.specs.Check.{Graph}
 use Rattle.graph_access.specs.Names.{owner, aliasNamespace, namespace, commonJsNamespaces, namespaceSymbol, namespaceModule}
-use Rattle.graph_access.specs.Lists.{rootOf}
-use Rattle.facts.specs.Words.{moduleOf, symbolOf}
+use Rattle.graph_access.specs.Words.{rootOf}
+use Rattle.graph_access.specs.Words.{moduleOf, symbolOf}
 
 -- 1 more than the module that the rows give symbol s, the last such row (a symbol doesn't repeat); `none` where they have no row of it
 unfoldable pub namespaceIn : ℕ → ℕ → List (List ℕ) → ℕ
@@ -30,11 +30,3 @@ targetOf g s =
       | true ↦ rootOf (g .symbols) s
       | false ↦ aliasNamespace (symbolOf g (rootOf (g .symbols) s)) - 1
     ]
-
--- what the entry of symbol s becomes when module m enters the namespaces that it lists and owns
-unfoldable pub entered : Graph → ℕ → ℕ → ℕ → ℕ
-entered g m s before = elim (eqb (owner (symbolOf g s)) m) [ true ↦ namespaceIn s before (commonJsNamespaces (moduleOf g m)) | false ↦ before ]
-
-pub record NamespaceTable (g : Graph) (table : List ℕ) : Type 0 where
-  pub long : g .header .symbols ≤ length table
-  pub has : (s : ℕ) → s < g .header .symbols → getD table s 0 ≡ commonJsOf g s

@@ -1,152 +1,87 @@
 // CommonJS namespaces by symbol, and where a symbol leads (linking_metadata.rs).
 ghost use mathlib.Core.Path.{_≡_};
 ghost use Prim.Native.Nat.{ℕ, _+_, _-_, _<_, _≤_};
-ghost use mathlib.Core.Bool.{Bool, true, false};
-ghost use mathlib.Core.List.{List, [], _∷_};
-ghost use lib.Dec.{eqb};
+ghost use mathlib.Core.Bool.{Bool};
 ghost use lib.ListN.{length, getD};
+ghost use Rattle.tables.specs.Layout.{startOf, Laid, Kept, namespacesIn};
 ghost use Rattle.graph_tables.specs.Tables.{headerIn};
 ghost use Rattle.graph.specs.Check.{graphIn};
-ghost use Rattle.graph_access.specs.Names.{owner as ownerIn};
-ghost use Rattle.facts.specs.Words.{symbolOf, normal};
-ghost use Rattle.facts.specs.Loaded.{Loaded};
-ghost use Rattle.linking_metadata.specs.Namespaces.{isNamespace, targetOf, entered, NamespaceTable};
-use facts::ModuleIdx;
-use facts::SymbolIdx;
-
-// Leading numbers of a module and of a symbol, and a module's list of CommonJS namespaces.
-const KIND: usize = 0;
-
-const NAMESPACE: usize = 7;
-
-const OWNER: usize = 0;
-
-const ALIAS_NAMESPACE: usize = 3;
-
-const COMMONJS_NAMESPACES: usize = 7;
-
-// Whether a module is a normal one.
-pub fn is_normal(
-    numbers: &[u32],
-    modules: &[usize],
-    symbols: &[usize],
-    firsts: &[usize],
-    statements: &[usize],
-    m: ModuleIdx,
-) -> bool
-    requires { ⌜ Loaded (now numbers) (now modules) (now symbols) (now firsts) (now statements) ⌝ }
-    requires { ⌜ m .0 < headerIn (now numbers) .modules ⌝ }
-    ensures { λ r. ⌜ r ≡ normal (graphIn (now (numbers .entry))) (m .0) ⌝ }
-{
-    graph_tables::module_number(numbers, modules, m.0, KIND) == 1
-}
-
-// The owner of a symbol.
-pub fn owner(
-    numbers: &[u32],
-    modules: &[usize],
-    symbols: &[usize],
-    firsts: &[usize],
-    statements: &[usize],
-    s: SymbolIdx,
-) -> ModuleIdx
-    requires { ⌜ Loaded (now numbers) (now modules) (now symbols) (now firsts) (now statements) ⌝ }
-    requires { ⌜ s .0 < headerIn (now numbers) .symbols ⌝ }
-    ensures { λ r. ⌜ (r .0 ≡ ownerIn (symbolOf (graphIn (now (numbers .entry))) (s .0))) × (r .0 < headerIn (now (numbers .entry)) .modules) ⌝ }
-{
-    ModuleIdx(graph_tables::symbol_number(numbers, symbols, s.0, OWNER))
-}
+ghost use Rattle.graph.specs.Loaded.{Loaded};
+ghost use Rattle.linking_metadata.specs.Namespaces.{commonJsOf, isNamespace, targetOf};
+ghost use Rattle.linking_metadata.specs.Tabled.{entered, NamespaceTable, Named};
+use graph_access::modules;
+use graph_access::symbols;
+use index::ModuleIdx;
+use index::SymbolIdx;
+use tables::NAMESPACES;
 
 // Whether a symbol is the namespace of its owner.
-pub fn is_namespace(
-    numbers: &[u32],
-    modules: &[usize],
-    symbols: &[usize],
-    firsts: &[usize],
-    statements: &[usize],
-    s: SymbolIdx,
-) -> bool
-    requires { ⌜ Loaded (now numbers) (now modules) (now symbols) (now firsts) (now statements) ⌝ }
+pub fn is_namespace(numbers: &[u32], tables: &[usize], s: SymbolIdx) -> bool
+    requires { ⌜ Loaded (now numbers) (now tables) ⌝ }
     requires { ⌜ s .0 < headerIn (now numbers) .symbols ⌝ }
     ensures { λ r. ⌜ r ≡ isNamespace (graphIn (now (numbers .entry))) (s .0) ⌝ }
 {
-    let m = graph_tables::symbol_number(numbers, symbols, s.0, OWNER);
-    graph_tables::module_number(numbers, modules, m, NAMESPACE) == s.0 + 1
+    let m = symbols::owner(numbers, tables, s);
+    modules::namespace(numbers, tables, m) == s.0 + 1
 }
 
 // The alias namespace of the symbol's root if it has one, else the root.
-pub fn target_of(
-    numbers: &[u32],
-    modules: &[usize],
-    symbols: &[usize],
-    firsts: &[usize],
-    statements: &[usize],
-    s: SymbolIdx,
-) -> SymbolIdx
-    requires { ⌜ Loaded (now numbers) (now modules) (now symbols) (now firsts) (now statements) ⌝ }
+pub fn target_of(numbers: &[u32], tables: &[usize], s: SymbolIdx) -> SymbolIdx
+    requires { ⌜ Loaded (now numbers) (now tables) ⌝ }
     requires { ⌜ s .0 < headerIn (now numbers) .symbols ⌝ }
     ensures { λ r. ⌜ (r .0 ≡ targetOf (graphIn (now (numbers .entry))) (s .0)) × (r .0 < headerIn (now (numbers .entry)) .symbols) ⌝ }
 {
-    let root = graph_access::root_of(numbers, symbols, s.0);
-    let alias = graph_tables::symbol_number(numbers, symbols, root, ALIAS_NAMESPACE);
+    let root = symbols::root(numbers, tables, s);
+    let alias = symbols::alias_namespace(numbers, tables, root);
     if alias == 0 {
-        return SymbolIdx(root);
+        return root;
     }
     SymbolIdx(alias - 1)
 }
 
-// Enters the CommonJS namespaces that module m lists and owns.
-fn enter_namespaces(
-    numbers: &[u32],
-    modules: &[usize],
-    symbols: &[usize],
-    firsts: &[usize],
-    statements: &[usize],
-    m: usize,
-    namespaces: &mut [usize],
-)
-    requires { ⌜ Loaded (now numbers) (now modules) (now symbols) (now firsts) (now statements) ⌝ }
-    requires { ⌜ m < headerIn (now numbers) .modules ⌝ }
-    requires { ⌜ headerIn (now numbers) .symbols ≤ length (now namespaces) ⌝ }
-    ensures { λ _. ⌜ ((s : ℕ) → s < headerIn (now (numbers .entry)) .symbols → getD (now (namespaces .exit)) s 0 ≡ entered (graphIn (now (numbers .entry))) m s (getD (now (namespaces .entry)) s 0)) ⌝ }
+// 1 more than the CommonJS module that a symbol is a namespace of, or 0.
+pub fn commonjs_of(numbers: &[u32], tables: &[usize], s: SymbolIdx) -> usize
+    requires { ⌜ Named (now numbers) (now tables) ⌝ }
+    requires { ⌜ s .0 < headerIn (now numbers) .symbols ⌝ }
+    ensures { λ r. ⌜ (r ≡ commonJsOf (graphIn (now (numbers .entry))) (s .0)) × (r ≤ headerIn (now (numbers .entry)) .modules) ⌝ }
 {
-    let count = graph_access::module_list_length(numbers, modules, m, COMMONJS_NAMESPACES);
+    let namespaces = tables::section(tables, NAMESPACES);
+    let i = s.0;
+    namespaces[i]
+}
+
+// Enters the CommonJS namespaces that a module lists and owns.
+fn enter_namespaces(numbers: &[u32], tables: &mut [usize], m: ModuleIdx)
+    requires { ⌜ Loaded (now numbers) (now tables) ⌝ }
+    requires { ⌜ Laid (headerIn (now numbers)) 10 (now tables) ⌝ }
+    requires { ⌜ m .0 < headerIn (now numbers) .modules ⌝ }
+    ensures { λ _. ⌜ ((s : ℕ) → s < (headerIn (now (numbers .entry))) .symbols → getD (namespacesIn (now (tables .exit))) s 0 ≡ entered (graphIn (now (numbers .entry))) (m .0) s (getD (namespacesIn (now (tables .entry))) s 0)) × Kept (startOf (headerIn (now (numbers .entry))) 8) (now (tables .entry)) (now (tables .exit)) ⌝ }
+{
+    let base = tables[NAMESPACES];
+    let count = modules::commonjs_namespace_count(numbers, tables, m);
     let mut k: usize = 0;
     while k < count {
-        let s = graph_access::module_list_number(numbers, modules, m, COMMONJS_NAMESPACES, k, 0);
-        if graph_tables::symbol_number(numbers, symbols, s, OWNER) == m {
-            namespaces[s] = graph_access::module_list_number(
-                numbers,
-                modules,
-                m,
-                COMMONJS_NAMESPACES,
-                k,
-                1,
-            )
-                + 1;
+        let s = modules::commonjs_namespace_symbol(numbers, tables, m, k);
+        let owner = symbols::owner(numbers, tables, s);
+        if owner.0 == m.0 {
+            let n = modules::commonjs_namespace_module(numbers, tables, m, k);
+            tables[base + s.0] = n.0 + 1;
         }
         k += 1;
     }
 }
 
-// Fills a cleared table: for each symbol 1 more than the CommonJS module that it is a namespace of, or 0.
-pub fn fill_namespaces(
-    numbers: &[u32],
-    modules: &[usize],
-    symbols: &[usize],
-    firsts: &[usize],
-    statements: &[usize],
-    namespaces: &mut [usize],
-)
-    requires { ⌜ Loaded (now numbers) (now modules) (now symbols) (now firsts) (now statements) ⌝ }
-    requires { ⌜ headerIn (now numbers) .symbols ≤ length (now namespaces) ⌝ }
-    requires { ⌜ ((s : ℕ) → getD (now namespaces) s 0 ≡ 0) ⌝ }
-    ensures { λ _. ⌜ NamespaceTable (graphIn (now (numbers .entry))) (now (namespaces .exit)) ⌝ }
+// Fills the section of the CommonJS namespaces: for each symbol 1 more than the module that it is a namespace of, or 0.
+pub fn fill_namespaces(numbers: &[u32], tables: &mut [usize])
+    requires { ⌜ Loaded (now numbers) (now tables) ⌝ }
+    requires { ⌜ Laid (headerIn (now numbers)) 10 (now tables) ⌝ }
+    ensures { λ _. ⌜ NamespaceTable (graphIn (now (numbers .entry))) (namespacesIn (now (tables .exit))) × Kept (startOf (headerIn (now (numbers .entry))) 8) (now (tables .entry)) (now (tables .exit)) ⌝ }
 {
     let h = graph::header_of(numbers);
+    tables::clear(tables, NAMESPACES);
     let mut m: usize = 0;
     while m < h.modules {
-        enter_namespaces(numbers, modules, symbols, firsts, statements, m, namespaces);
+        enter_namespaces(numbers, tables, ModuleIdx(m));
         m += 1;
     }
 }

@@ -1,17 +1,18 @@
 -- What the tests of a module and of a statement decide.
-use Prim.Native.Nat.{ℕ, _+_, _-_, _<_, _≤_}
+use Prim.Native.Nat.{ℕ, _-_, _<_, _≤_}
 use mathlib.Core.Path.{_≡_, refl, ap, _∙_, sym}
 use mathlib.Core.Logic.{_≢_}
-use mathlib.Core.Bool.{Bool, true, false, _&&_, _||_, not}
+use mathlib.Core.Bool.{Bool, true, false, not}
 use mathlib.Core.List.{List, []}
 use native.Mathlib.Omega.{arith}
 use borrow.Author.Tests.{eq-eqb, ne-eqb, lt-ltb, le-ltb}
-use lib.Dec.{eqb, ltb}
+use lib.Dec.{eqb}
 use lib.ListN.{length, getD}
 use Rattle.graph.specs.Check.{Graph}
-use Rattle.graph_access.specs.Names.{exports, flags, statementBits, statementRecords, references}
-use Rattle.facts.specs.Words.{flag, moduleOf, statementOf, normal}
-use Rattle.on_demand.specs.Demand.{one, userEntry, onDemand, gated, hasGated, hasBody}
+use Rattle.graph_access.specs.Names.{exports, flags, statementBits, statementImportRecords, references}
+use Rattle.graph_access.specs.Words.{flag, moduleOf, statementOf, normal}
+use Rattle.on_demand.specs.Demand.{userEntry, onDemand, gated, hasGated, hasBody}
+use Rattle.on_demand.specs.Tabled.{one}
 
 -- a module, by its verdict, its exports, its flag and its entry
 module _ (g : Graph) (v : List ℕ) (m x : ℕ) (is : x ≡ getD v m 0) where
@@ -46,15 +47,10 @@ unfolding one
 at-most-one true = omega arith
 at-most-one false = omega arith
 
-pub one-zero : (b : Bool) → one b ≡ 0 → b ≡ false
+pub one-is : (b : Bool) → eqb (one b) 1 ≡ b
 unfolding one
-one-zero true e = absurd (omega (arith, e))
-one-zero false e = refl
-
-pub one-more : (b : Bool) → one b ≢ 0 → b ≡ true
-unfolding one
-one-more true e = refl
-one-more false e = absurd (e refl)
+one-is true = refl
+one-is false = refl
 
 -- a statement
 module _ (g : Graph) (m i : ℕ) where
@@ -72,7 +68,7 @@ module _ (g : Graph) (m i : ℕ) where
       unfolding gated
       gated-alone e = let a = ne-eqb i 0 n in let l : r ≤ 0 = omega (arith, e) in let b = le-ltb 0 r l in rw (a, sym is, t, sym of, b, gated)
 
-      pub gated-records : (k : ℕ) → r ≢ 0 → k ≡ length (statementRecords (statementOf g m i)) → eqb k 0 ≡ gated g m i
+      pub gated-records : (k : ℕ) → r ≢ 0 → k ≡ length (statementImportRecords (statementOf g m i)) → eqb k 0 ≡ gated g m i
       unfolding gated
       gated-records k d e =
           let a = ne-eqb i 0 n in

@@ -2,21 +2,26 @@
 use Prim.Native.Nat.{ℕ, zero, suc, _+_, _-_, _<_, _≤_}
 use mathlib.Core.Path.{_≡_, refl, ap, _∙_, sym}
 use mathlib.Core.Logic.{_≢_}
-use mathlib.Core.Bool.{Bool, true, false, _&&_, _||_, not}
-use mathlib.Core.List.{List, [], _∷_}
+use mathlib.Core.Bool.{Bool, true, false, _&&_, _||_}
+use mathlib.Core.List.{List, []}
 use native.Mathlib.Decide.{ℕ-discrete}
 use native.Mathlib.Numerals.{add-one}
 use native.Mathlib.Omega.{arith}
-use borrow.Author.Tests.{eqb-true, eqb-false, eq-eqb, ne-eqb, lt-ltb, le-ltb, ltb-true}
+use borrow.Author.Tests.{eq-eqb, ne-eqb, lt-ltb, ltb-true}
 use lib.Dec.{eqb, ltb}
-use lib.ListN.{length, getD, set, length-set, drop}
+use lib.ListN.{length, getD, set, drop}
+use Rattle.graph_format.specs.declared.Header.{Header}
+use Rattle.tables.specs.Layout.{sizes, startOf, Laid, Kept, onDemandIn}
+use Rattle.tables.proofs.Sections.{section-length, laid-kept}
 use Rattle.rows.specs.Walk.{Item, noItem}
 use Rattle.graph.specs.Check.{Graph}
 use Rattle.graph_access.specs.Names.{entryModule, entryKind, namespace, ownExports, only}
-use Rattle.graph_access.specs.Lists.{rootOf}
-use Rattle.facts.specs.Words.{some, moduleOf, option}
-use Rattle.facts.proofs.Folds.{bySome, by-some-step, by-some-end, set-here, set-there}
-use Rattle.on_demand.specs.Demand.{one, userEntry, hasBody, claims, claimed, bodyOf, keyed}
+use Rattle.graph_access.specs.Words.{rootOf}
+use Rattle.graph_access.specs.Words.{some, moduleOf, option}
+use Rattle.facts.proofs.Folds.{bySome, by-some-step, set-here, set-there}
+use Rattle.determine_side_effects.proofs.InSection.{kept-written, section-written}
+use Rattle.on_demand.specs.Demand.{userEntry, hasBody, claims, claimed, bodyOf}
+use Rattle.on_demand.specs.Tabled.{one, keyed}
 
 -- entries
 abbrev pub marks : ℕ → Item → Bool
@@ -26,16 +31,23 @@ pub marks-start : (g : Graph) (m x : ℕ) → x ≡ 0 → bySome (marks m) 1 (g 
 unfolding bySome userEntry one
 marks-start g m x e = rw e
 
-pub record Turn (es : List Item) (k : ℕ) (table later : List ℕ) : Type 0 where
-  pub long : length later ≡ length table
-  pub entries : (m : ℕ) → bySome (marks m) 1 (drop (k + 1) es) (getD later m 0) ≡ bySome (marks m) 1 (drop k es) (getD table m 0)
+-- a turn of the loop: the section has been written to, or not
+pub record Turn (es : List Item) (k : ℕ) (h : Header) (first tables later : List ℕ) : Type 0 where
+  pub kept : Kept (startOf h 6) first later
+  pub entries : (m : ℕ) → bySome (marks m) 1 (drop (k + 1) es) (getD (onDemandIn later) m 0) ≡ bySome (marks m) 1 (drop k es) (getD (onDemandIn tables) m 0)
 
-module _ (es : List Item) (k : ℕ) (l : k < length es) (table later : List ℕ) where
+module _ (es : List Item) (k : ℕ) (l : k < length es) (h : Header) (first tables later : List ℕ) (t : Laid h 10 first) (q : Kept (startOf h 6) first tables) where
   abbrev entry : Item
   entry = getD es k noItem
 
-  pub turn-user : (m : ℕ) → m ≡ entryModule entry → entryKind entry < 2 → m < length table → later ≡ set table m 1 → Turn es k table later
-  turn-user m is u i e = rw e (record { long = length-set table m 1; entries = each })
+  pub turn-user : (m : ℕ) → m ≡ entryModule entry → entryKind entry < 2 → m < h .modules → later ≡ set tables (getD first 6 0 + m) 1 → Turn es k h first tables later
+  unfolding sizes
+  turn-user m is u i e =
+      let w = ap onDemandIn e ∙ section-written t 6 (omega arith) q m i 1 in
+      record {
+        kept = rw e (kept-written t 6 (omega arith) q m i 1);
+        entries = λ s. ap (λ table. bySome (marks s) 1 (drop (k + 1) es) (getD table s 0)) w ∙ each s;
+      }
     where
       two : ltb (entryKind entry) 2 ≡ true
       two = lt-ltb (entryKind entry) 2 u
@@ -47,18 +59,22 @@ module _ (es : List Item) (k : ℕ) (l : k < length es) (table later : List ℕ)
       test : (s : ℕ) → marks s entry ≡ eqb m s
       test s = rw (two, sym is) (and-two (eqb m s))
 
-      each : (s : ℕ) → bySome (marks s) 1 (drop (k + 1) es) (getD (set table m 1) s 0) ≡ bySome (marks s) 1 (drop k es) (getD table s 0)
-      each s = by-some-step (marks s) 1 noItem es k _ _ l (λ t. set-here table m 1 s i (sym (test s) ∙ t)) (λ t. set-there table m 1 s (sym (test s) ∙ t))
+      long : m < length (onDemandIn tables)
+      long = omega (arith, i, section-length (laid-kept t 6 (omega arith) q) 6 (omega arith))
 
-  pub turn-other : 2 ≤ entryKind entry → later ≡ table → Turn es k table later
-  turn-other u e = rw e (record { long = refl; entries = each })
+      each : (s : ℕ) → bySome (marks s) 1 (drop (k + 1) es) (getD (set (onDemandIn tables) m 1) s 0) ≡ bySome (marks s) 1 (drop k es) (getD (onDemandIn tables) s 0)
+      each s =
+          by-some-step (marks s) 1 noItem es k _ _ l (λ b. set-here (onDemandIn tables) m 1 s long (sym (test s) ∙ b)) (λ b. set-there (onDemandIn tables) m 1 s (sym (test s) ∙ b))
+
+  pub turn-other : 2 ≤ entryKind entry → later ≡ tables → Turn es k h first tables later
+  turn-other u e = rw e (record { kept = q; entries = each })
     where
       none : (b : Bool) → (b && ltb (entryKind entry) 2) ≡ true → ⊥
-      none true t = let w = ltb-true (entryKind entry) 2 t in omega (arith, w, u)
-      none false t = let w : _≡_ {A = ℕ} 0 1 = ap (λ b. elim b [ true ↦ 1 | false ↦ 0 ]) t in omega (arith, w)
+      none true b = let w = ltb-true (entryKind entry) 2 b in omega (arith, w, u)
+      none false b = let w : _≡_ {A = ℕ} 0 1 = ap (λ b. elim b [ true ↦ 1 | false ↦ 0 ]) b in omega (arith, w)
 
-      each : (s : ℕ) → bySome (marks s) 1 (drop (k + 1) es) (getD table s 0) ≡ bySome (marks s) 1 (drop k es) (getD table s 0)
-      each s = by-some-step (marks s) 1 noItem es k _ _ l (λ t. absurd (none (eqb (entryModule entry) s) t)) (λ t. refl)
+      each : (s : ℕ) → bySome (marks s) 1 (drop (k + 1) es) (getD (onDemandIn tables) s 0) ≡ bySome (marks s) 1 (drop k es) (getD (onDemandIn tables) s 0)
+      each s = by-some-step (marks s) 1 noItem es k _ _ l (λ b. absurd (none (eqb (entryModule entry) s) b)) (λ b. refl)
 
 -- keys
 abbrev pub rooted : Graph → ℕ → List ℕ → Bool
@@ -135,3 +151,21 @@ body-none g v s x o z = rw (o, bodyOf) z
 pub body-all : (g : Graph) (v : List ℕ) (s x : ℕ) → option g 0 ≡ true → x ≡ claimed g v s (g .header .modules) → x ≡ bodyOf g v s
 unfolding bodyOf
 body-all g v s x o z = rw (o, bodyOf) z
+
+-- a body is 1 more than a module, or 0
+claimed-fits : (g : Graph) (v : List ℕ) (s k : ℕ) → claimed g v s k ≤ k
+unfolding claimed
+claimed-fits g v s zero = omega arith
+claimed-fits g v s (suc k) = go (claimed-fits g v s k) (claims g v k s) refl
+  where
+    go : claimed g v s k ≤ k → (b : Bool) → claims g v k s ≡ b → claimed g v s (suc k) ≤ suc k
+    go h true e = rw (e, claimed) (omega arith)
+    go h false e = rw (e, claimed) (omega (arith, h))
+
+pub body-fits : (g : Graph) (v : List ℕ) (s : ℕ) → bodyOf g v s ≤ g .header .modules
+unfolding bodyOf
+body-fits g v s = go (option g 0) refl
+  where
+    go : (b : Bool) → option g 0 ≡ b → bodyOf g v s ≤ g .header .modules
+    go true e = rw (e, bodyOf) (claimed-fits g v s (g .header .modules))
+    go false e = rw (e, bodyOf) (omega arith)

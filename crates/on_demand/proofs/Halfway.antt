@@ -1,7 +1,6 @@
 -- The loop that settles which modules' side effects are included on demand, and how many entries there are.
 use Prim.Native.Nat.{ℕ, _+_, _<_, _≤_}
-use mathlib.Core.Path.{_≡_, refl, ap, _∙_, sym}
-use mathlib.Core.Logic.{_≢_}
+use mathlib.Core.Path.{_≡_, ap, _∙_}
 use mathlib.Core.List.{List}
 use native.Mathlib.Decide.{ℕ-discrete}
 use native.Mathlib.Omega.{arith}
@@ -9,10 +8,12 @@ use borrow.Author.Tests.{eq-eqb, ne-eqb}
 use lib.ListN.{length, getD, set}
 use Rattle.rows.proofs.Items.{many-length}
 use Rattle.graph_format.specs.Format.{entriesAt}
-use Rattle.graph_tables.specs.Tables.{headerIn, entriesRead, entriesIn, EntryTable}
+use Rattle.graph_tables.specs.Tables.{headerIn, entriesRead}
+use Rattle.graph_tables.specs.Places.{EntryTable}
 use Rattle.graph.specs.Check.{Graph, graphIn}
 use Rattle.facts.proofs.Folds.{set-here, set-there}
-use Rattle.on_demand.specs.Demand.{one, userEntry, onDemand}
+use Rattle.on_demand.specs.Demand.{userEntry, onDemand}
+use Rattle.on_demand.specs.Tabled.{one}
 
 pub entries-long : (numbers table : List ℕ) → EntryTable numbers table → length (graphIn numbers .entries) ≡ headerIn numbers .entries
 unfolding entriesRead entriesAt graphIn

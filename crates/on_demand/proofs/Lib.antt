@@ -1,3 +1,4 @@
 pub mod Deciding
 pub mod Entering
 pub mod Halfway
+pub mod Behind

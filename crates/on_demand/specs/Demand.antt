@@ -7,9 +7,9 @@ use lib.Dec.{eqb, ltb}
 use lib.ListN.{length, getD}
 use Rattle.rows.specs.Walk.{Item}
 use Rattle.graph.specs.Check.{Graph}
-use Rattle.graph_access.specs.Names.{exports, flags, namespace, ownExports, only, entryModule, entryKind, statementBits, statementRecords, references}
-use Rattle.graph_access.specs.Lists.{rootOf}
-use Rattle.facts.specs.Words.{flag, tabulate, some, moduleOf, statementList, statementOf, normal, option}
+use Rattle.graph_access.specs.Names.{exports, flags, namespace, ownExports, only, entryModule, entryKind, statementBits, statementImportRecords, references}
+use Rattle.graph_access.specs.Words.{rootOf}
+use Rattle.graph_access.specs.Words.{flag, tabulate, some, moduleOf, statementList, statementOf, normal, option}
 use Rattle.determine_side_effects.specs.Effects.{lastVerdicts}
 
 -- module m is the module of a user-defined entry, kind 0 or 1 (001:122-136)
@@ -21,11 +21,11 @@ unfoldable pub onDemand : Graph → List ℕ → ℕ → Bool
 onDemand g v m =
     eqb (getD v m 0) 2 && (eqb (exports (moduleOf g m)) 0 && (not (flag 0 (flags (moduleOf g m))) && not (userEntry g m)))
 
--- `is_gated_side_effect_stmt` (001:116-120): a side effect, a reference of any kind, no record; statement 0 never is
+-- `is_gated_side_effect_stmt` (001:116-120): a side effect, a reference of any kind, no import record; statement 0 never is
 unfoldable pub gated : Graph → ℕ → ℕ → Bool
 gated g m i =
     not (eqb i 0) && (flag 0 (statementBits (statementOf g m i))
-    && (ltb 0 (length (references (statementOf g m i))) && eqb (length (statementRecords (statementOf g m i))) 0))
+    && (ltb 0 (length (references (statementOf g m i))) && eqb (length (statementImportRecords (statementOf g m i))) 0))
 
 -- module m has a gated statement
 unfoldable pub hasGated : Graph → ℕ → Bool
@@ -48,24 +48,3 @@ claimed g v s (suc k) = elim (claims g v k s) [ true ↦ suc k | false ↦ claim
 -- `compute_body_demand_keys` (001:72-108): 1 more than the module whose body the symbol is a key of; none without tree shaking
 unfoldable pub bodyOf : Graph → List ℕ → ℕ → ℕ
 bodyOf g v s = elim (option g 0) [ true ↦ claimed g v s (g .header .modules) | false ↦ 0 ]
-
--- How the tables hold these: 1 for true, 0 for false.
-unfoldable pub one : Bool → ℕ
-one b = elim b [ true ↦ 1 | false ↦ 0 ]
-
--- the modules of user-defined entries have 1
-abbrev pub EntriesMarked : Graph → List ℕ → Type 0
-EntriesMarked g table = (m : ℕ) → m < g .header .modules → getD table m 0 ≡ one (userEntry g m)
-
-pub record DemandTable (g : Graph) (table : List ℕ) : Type 0 where
-  pub long : g .header .modules ≤ length table
-  pub has : (m : ℕ) → m < g .header .modules → getD table m 0 ≡ one (onDemand g (lastVerdicts g) m)
-
--- what the key of symbol s becomes when module m, which has a body, enters its keys
-unfoldable pub keyed : Graph → ℕ → ℕ → ℕ → ℕ
-keyed g m s before =
-    elim (some (λ row. eqb (rootOf (g .symbols) (only row)) s) (ownExports (moduleOf g m)) || eqb (namespace (moduleOf g m)) (s + 1)) [ true ↦ m + 1 | false ↦ before ]
-
-pub record KeyTable (g : Graph) (table : List ℕ) : Type 0 where
-  pub long : g .header .symbols ≤ length table
-  pub has : (s : ℕ) → s < g .header .symbols → getD table s 0 ≡ bodyOf g (lastVerdicts g) s

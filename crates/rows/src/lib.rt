@@ -250,11 +250,6 @@ fn chained_rows(
     Walk::At(place)
 }
 
-// 0, since no slice is so long; a compiler cannot tell.
-pub fn apart(numbers: &[u32]) -> usize {
-    numbers.len() / 4611686018427387904
-}
-
 // chained_rows with tables of its own. `again` is 0: the call of itself keeps a compiler from merging this frame into its caller's (docs/DECISIONS.md).
 fn long_distinct_rows(
     numbers: &[u32],
@@ -294,7 +289,7 @@ pub fn distinct_rows(
     if count <= 64 {
         short_distinct_rows(numbers, at, count, width, a, b, c)
     } else {
-        long_distinct_rows(numbers, at, count, width, a, b, c, apart(numbers))
+        long_distinct_rows(numbers, at, count, width, a, b, c, frames::apart(numbers))
     }
 }
 

@@ -5,21 +5,26 @@ use mathlib.Core.List.{List, [], _∷_}
 use Rattle.leb128.specs.Groups.{value, groups, ended, shortest, good}
 use Rattle.leb128.specs.Read.{Decoded, all, refused, before, numbersFrom, readOf}
 use Rattle.rows.specs.Walk.{got, fault, within, obeys, number, cells, many, elem, repeated, firsts, list, plainRow, distinctRow, lists, item, andThen}
-use Rattle.graph_format.specs.Format.{headerRules, headerOf, namespaceLimit, leastStatements, statementLimit, moduleRules, importLists, exportLists, nameLists, moduleLists, moduleAt, lessModule, modulesAt, kindOf, statementsOf, recordsOf, symbolRules, ownersCounts, symbolLists, symbolAt, symbolsAt, dependedAt, memberRules, partsAt, referenceAt, statementLists, statementAt, moduleStatements, statementsAt, relatedModuleAt, relatedRecordAt, relatedAt, entryAt, entriesAt}
+use Rattle.graph_format.specs.Format.{headerRules, headerOf, namespaceLimit, leastStatements, statementLimit, moduleRules, importLists, exportLists, nameLists, moduleLists, moduleAt, lessModule, modulesAt, kindOf, statementsOf, importRecordsOf, symbolRules, ownersCounts, symbolLists, symbolAt, symbolsAt, dependedAt, memberRules, partsAt, referenceAt, statementLists, statementAt, moduleStatements, statementsAt, relatedModuleAt, relatedImportRecordAt, relatedAt, entryAt, entriesAt}
 use Rattle.graph_tables.specs.Tables.{firstOf}
 use Rattle.graph.specs.declared.Checked.{Checked}
 use Rattle.graph.specs.declared.Checked.the-variants.{Accepted, Refused}
 use Rattle.graph.specs.Check.{helpersAt, graphAt, walked, each, runtimeNormal, ownsNamespace, rootIsRoot, laterRules, checkOf, answerOf}
-use Rattle.facts.specs.Words.{flag, tabulate, some, moduleOf, symbolOf, statementList, statementOf, normal, option}
+use Rattle.graph_access.specs.Words.{flag, tabulate, some, moduleOf, symbolOf, statementList, statementOf, normal, option}
 use Rattle.facts.specs.Facts.{factOf, markOf, markCount}
 use Rattle.determine_side_effects.specs.Effects.{effectful, seeds, reaches, moves, moved, pass, passes, settle, relaxed, rescanned, recomputed, firstVerdict, firstVerdicts, lastVerdicts, hasEffects}
-use Rattle.on_demand.specs.Demand.{userEntry, onDemand, gated, hasGated, hasBody, claims, claimed, bodyOf, one, keyed}
-use Rattle.linking_metadata.specs.Namespaces.{namespaceIn, commonJsOf, isNamespace, targetOf, entered}
-use Rattle.keep_rules.specs.Rules.{when, quietRuntime, hasEval, effectBit, sweptShaken, sweptWhole, swept, sweepPick, dependency, dependencyPick, evalImports, evalPick, exportSymbolPick, devNamespace, devPick, moduleSegments, recordOf, bailsOut, recordPick, reasonOf, inlined, forwards, forwardPick, plainPick, resolvedPick, referencePlaces, referencePick, referenceSegment, statementSegments, bailoutPick, defaultAlias, checkedPick, bypassed, demanded, demandPlaces, demandPick, exportOf, exportPick, aliasPick, initializes, wrapperPlaces, wrapperPick, declarationPlaces, declarationPick, writePlaces, writePick, useSegments, segmentsOf, picked, givenBy, gives}
-use Rattle.keep_record.specs.Lines.{numbersOf, written, lineAt, linesOf, elem as elemOf, marksOf, has, added, adds}
-use Rattle.worklist.specs.Drain.{factAt, followed, joined, forwardsTo, isModule, joinsAll, moduleLine, joinedTo, joins, news, drained, drainedAll, drainOf, startsOf}
-use Rattle.graph_access.specs.Names.{kind, effects, exports, moduleType, flags, wrap, wrapper, namespace, reexportCount, statementCount, scanEffects, scanStatementCount, records, dependencies, namedImports, ownExports, entryReferences, commonJsExportSymbols, resolvedExports, commonJsNamespaces, enumMembers, moduleHelpers, only, recordTarget, recordKind, recordBits, exportName, exportSymbol, exportFromCommonJs, namespaceSymbol, namespaceModule, enumName, enumMember, helperNumber, helperStatement, owner, symbolName, root, aliasNamespace, aliasName, constantBits, exportChain, declaringStatements, writtenPropertyStatements, statementBits, statementRecords, references, referenceKind, referenceSymbol, referenceFlag, propertyCount, firstProperty, dependedOn, entryModule, entryKind, related, relatedModule, relatedStatement, relatedRecord, unreachable}
-use Rattle.graph_access.specs.Lists.{placeOf, moduleWidths, symbolWidths, rootOf, moduleLimits, symbolLimits}
+use Rattle.on_demand.specs.Demand.{userEntry, onDemand, gated, hasGated, hasBody, claims, claimed, bodyOf}
+use Rattle.on_demand.specs.Tabled.{one, keyed}
+use Rattle.linking_metadata.specs.Namespaces.{namespaceIn, commonJsOf, isNamespace, targetOf}
+use Rattle.linking_metadata.specs.Tabled.{entered}
+use Rattle.keep_rules.specs.Rules.{when, quietRuntime, hasEval, effectBit, sweptShaken, sweptWhole, swept, sweepCandidate, dependency, dependencyCandidate, evalCandidates, evalCandidate, exportSymbolCandidate, devNamespace, devCandidate, moduleSegments, importRecordOf, bailsOut, importRecordCandidate, reasonOf, inlined, forwards, forwardCandidate, plainCandidate, resolvedCandidate, referenceCandidates, referenceCandidate, referenceSegment, statementSegments, bailoutCandidate, defaultAlias, checkedCandidate, bypassed, demanded, demandCandidates, demandCandidate, exportOf, exportCandidate, aliasCandidate, needsWrapper, wrapperCandidates, wrapperCandidate, declarationCandidates, declarationCandidate, writeCandidates, writeCandidate, useSegments, segmentsOf, picked, givenBy, gives}
+use Rattle.keep_record.specs.Lines.{numbersOf, written, elem as elemOf, marksOf, marksFrom, has, added, adds}
+use Rattle.keep_record.specs.Held.{lineAt, linesOf}
+use Rattle.worklist.specs.Drain.{factAt, followed, joined, forwardsTo, isModule, joinsAll, moduleLine, nameOf, joinedTo, joins, news, drained, started, drainedAll, drainOf}
+use Rattle.starts.specs.Starts.{startsOf}
+use Rattle.graph_access.specs.Names.{kind, effects, exports, moduleType, flags, wrap, wrapper, namespace, reexportCount, statementCount, scanEffects, scanStatementCount, importRecords, dependencies, namedImports, ownExports, entryReferences, commonJsExportSymbols, resolvedExports, commonJsNamespaces, enumMembers, moduleHelpers, only, importRecordTarget, importRecordKind, importRecordBits, exportName, exportSymbol, exportFromCommonJs, namespaceSymbol, namespaceModule, enumName, enumMember, helperNumber, helperStatement, owner, symbolName, root, aliasNamespace, aliasName, constantBits, exportChain, declaringStatements, writtenPropertyStatements, statementBits, statementImportRecords, references, referenceKind, referenceSymbol, referenceFlag, propertyCount, firstProperty, dependedOn, entryModule, entryKind, related, relatedModule, relatedStatement, relatedImportRecord, unreachable}
+use Rattle.graph_access.specs.Lists.{placeOf, moduleWidths, symbolWidths, moduleLimits, symbolLimits}
+use Rattle.graph_access.specs.Words.{rootOf}
 
 -- a file with room for so many numbers reads as this; numbers are checked with this answer; the last verdicts of a graph are these; the
 -- record of a drain of a graph by these starts is this
@@ -55,7 +60,7 @@ printed =
 abbrev pub imports : List ℕ
 imports = 1 ∷ 0 ∷ 4 ∷ 4 ∷ 4 ∷ 0 ∷ 0 ∷ 1 ∷ 0 ∷ 0 ∷ 0 ∷ 0 ∷ 0 ∷ 0 ∷ 1 ∷ 0 ∷ 1 ∷ 0 ∷ 1 ∷ 0 ∷ 0 ∷ 0 ∷ 0 ∷ 0 ∷ 0 ∷ 0 ∷ 0 ∷ 0 ∷ 0 ∷ 1 ∷ 0 ∷ 0 ∷ 0 ∷ 0 ∷ 0 ∷ 0 ∷ 2 ∷ 0 ∷ 1 ∷ 0 ∷ 1 ∷ 1 ∷ 3 ∷ 0 ∷ 0 ∷ 0 ∷ 0 ∷ 0 ∷ 0 ∷ 0 ∷ 0 ∷ 0 ∷ 0 ∷ 0 ∷ 1 ∷ 2 ∷ 0 ∷ 0 ∷ 0 ∷ 0 ∷ 0 ∷ 3 ∷ 0 ∷ 1 ∷ 2 ∷ 1 ∷ 1 ∷ 4 ∷ 0 ∷ 0 ∷ 0 ∷ 0 ∷ 0 ∷ 0 ∷ 0 ∷ 0 ∷ 0 ∷ 0 ∷ 0 ∷ 1 ∷ 1 ∷ 0 ∷ 0 ∷ 0 ∷ 0 ∷ 0 ∷ 4 ∷ 0 ∷ 1 ∷ 1 ∷ 1 ∷ 0 ∷ 0 ∷ 0 ∷ 0 ∷ 0 ∷ 0 ∷ 0 ∷ 0 ∷ 0 ∷ 0 ∷ 0 ∷ 0 ∷ 0 ∷ 0 ∷ 0 ∷ 0 ∷ 0 ∷ 0 ∷ 0 ∷ 1 ∷ 1 ∷ 1 ∷ 0 ∷ 0 ∷ 0 ∷ 0 ∷ 0 ∷ 0 ∷ 2 ∷ 2 ∷ 2 ∷ 0 ∷ 0 ∷ 0 ∷ 0 ∷ 0 ∷ 0 ∷ 3 ∷ 3 ∷ 3 ∷ 0 ∷ 0 ∷ 0 ∷ 0 ∷ 0 ∷ 0 ∷ 0 ∷ 0 ∷ 0 ∷ 0 ∷ 0 ∷ 0 ∷ 0 ∷ 0 ∷ 0 ∷ 0 ∷ 0 ∷ 0 ∷ []
 
--- module 1 is included on demand; its statement 1 has an effect and one reference: without a record, and with one
+-- module 1 is included on demand; its statement 1 has an effect and one reference: without an import record, and with one
 abbrev pub unrecorded : List ℕ
 unrecorded = 1 ∷ 0 ∷ 2 ∷ 2 ∷ 3 ∷ 0 ∷ 0 ∷ 1 ∷ 0 ∷ 0 ∷ 0 ∷ 0 ∷ 0 ∷ 0 ∷ 1 ∷ 0 ∷ 1 ∷ 0 ∷ 1 ∷ 0 ∷ 0 ∷ 0 ∷ 0 ∷ 0 ∷ 0 ∷ 0 ∷ 0 ∷ 0 ∷ 0 ∷ 1 ∷ 2 ∷ 0 ∷ 0 ∷ 0 ∷ 0 ∷ 0 ∷ 2 ∷ 0 ∷ 2 ∷ 2 ∷ 2 ∷ 0 ∷ 0 ∷ 0 ∷ 0 ∷ 0 ∷ 0 ∷ 0 ∷ 0 ∷ 0 ∷ 0 ∷ 0 ∷ 0 ∷ 0 ∷ 0 ∷ 0 ∷ 0 ∷ 0 ∷ 0 ∷ 0 ∷ 1 ∷ 1 ∷ 1 ∷ 0 ∷ 0 ∷ 0 ∷ 0 ∷ 0 ∷ 0 ∷ 0 ∷ 0 ∷ 0 ∷ 0 ∷ 0 ∷ 0 ∷ 1 ∷ 0 ∷ 1 ∷ 1 ∷ []
 
@@ -86,5 +91,5 @@ table =
     ∷ []
 
 pub worked-facts : AllHold table
-unfolding value groups ended shortest good before numbersFrom readOf within obeys number cells many elem repeated firsts list plainRow distinctRow lists item andThen headerRules headerOf namespaceLimit leastStatements statementLimit moduleRules importLists exportLists nameLists moduleLists moduleAt lessModule modulesAt kindOf statementsOf recordsOf symbolRules ownersCounts symbolLists symbolAt symbolsAt dependedAt memberRules partsAt referenceAt statementLists statementAt moduleStatements statementsAt relatedModuleAt relatedRecordAt relatedAt entryAt entriesAt helpersAt graphAt walked each runtimeNormal ownsNamespace rootIsRoot laterRules checkOf answerOf flag tabulate some moduleOf symbolOf statementList statementOf normal option factOf markOf markCount effectful seeds reaches moves moved pass passes settle relaxed rescanned recomputed firstVerdict firstVerdicts lastVerdicts hasEffects userEntry onDemand gated hasGated hasBody claims claimed bodyOf one keyed namespaceIn commonJsOf isNamespace targetOf entered when quietRuntime hasEval effectBit sweptShaken sweptWhole swept sweepPick dependency dependencyPick evalImports evalPick exportSymbolPick devNamespace devPick moduleSegments recordOf bailsOut recordPick reasonOf inlined forwards forwardPick plainPick resolvedPick referencePlaces referencePick referenceSegment statementSegments bailoutPick defaultAlias checkedPick bypassed demanded demandPlaces demandPick exportOf exportPick aliasPick initializes wrapperPlaces wrapperPick declarationPlaces declarationPick writePlaces writePick useSegments segmentsOf picked givenBy gives numbersOf written lineAt linesOf elemOf marksOf has added adds factAt followed joined forwardsTo isModule joinsAll moduleLine joinedTo joins news drained drainedAll drainOf startsOf kind effects exports moduleType flags wrap wrapper namespace reexportCount statementCount scanEffects scanStatementCount records dependencies namedImports ownExports entryReferences commonJsExportSymbols resolvedExports commonJsNamespaces enumMembers moduleHelpers only recordTarget recordKind recordBits exportName exportSymbol exportFromCommonJs namespaceSymbol namespaceModule enumName enumMember helperNumber helperStatement owner symbolName root aliasNamespace aliasName constantBits exportChain declaringStatements writtenPropertyStatements statementBits statementRecords references referenceKind referenceSymbol referenceFlag propertyCount firstProperty dependedOn entryModule entryKind related relatedModule relatedStatement relatedRecord unreachable placeOf moduleWidths symbolWidths rootOf moduleLimits symbolLimits firstOf verdictsIn recordIn
+unfolding value groups ended shortest good before numbersFrom readOf within obeys number cells many elem repeated firsts list plainRow distinctRow lists item andThen headerRules headerOf namespaceLimit leastStatements statementLimit moduleRules importLists exportLists nameLists moduleLists moduleAt lessModule modulesAt kindOf statementsOf importRecordsOf symbolRules ownersCounts symbolLists symbolAt symbolsAt dependedAt memberRules partsAt referenceAt statementLists statementAt moduleStatements statementsAt relatedModuleAt relatedImportRecordAt relatedAt entryAt entriesAt helpersAt graphAt walked each runtimeNormal ownsNamespace rootIsRoot laterRules checkOf answerOf flag tabulate some moduleOf symbolOf statementList statementOf normal option factOf markOf markCount effectful seeds reaches moves moved pass passes settle relaxed rescanned recomputed firstVerdict firstVerdicts lastVerdicts hasEffects userEntry onDemand gated hasGated hasBody claims claimed bodyOf one keyed namespaceIn commonJsOf isNamespace targetOf entered when quietRuntime hasEval effectBit sweptShaken sweptWhole swept sweepCandidate dependency dependencyCandidate evalCandidates evalCandidate exportSymbolCandidate devNamespace devCandidate moduleSegments importRecordOf bailsOut importRecordCandidate reasonOf inlined forwards forwardCandidate plainCandidate resolvedCandidate referenceCandidates referenceCandidate referenceSegment statementSegments bailoutCandidate defaultAlias checkedCandidate bypassed demanded demandCandidates demandCandidate exportOf exportCandidate aliasCandidate needsWrapper wrapperCandidates wrapperCandidate declarationCandidates declarationCandidate writeCandidates writeCandidate useSegments segmentsOf picked givenBy gives numbersOf written lineAt linesOf elemOf marksOf marksFrom has added adds factAt followed joined forwardsTo isModule joinsAll moduleLine nameOf joinedTo joins news drained started drainedAll drainOf startsOf kind effects exports moduleType flags wrap wrapper namespace reexportCount statementCount scanEffects scanStatementCount importRecords dependencies namedImports ownExports entryReferences commonJsExportSymbols resolvedExports commonJsNamespaces enumMembers moduleHelpers only importRecordTarget importRecordKind importRecordBits exportName exportSymbol exportFromCommonJs namespaceSymbol namespaceModule enumName enumMember helperNumber helperStatement owner symbolName root aliasNamespace aliasName constantBits exportChain declaringStatements writtenPropertyStatements statementBits statementImportRecords references referenceKind referenceSymbol referenceFlag propertyCount firstProperty dependedOn entryModule entryKind related relatedModule relatedStatement relatedImportRecord unreachable placeOf moduleWidths symbolWidths rootOf moduleLimits symbolLimits firstOf verdictsIn recordIn
 worked-facts = (refl, (refl, (refl, (refl, (refl, (refl, (refl, (refl, (refl, (refl, (refl, (refl, tt))))))))))))

@@ -1,28 +1,30 @@
 -- K1 at a line, by the kind of its fact.
-use Prim.Native.Nat.{ℕ, zero, suc, _+_, _*_, _-_, _<_, _≤_}
+use Prim.Native.Nat.{ℕ, _+_, _<_, _≤_}
 use mathlib.Core.Path.{_≡_, refl, ap, _∙_, sym}
 use mathlib.Core.Bool.{Bool, true, false}
-use mathlib.Core.List.{List, [], _∷_, _++_}
+use mathlib.Core.List.{List, [], _∷_}
+use native.Mathlib.Decide.{decLt}
 use native.Mathlib.Omega.{arith}
-use borrow.Author.Tests.{eq-eqb, ne-eqb}
-use lib.ListN.{length, getD, take, length-take}
+use borrow.Author.Tests.{ne-eqb, le-leb, lt-leb}
+use lib.ListN.{length, getD, take, drop, length-take}
 use Rattle.graph_tables.specs.Tables.{headerIn}
 use Rattle.graph.specs.Check.{Graph, graphIn}
 use Rattle.graph_access.specs.Names.{owner}
-use Rattle.facts.specs.declared.ModuleIdx.{ModuleIdx}
-use Rattle.facts.specs.declared.SymbolIdx.{SymbolIdx}
-use Rattle.facts.specs.declared.StmtIdx.{StmtIdx}
+use Rattle.index.specs.declared.ModuleIdx.{ModuleIdx}
+use Rattle.index.specs.declared.SymbolIdx.{SymbolIdx}
+use Rattle.index.specs.declared.StmtIdx.{StmtIdx}
 use Rattle.facts.specs.declared.Reason.{Reason}
 use Rattle.facts.specs.declared.Fact.{Fact}
-use Rattle.facts.specs.declared.Fact.the-variants.{Module, Statement, Use, Checked, Forward, Bailout}
+use Rattle.facts.specs.declared.Fact.the-variants.{Module, Statement, Use, CheckedUse, Forward, Bailout}
 use Rattle.facts.specs.Facts.{Good}
-use Rattle.facts.specs.Words.{symbolOf}
+use Rattle.graph_access.specs.Words.{symbolOf}
 use Rattle.keep_record.specs.declared.Line.{Line}
 use Rattle.keep_record.specs.declared.Added.{Added}
-use Rattle.keep_record.specs.declared.Added.the-variants.{Lines, Full}
-use Rattle.keep_record.specs.Lines.{linesOf, adds, Held, Grown}
+use Rattle.keep_record.specs.declared.Added.the-variants.{Lines}
+use Rattle.keep_record.specs.Lines.{adds}
+use Rattle.keep_record.specs.Held.{linesOf, Held, Grown}
 use Rattle.keep_record.proofs.Rows.{lines-length}
-use Rattle.worklist.specs.Drain.{joined, joinsAll, isModule, moduleLine, joinedTo, joins}
+use Rattle.worklist.specs.Drain.{joined, joinsAll, isModule, moduleLine, nameOf, joinedTo, joins}
 use Rattle.worklist.specs.Links.{Linked}
 use Rattle.worklist.proofs.Going.{grown-as}
 
@@ -45,34 +47,51 @@ module-line-low m i (l ∷ ls) = go (isModule m l) refl (module-line-low m (i + 
     go true e r = rw (e, moduleLine) (omega arith)
     go false e r = rw (e, moduleLine) (omega (arith, r))
 
-module _ (g : Graph) (k : ℕ) (f : Fact) (marks row : List ℕ) (count : ℕ) where
-  pub join-module : (m : ModuleIdx) → f ≡ Module m → (marks′ row′ : List ℕ) (r : Added) → Grown g (adds g (linesOf count row) (joinsAll g (m .0) k 0 (take k (linesOf count row)))) marks′ row′ r
-      → Grown g (adds g (linesOf count row) (joins g (linesOf count row) k f)) marks′ row′ r
+-- a line's name: its own, or 0 for one of an earlier stage
+module _ (base n : ℕ) where
+  pub name-old : n ≤ base → nameOf base n ≡ 0
+  unfolding nameOf
+  name-old h = rw (le-leb n base h, nameOf)
+
+  pub name-own : base < n → nameOf base n ≡ n
+  unfolding nameOf
+  name-own h = rw (lt-leb n base h, nameOf)
+
+  pub name-low : nameOf base n ≤ n
+  name-low = go (decLt base n)
+    where
+      go : Dec (base < n) → nameOf base n ≤ n
+      go (yes h) = omega (arith, name-own h)
+      go (no h) = omega (arith, name-old (omega arith))
+
+module _ (g : Graph) (base k : ℕ) (f : Fact) (marks row : List ℕ) (count : ℕ) where
+  pub join-module : (m : ModuleIdx) → f ≡ Module m → (marks′ row′ : List ℕ) (r : Added) → Grown g base (adds g base (linesOf count row) (joinsAll g (m .0) k base (drop base (take k (linesOf count row))))) marks′ row′ r
+      → Grown g base (adds g base (linesOf count row) (joins g base (linesOf count row) k f)) marks′ row′ r
   unfolding joins
   join-module m e marks′ row′ r w = rw e w
 
-  join-none : joins g (linesOf count row) k f ≡ [] → Held g marks row count → Grown g (adds g (linesOf count row) (joins g (linesOf count row) k f)) marks row (Lines count)
+  join-none : joins g base (linesOf count row) k f ≡ [] → Held g base marks row count → Grown g base (adds g base (linesOf count row) (joins g base (linesOf count row) k f)) marks row (Lines count)
   unfolding adds
-  join-none e h = rw e (grown-as g (linesOf count row) marks row count refl h)
+  join-none e h = rw e (grown-as g base (linesOf count row) marks row count refl h)
 
-  pub join-statement : (m : ModuleIdx) (i : StmtIdx) → f ≡ Statement m i → Held g marks row count → Grown g (adds g (linesOf count row) (joins g (linesOf count row) k f)) marks row (Lines count)
+  pub join-statement : (m : ModuleIdx) (i : StmtIdx) → f ≡ Statement m i → Held g base marks row count → Grown g base (adds g base (linesOf count row) (joins g base (linesOf count row) k f)) marks row (Lines count)
   unfolding joins
-  join-statement m i e = join-none (ap (joins g (linesOf count row) k) e)
+  join-statement m i e = join-none (ap (joins g base (linesOf count row) k) e)
 
-  pub join-use : (s : SymbolIdx) (x : Reason) → f ≡ Use s x → Held g marks row count → Grown g (adds g (linesOf count row) (joins g (linesOf count row) k f)) marks row (Lines count)
+  pub join-use : (s : SymbolIdx) (x : Reason) → f ≡ Use s x → Held g base marks row count → Grown g base (adds g base (linesOf count row) (joins g base (linesOf count row) k f)) marks row (Lines count)
   unfolding joins
-  join-use s x e = join-none (ap (joins g (linesOf count row) k) e)
+  join-use s x e = join-none (ap (joins g base (linesOf count row) k) e)
 
-  pub join-checked : (s : SymbolIdx) (x : Reason) → f ≡ Checked s x → Held g marks row count → Grown g (adds g (linesOf count row) (joins g (linesOf count row) k f)) marks row (Lines count)
+  pub join-checked : (s : SymbolIdx) (x : Reason) → f ≡ CheckedUse s x → Held g base marks row count → Grown g base (adds g base (linesOf count row) (joins g base (linesOf count row) k f)) marks row (Lines count)
   unfolding joins
-  join-checked s x e = join-none (ap (joins g (linesOf count row) k) e)
+  join-checked s x e = join-none (ap (joins g base (linesOf count row) k) e)
 
-  pub join-bailout : (m : ModuleIdx) → f ≡ Bailout m → Held g marks row count → Grown g (adds g (linesOf count row) (joins g (linesOf count row) k f)) marks row (Lines count)
+  pub join-bailout : (m : ModuleIdx) → f ≡ Bailout m → Held g base marks row count → Grown g base (adds g base (linesOf count row) (joins g base (linesOf count row) k f)) marks row (Lines count)
   unfolding joins
-  join-bailout m e = join-none (ap (joins g (linesOf count row) k) e)
+  join-bailout m e = join-none (ap (joins g base (linesOf count row) k) e)
 
   -- the owner's line, by the table
-  module _ (links : List ℕ) (t : Linked g links (take k (linesOf count row))) (s : SymbolIdx) (e : f ≡ Forward s) (o : ModuleIdx) (is : o .0 ≡ owner (symbolOf g (s .0))) (in-range : o .0 < g .header .modules) where
+  module _ (links : List ℕ) (t : Linked g base links (take k (linesOf count row))) (s : SymbolIdx) (e : f ≡ Forward s) (o : ModuleIdx) (is : o .0 ≡ owner (symbolOf g (s .0))) (in-range : o .0 < g .header .modules) where
     found : getD links (o .0) 0 ≡ moduleLine (owner (symbolOf g (s .0))) 0 (take k (linesOf count row))
     found = t .module-lines (o .0) in-range ∙ ap (λ m. moduleLine m 0 (take k (linesOf count row))) is
 
@@ -80,22 +99,23 @@ module _ (g : Graph) (k : ℕ) (f : Fact) (marks row : List ℕ) (count : ℕ) w
     line-low l =
         omega (arith, found, module-line-low (owner (symbolOf g (s .0))) 0 (take k (linesOf count row)), length-take k (linesOf count row), lines-length count row)
 
-    pub join-alone : getD links (o .0) 0 ≡ 0 → Held g marks row count → Grown g (adds g (linesOf count row) (joins g (linesOf count row) k f)) marks row (Lines count)
+    pub join-alone : getD links (o .0) 0 ≡ 0 → Held g base marks row count → Grown g base (adds g base (linesOf count row) (joins g base (linesOf count row) k f)) marks row (Lines count)
     unfolding joins joinedTo
     join-alone z h =
         let n : moduleLine (owner (symbolOf g (s .0))) 0 (take k (linesOf count row)) ≡ 0 = sym found ∙ z in
-        join-none (ap (joins g (linesOf count row) k) e ∙ ap (joinedTo g (s .0) k) n) h
+        join-none (ap (joins g base (linesOf count row) k) e ∙ ap (joinedTo g base (s .0) k) n) h
 
-    pub join-forward : (getD links (o .0) 0 ≡ 0 → ⊥) → (marks′ row′ : List ℕ) (r : Added) → Grown g (adds g (linesOf count row) (joined g (s .0) (k + 1) (getD links (o .0) 0))) marks′ row′ r
-        → Grown g (adds g (linesOf count row) (joins g (linesOf count row) k f)) marks′ row′ r
+    pub join-forward : (getD links (o .0) 0 ≡ 0 → ⊥) → (name : ℕ) → name ≡ nameOf base (getD links (o .0) 0) → (marks′ row′ : List ℕ) (r : Added) → Grown g base (adds g base (linesOf count row) (joined g (s .0) (k + 1) name)) marks′ row′ r
+        → Grown g base (adds g base (linesOf count row) (joins g base (linesOf count row) k f)) marks′ row′ r
     unfolding joins joinedTo
-    join-forward z marks′ row′ r w =
+    join-forward z name q marks′ row′ r w =
         let n = getD links (o .0) 0 in
-        let one : joinedTo g (s .0) k n ≡ joined g (s .0) (k + 1) n = rw (ne-eqb n 0 z, joinedTo) in
-        let all : joins g (linesOf count row) k f ≡ joined g (s .0) (k + 1) n = ap (joins g (linesOf count row) k) e ∙ ap (joinedTo g (s .0) k) (sym found) ∙ one in
+        let one : joinedTo g base (s .0) k n ≡ joined g (s .0) (k + 1) (nameOf base n) = rw (ne-eqb n 0 z, joinedTo) in
+        let all : joins g base (linesOf count row) k f ≡ joined g (s .0) (k + 1) name =
+        ap (joins g base (linesOf count row) k) e ∙ ap (joinedTo g base (s .0) k) (sym found) ∙ one ∙ ap (joined g (s .0) (k + 1)) (sym q) in
         rw all w
 
 -- the table has a place for each module
-pub owner-linked : (numbers links : List ℕ) (lines : List Line) → Linked (graphIn numbers) links lines → (o : ℕ) → o < headerIn numbers .modules → o < length links
+pub owner-linked : (numbers : List ℕ) (base : ℕ) (links : List ℕ) (lines : List Line) → Linked (graphIn numbers) base links lines → (o : ℕ) → o < headerIn numbers .modules → o < length links
 unfolding graphIn
-owner-linked numbers links lines t o h = omega (arith, t .long, h)
+owner-linked numbers base links lines t o h = omega (arith, t .long, h)

@@ -1,5 +1,5 @@
 -- The walk through a module's forwards by the table of links.
-use Prim.Native.Nat.{ℕ, zero, suc, _+_, _*_, _-_, _<_, _≤_}
+use Prim.Native.Nat.{ℕ, suc, _+_, _*_, _-_, _<_, _≤_}
 use mathlib.Core.Path.{_≡_, refl, ap, _∙_, sym, subst}
 use mathlib.Core.Logic.{_≢_}
 use mathlib.Core.Bool.{Bool, true, false}
@@ -12,14 +12,15 @@ use lib.Seq.{drop-cons, drop-drop, getD-drop, take-append-le}
 use lib.ListN.{length, getD, take, drop, length-drop}
 use Rattle.graph.specs.Check.{Graph}
 use Rattle.graph_access.specs.Names.{owner}
-use Rattle.facts.specs.declared.SymbolIdx.{SymbolIdx}
+use Rattle.index.specs.declared.SymbolIdx.{SymbolIdx}
 use Rattle.facts.specs.declared.Fact.the-variants.{Forward}
 use Rattle.facts.specs.Facts.{Good, firstPart}
-use Rattle.facts.specs.Words.{symbolOf}
+use Rattle.graph_access.specs.Words.{symbolOf}
 use Rattle.keep_record.specs.declared.Line.{Line}
 use Rattle.keep_record.specs.declared.Added.{Added}
 use Rattle.keep_record.specs.declared.Added.the-variants.{Lines, Full}
-use Rattle.keep_record.specs.Lines.{lineAt, linesOf, adds, Held, Grown}
+use Rattle.keep_record.specs.Lines.{adds}
+use Rattle.keep_record.specs.Held.{lineAt, linesOf, Held, Grown}
 use Rattle.keep_record.proofs.Rows.{lines-length, lines-at, lines-take}
 use Rattle.keep_record.proofs.Adding.{adds-prefix, adds-longer, adds-append}
 use Rattle.worklist.specs.Drain.{factAt, joined, forwardsTo, joinsAll}
@@ -140,34 +141,36 @@ unfolding ahead
 ahead-some k at z = rw (ne-eqb at 0 z, ahead)
 
 -- where the walk stands: the next forward is on line `at` - 1, none is left for 0
-pub record Walking (g : Graph) (row₀ : List ℕ) (count k m : ℕ) (marks row : List ℕ) (c at : ℕ) : Type 0 where
-  pub held : Held g marks row c
+pub record Walking (g : Graph) (base : ℕ) (row₀ : List ℕ) (count k m : ℕ) (marks row : List ℕ) (c at : ℕ) : Type 0 where
+  pub held : Held g base marks row c
   pub more : count ≤ c
   pub same : linesOf k row ≡ linesOf k row₀
-  pub left : adds g (linesOf c row) (fromLine g m k at (linesOf k row₀)) ≡ adds g (linesOf count row₀) (joinsAll g m k 0 (linesOf k row₀))
+  pub left : adds g base (linesOf c row) (fromLine g m k at (linesOf k row₀)) ≡ adds g base (linesOf count row₀) (joinsAll g m k base (drop base (linesOf k row₀)))
   pub inside : at ≢ 0 → at - 1 < k
+  pub own : at ≢ 0 → base < at
   pub forward : at ≢ 0 → forwardsTo g m (getD (linesOf k row₀) (at - 1) noLine) ≡ true
 
-module _ (g : Graph) (links row₀ : List ℕ) (count k m : ℕ) (t : Linked g links (linesOf k row₀)) (small : m < g .header .modules) (b : k < count) where
+module _ (g : Graph) (base : ℕ) (links row₀ : List ℕ) (count k m : ℕ) (t : Linked g base links (linesOf k row₀)) (small : m < g .header .modules) (b : k < count) where
   size : length (linesOf k row₀) ≡ k
   size = lines-length k row₀
 
-  pub walk-start : (marks : List ℕ) (at : ℕ) → Held g marks row₀ count → at ≡ getD links (g .header .modules + m) 0 → Walking g row₀ count k m marks row₀ count at
+  pub walk-start : (marks : List ℕ) (at : ℕ) → Held g base marks row₀ count → at ≡ getD links (g .header .modules + m) 0 → Walking g base row₀ count k m marks row₀ count at
   walk-start marks at h e =
-      let q : at ≡ firstForward g m 0 (linesOf k row₀) = e ∙ t .firsts m small in
+      let q : at ≡ firstForward g m base (drop base (linesOf k row₀)) = e ∙ t .firsts m small in
       record {
         held = h;
         more = omega arith;
         same = refl;
-        left = ap (adds g (linesOf count row₀)) (from-first g m k (linesOf k row₀) 0 at q);
-        inside = λ z. omega (arith, size, first-inside g m k (linesOf k row₀) 0 at q z);
-        forward = first-forward g m k (linesOf k row₀) 0 at q;
+        left = ap (adds g base (linesOf count row₀)) (from-first g m k (linesOf k row₀) base at q);
+        inside = λ z. omega (arith, size, first-inside g m k (linesOf k row₀) base at q z);
+        own = first-behind g m k (linesOf k row₀) base at q;
+        forward = first-forward g m k (linesOf k row₀) base at q;
       }
 
-  module _ (marks row : List ℕ) (c at : ℕ) (w : Walking g row₀ count k m marks row c at) where
-    pub walk-done : at ≡ 0 → Grown g (adds g (linesOf count row₀) (joinsAll g m k 0 (linesOf k row₀))) marks row (Lines c)
+  module _ (marks row : List ℕ) (c at : ℕ) (w : Walking g base row₀ count k m marks row c at) where
+    pub walk-done : at ≡ 0 → Grown g base (adds g base (linesOf count row₀) (joinsAll g m k base (drop base (linesOf k row₀)))) marks row (Lines c)
     unfolding adds
-    walk-done z = grown-as g _ marks row c (ap (adds g (linesOf c row)) (sym (from-none g m k (linesOf k row₀) at z)) ∙ w .left) (w .held)
+    walk-done z = grown-as g base _ marks row c (ap (adds g base (linesOf c row)) (sym (from-none g m k (linesOf k row₀) at z)) ∙ w .left) (w .held)
 
     -- the forward on line `at` - 1
     module _ (z : at ≢ 0) where
@@ -194,7 +197,8 @@ module _ (g : Graph) (links row₀ : List ℕ) (count k m : ℕ) (t : Linked g l
         behind =
             let y : at - 1 + 1 ≡ at = omega (arith, z) in
             let i : at - 1 < length (linesOf k row₀) = omega (arith, size, w .inside z) in
-            ap (λ x. getD links (3 * g .header .modules + x) 0) symbol-is ∙ t .nexts (at - 1) (its-forward .0) i (its-forward .1)
+            let o : base ≤ at - 1 = omega (arith, w .own z) in
+            ap (λ x. getD links (3 * g .header .modules + x) 0) symbol-is ∙ t .nexts (at - 1) (its-forward .0) o i (its-forward .1)
             ∙ ap (λ j. firstForward g (owner (symbolOf g (its-forward .0 .0))) j (drop j (linesOf k row₀))) y ∙ ap (λ x. firstForward g x at (drop at (linesOf k row₀))) (its-forward .2)
 
         joins-on : fromLine g m k at (linesOf k row₀) ≡ joined g s (k + 1) at ++ joinsAll g m k at (drop at (linesOf k row₀))
@@ -203,32 +207,33 @@ module _ (g : Graph) (links row₀ : List ℕ) (count k m : ℕ) (t : Linked g l
             let e : firstPart (getD (linesOf k row₀) (at - 1) noLine .fact) ≡ s = ap firstPart (its-forward .1) ∙ sym symbol-is in
             from-step g m k (linesOf k row₀) at z i (w .forward z) ∙ ap (λ x. joined g x (k + 1) at ++ joinsAll g m k at (drop at (linesOf k row₀))) e
 
-        whole : adds g (adds g (linesOf c row) (joined g s (k + 1) at)) (joinsAll g m k at (drop at (linesOf k row₀))) ≡ adds g (linesOf count row₀) (joinsAll g m k 0 (linesOf k row₀))
-        whole = sym (adds-append g (linesOf c row) (joined g s (k + 1) at) (joinsAll g m k at (drop at (linesOf k row₀)))) ∙ ap (adds g (linesOf c row)) (sym joins-on) ∙ w .left
+        whole : adds g base (adds g base (linesOf c row) (joined g s (k + 1) at)) (joinsAll g m k at (drop at (linesOf k row₀))) ≡ adds g base (linesOf count row₀) (joinsAll g m k base (drop base (linesOf k row₀)))
+        whole = sym (adds-append g base (linesOf c row) (joined g s (k + 1) at) (joinsAll g m k at (drop at (linesOf k row₀)))) ∙ ap (adds g base (linesOf c row)) (sym joins-on) ∙ w .left
 
-        pub walk-full : (marks′ row′ : List ℕ) → Grown g (adds g (linesOf c row) (joined g s (k + 1) at)) marks′ row′ Full → Grown g (adds g (linesOf count row₀) (joinsAll g m k 0 (linesOf k row₀))) marks′ row′ Full
+        pub walk-full : (marks′ row′ : List ℕ) → Grown g base (adds g base (linesOf c row) (joined g s (k + 1) at)) marks′ row′ Full → Grown g base (adds g base (linesOf count row₀) (joinsAll g m k base (drop base (linesOf k row₀)))) marks′ row′ Full
         walk-full marks′ row′ v =
-            full-more g _ _ marks′ row′ (omega (arith, ap length whole, adds-longer g (adds g (linesOf c row) (joined g s (k + 1) at)) (joinsAll g m k at (drop at (linesOf k row₀))))) v
+            full-more g base _ _ marks′ row′ (omega (arith, ap length whole, adds-longer g base (adds g base (linesOf c row) (joined g s (k + 1) at)) (joinsAll g m k at (drop at (linesOf k row₀))))) v
 
-        pub walk-step : (marks′ row′ : List ℕ) (d at′ : ℕ) → Grown g (adds g (linesOf c row) (joined g s (k + 1) at)) marks′ row′ (Lines d) → at′ ≡ getD links (3 * g .header .modules + s) 0
-            → Walking g row₀ count k m marks′ row′ d at′
+        pub walk-step : (marks′ row′ : List ℕ) (d at′ : ℕ) → Grown g base (adds g base (linesOf c row) (joined g s (k + 1) at)) marks′ row′ (Lines d) → at′ ≡ getD links (3 * g .header .modules + s) 0
+            → Walking g base row₀ count k m marks′ row′ d at′
         walk-step marks′ row′ d at′ v e =
             let h = v .held d refl in
             let q : at′ ≡ firstForward g m at (drop at (linesOf k row₀)) = e ∙ behind in
             let n = w .more in
-            let longer : c ≤ d = omega (arith, lines-length d row′, lines-length c row, ap length (h .0), adds-longer g (linesOf c row) (joined g s (k + 1) at)) in
+            let longer : c ≤ d = omega (arith, lines-length d row′, lines-length c row, ap length (h .0), adds-longer g base (linesOf c row) (joined g s (k + 1) at)) in
             record {
               held = h .1;
               more = omega (arith, n, longer);
               same = kept longer (h .0) ∙ w .same;
-              left = ap (λ x. adds g x (fromLine g m k at′ (linesOf k row₀))) (h .0) ∙ ap (adds g (adds g (linesOf c row) (joined g s (k + 1) at))) (from-first g m k (linesOf k row₀) at at′ q) ∙ whole;
+              left = ap (λ x. adds g base x (fromLine g m k at′ (linesOf k row₀))) (h .0) ∙ ap (adds g base (adds g base (linesOf c row) (joined g s (k + 1) at))) (from-first g m k (linesOf k row₀) at at′ q) ∙ whole;
               inside = λ y. omega (arith, size, first-inside g m k (linesOf k row₀) at at′ q y);
+              own = λ y. omega (arith, w .own z, first-behind g m k (linesOf k row₀) at at′ q y);
               forward = first-forward g m k (linesOf k row₀) at at′ q;
             }
           where
-            kept : c ≤ d → linesOf d row′ ≡ adds g (linesOf c row) (joined g s (k + 1) at) → linesOf k row′ ≡ linesOf k row
+            kept : c ≤ d → linesOf d row′ ≡ adds g base (linesOf c row) (joined g s (k + 1) at) → linesOf k row′ ≡ linesOf k row
             kept l a =
-                let p = adds-prefix g (linesOf c row) (joined g s (k + 1) at) in
+                let p = adds-prefix g base (linesOf c row) (joined g s (k + 1) at) in
                 let n = w .more in
                 let y : k ≤ length (linesOf c row) = omega (arith, lines-length c row, n, b) in
                 sym (lines-take d row′ k (omega (arith, l, n, b))) ∙ ap (take k) (a ∙ p .1) ∙ take-append-le k (linesOf c row) (p .0) y ∙ lines-take c row k (omega (arith, n, b))
@@ -247,9 +252,10 @@ module _ (g : Graph) (links row₀ : List ℕ) (count k m : ℕ) (t : Linked g l
             go (no y) = let o = walk-on at′ e y in omega (arith, ahead-some k at′ y, ahead-some k at z, o .0, o .1)
 
 -- by the lines of the record
-pub walk-table : (g : Graph) (links row : List ℕ) (count k : ℕ) → k < count → Linked g links (take k (linesOf count row)) → Linked g links (linesOf k row)
-walk-table g links row count k b t = subst (λ x. Linked g links x) (lines-take count row k (omega (arith, b))) t
+pub walk-table : (g : Graph) (base : ℕ) (links row : List ℕ) (count k : ℕ) → k < count → Linked g base links (take k (linesOf count row)) → Linked g base links (linesOf k row)
+walk-table g base links row count k b t = subst (λ x. Linked g base links x) (lines-take count row k (omega (arith, b))) t
 
-pub walk-whole : (g : Graph) (row : List ℕ) (count k m : ℕ) → k < count → (marks′ row′ : List ℕ) (r : Added) → Grown g (adds g (linesOf count row) (joinsAll g m k 0 (linesOf k row))) marks′ row′ r
-    → Grown g (adds g (linesOf count row) (joinsAll g m k 0 (take k (linesOf count row)))) marks′ row′ r
-walk-whole g row count k m b marks′ row′ r v = subst (λ x. Grown g (adds g (linesOf count row) (joinsAll g m k 0 x)) marks′ row′ r) (sym (lines-take count row k (omega (arith, b)))) v
+pub walk-whole : (g : Graph) (base : ℕ) (row : List ℕ) (count k m : ℕ) → k < count → (marks′ row′ : List ℕ) (r : Added) → Grown g base (adds g base (linesOf count row) (joinsAll g m k base (drop base (linesOf k row)))) marks′ row′ r
+    → Grown g base (adds g base (linesOf count row) (joinsAll g m k base (drop base (take k (linesOf count row))))) marks′ row′ r
+walk-whole g base row count k m b marks′ row′ r v =
+    subst (λ x. Grown g base (adds g base (linesOf count row) (joinsAll g m k base (drop base x))) marks′ row′ r) (sym (lines-take count row k (omega (arith, b)))) v

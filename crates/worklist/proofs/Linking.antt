@@ -1,27 +1,26 @@
 -- The table of links, and what one more line does to it.
-use Prim.Native.Nat.{ℕ, zero, suc, _+_, _*_, _-_, _<_, _≤_}
+use Prim.Native.Nat.{ℕ, zero, suc, _+_, _-_, _<_, _≤_}
 use mathlib.Core.Path.{_≡_, refl, ap, _∙_, sym}
 use mathlib.Core.Logic.{_≢_}
 use mathlib.Core.Bool.{Bool, true, false, true≢false}
 use mathlib.Core.List.{List, [], _∷_, _++_}
-use native.Mathlib.Decide.{ℕ-discrete, decLt}
-use native.Mathlib.Numerals.{add-one}
+use native.Mathlib.Decide.{ℕ-discrete}
 use native.Mathlib.Omega.{arith}
-use borrow.Author.Tests.{eq-eqb, ne-eqb, eqb-true, eqb-false}
+use borrow.Author.Tests.{eqb-true}
 use lib.Dec.{eqb}
-use lib.Seq.{getD-set-same, getD-set-other, getD-at, drop-append-le}
-use lib.ListN.{length, getD, set, take, drop, length-set, length-append, drop-of-length-le, List·getD-append}
+use lib.Seq.{getD-drop, drop-drop}
+use lib.ListN.{length, getD, drop, length-drop}
 use Rattle.graph.specs.Check.{Graph}
 use Rattle.graph_access.specs.Names.{owner}
-use Rattle.facts.specs.declared.ModuleIdx.{ModuleIdx}
-use Rattle.facts.specs.declared.SymbolIdx.{SymbolIdx}
+use Rattle.index.specs.declared.ModuleIdx.{ModuleIdx}
+use Rattle.index.specs.declared.SymbolIdx.{SymbolIdx}
 use Rattle.facts.specs.declared.Fact.{Fact}
-use Rattle.facts.specs.declared.Fact.the-variants.{Module, Statement, Use, Checked, Forward, Bailout}
-use Rattle.facts.specs.Facts.{kindOf, firstPart, moduleFact}
-use Rattle.facts.specs.Words.{symbolOf}
+use Rattle.facts.specs.declared.Fact.the-variants.{Module, Statement, Use, CheckedUse, Forward, Bailout}
+use Rattle.facts.specs.Facts.{kindOf, moduleFact}
+use Rattle.graph_access.specs.Words.{symbolOf}
 use Rattle.keep_record.specs.declared.Line.{Line}
-use Rattle.worklist.specs.Drain.{line, factAt, forwardsTo, isModule, moduleLine}
-use Rattle.worklist.specs.Links.{firstForward, lastForward, Linked}
+use Rattle.worklist.specs.Drain.{line, forwardsTo, isModule, moduleLine}
+use Rattle.worklist.specs.Links.{firstForward, lastForward}
 
 abbrev pub noLine : Line
 noLine = line (moduleFact 0) 0 0 0
@@ -40,7 +39,7 @@ module _ (g : Graph) (m : ℕ) (l : Line) where
       go (Module a) e = rw e
       go (Statement a b) e = rw e
       go (Use a b) e = rw e
-      go (Checked a b) e = rw e
+      go (CheckedUse a b) e = rw e
       go (Forward s) e = absurd (n (ap kindOf e))
       go (Bailout a) e = rw e
 
@@ -55,7 +54,7 @@ module _ (g : Graph) (m : ℕ) (l : Line) where
       go (Module a) e = let k = ap kindOf e in no (λ q. omega (arith, k, q))
       go (Statement a b) e = let k = ap kindOf e in no (λ q. omega (arith, k, q))
       go (Use a b) e = let k = ap kindOf e in no (λ q. omega (arith, k, q))
-      go (Checked a b) e = let k = ap kindOf e in no (λ q. omega (arith, k, q))
+      go (CheckedUse a b) e = let k = ap kindOf e in no (λ q. omega (arith, k, q))
       go (Forward s) e = (s, e, eqb-true _ _ (sym (forward-is s e) ∙ t))
       go (Bailout a) e = let k = ap kindOf e in no (λ q. omega (arith, k, q))
 
@@ -71,7 +70,7 @@ module _ (g : Graph) (m : ℕ) (l : Line) where
       go (Module a) e = absurd (n (ap kindOf e))
       go (Statement a b) e = rw e
       go (Use a b) e = rw e
-      go (Checked a b) e = rw e
+      go (CheckedUse a b) e = rw e
       go (Forward s) e = rw e
       go (Bailout a) e = rw e
 
@@ -85,7 +84,7 @@ module _ (g : Graph) (m : ℕ) (l : Line) where
       go (Module a) e = (a, e, eqb-true _ _ (sym (module-is a e) ∙ t))
       go (Statement a b) e = let k = ap kindOf e in no (λ q. omega (arith, k, q))
       go (Use a b) e = let k = ap kindOf e in no (λ q. omega (arith, k, q))
-      go (Checked a b) e = let k = ap kindOf e in no (λ q. omega (arith, k, q))
+      go (CheckedUse a b) e = let k = ap kindOf e in no (λ q. omega (arith, k, q))
       go (Forward a) e = let k = ap kindOf e in no (λ q. omega (arith, k, q))
       go (Bailout a) e = let k = ap kindOf e in no (λ q. omega (arith, k, q))
 
@@ -186,7 +185,7 @@ module _ (g : Graph) (m : ℕ) where
       go false q r = last-there none i x xs q ∙ r (sym (first-there i x xs q) ∙ n)
 
   -- a forward is one that the first is not behind
-  pub first-some : (i k : ℕ) (ls : List Line) → k < length ls → forwardsTo g m (getD ls k noLine) ≡ true → firstForward g m i ls ≢ 0
+  first-some : (i k : ℕ) (ls : List Line) → k < length ls → forwardsTo g m (getD ls k noLine) ≡ true → firstForward g m i ls ≢ 0
   first-some i k [] h t z = absurd (omega (arith, h))
   first-some i zero (x ∷ xs) h t z = omega (arith, z, first-here i x xs t)
   first-some i (suc k) (x ∷ xs) h t z = go (forwardsTo g m x) refl (λ r. first-some (i + 1) k xs (omega (arith, h)) t r)
@@ -196,7 +195,7 @@ module _ (g : Graph) (m : ℕ) where
       go false q r = r (sym (first-there i x xs q) ∙ z)
 
 -- the last forward: number k, and none behind it
-pub record Last (g : Graph) (m none i : ℕ) (ls : List Line) : Type 0 where
+record Last (g : Graph) (m none i : ℕ) (ls : List Line) : Type 0 where
   pub number : ℕ
   pub inside : number < length ls
   pub is : lastForward g m none i ls ≡ i + number + 1
@@ -215,7 +214,7 @@ module _ (g : Graph) (m : ℕ) where
         ends = let y : suc (r .number) + 1 ≡ suc (r .number + 1) = omega arith in rw y (ap (λ j. firstForward g m j (drop (r .number + 1) xs)) (sym z) ∙ r .ends);
       }
 
-  pub last-of : (none i : ℕ) (ls : List Line) → firstForward g m i ls ≢ 0 → Last g m none i ls
+  last-of : (none i : ℕ) (ls : List Line) → firstForward g m i ls ≢ 0 → Last g m none i ls
   last-of none i [] n = absurd (n (no-first g m i))
   last-of none i (x ∷ xs) n = go (forwardsTo g m x) refl (ℕ-discrete (firstForward g m (i + 1) xs) 0) (λ a r. last-of a (i + 1) xs r)
     where
@@ -234,7 +233,7 @@ module _ (g : Graph) (m : ℕ) where
       go false q (no e) r = further none i x xs none (last-there g m none i x xs q) (r none e)
 
   -- a forward with none behind it is the last
-  pub last-is : (none i k : ℕ) (ls : List Line) → k < length ls → forwardsTo g m (getD ls k noLine) ≡ true → firstForward g m (i + k + 1) (drop (k + 1) ls) ≡ 0 → lastForward g m none i ls ≡ i + k + 1
+  last-is : (none i k : ℕ) (ls : List Line) → k < length ls → forwardsTo g m (getD ls k noLine) ≡ true → firstForward g m (i + k + 1) (drop (k + 1) ls) ≡ 0 → lastForward g m none i ls ≡ i + k + 1
   unfolding lastForward
   last-is none i k [] h t e = absurd (omega (arith, h))
   last-is none i zero (x ∷ xs) h t e =
@@ -246,3 +245,46 @@ module _ (g : Graph) (m : ℕ) where
       let y : suc k + 1 ≡ suc (k + 1) = omega arith in
       let r : firstForward g m (i + 1 + k + 1) (drop (k + 1) xs) ≡ 0 = rw (z, y) at e in
       last-is _ (i + 1) k xs (omega (arith, h)) t r ∙ sym z
+
+-- the same by the numbers of all lines, of which those from `base` on count
+pub record OwnLast (g : Graph) (m base : ℕ) (lines : List Line) : Type 0 where
+  pub number : ℕ
+  pub behind : base ≤ number
+  pub inside : number < length lines
+  pub is : lastForward g m 0 base (drop base lines) ≡ number + 1
+  pub forward : forwardsTo g m (getD lines number noLine) ≡ true
+  pub ends : firstForward g m (number + 1) (drop (number + 1) lines) ≡ 0
+
+module _ (g : Graph) (m base : ℕ) (lines : List Line) where
+  pub own-last : firstForward g m base (drop base lines) ≢ 0 → OwnLast g m base lines
+  own-last n =
+      let x = last-of g m 0 base (drop base lines) n in
+      let z : base + (x .number + 1) ≡ base + x .number + 1 = omega arith in
+      record {
+        number = base + x .number;
+        behind = omega arith;
+        inside = omega (arith, x .inside, length-drop base lines);
+        is = x .is;
+        forward = ap (forwardsTo g m) (sym (getD-drop base lines (x .number) noLine)) ∙ x .forward;
+        ends = ap (firstForward g m (base + x .number + 1)) (sym (drop-drop (x .number + 1) base lines ∙ ap (λ j. drop j lines) z)) ∙ x .ends;
+      }
+
+  module _ (k : ℕ) (b : base ≤ k) (h : k < length lines) (t : forwardsTo g m (getD lines k noLine) ≡ true) where
+    place : base + (k - base) ≡ k
+    place = omega (arith, b)
+
+    inside : k - base < length (drop base lines)
+    inside = omega (arith, b, h, length-drop base lines)
+
+    forward : forwardsTo g m (getD (drop base lines) (k - base) noLine) ≡ true
+    forward = ap (forwardsTo g m) (getD-drop base lines (k - base) noLine) ∙ ap (λ j. forwardsTo g m (getD lines j noLine)) place ∙ t
+
+    pub own-some : firstForward g m base (drop base lines) ≢ 0
+    own-some = first-some g m base (k - base) (drop base lines) inside forward
+
+    pub own-last-is : firstForward g m (k + 1) (drop (k + 1) lines) ≡ 0 → lastForward g m 0 base (drop base lines) ≡ k + 1
+    own-last-is e =
+        let z : base + (k - base + 1) ≡ k + 1 = omega (arith, b) in
+        let y : base + (k - base) + 1 ≡ k + 1 = omega (arith, b) in
+        let x : drop (k - base + 1) (drop base lines) ≡ drop (k + 1) lines = drop-drop (k - base + 1) base lines ∙ ap (λ j. drop j lines) z in
+        last-is g m 0 base (k - base) (drop base lines) inside forward (ap (λ j. firstForward g m j (drop (k - base + 1) (drop base lines))) y ∙ ap (firstForward g m (k + 1)) x ∙ e) ∙ y

@@ -1,24 +1,24 @@
 -- The drain: lines handled in order, each one's consequences added behind the last (document 01, "Our drain handles a start's lines in
 -- order before the next start").
-use Prim.Native.Nat.{ℕ, zero, suc, _+_, _*_, _/_}
+use Prim.Native.Nat.{ℕ, zero, suc, _+_}
 use mathlib.Core.Path.{_≡_}
 use mathlib.Core.Bool.{Bool, true, false}
 use mathlib.Core.List.{List, [], _∷_, _++_, map}
-use lib.Dec.{eqb, ltb}
-use lib.ListN.{length, getD, take}
+use lib.Dec.{eqb, ltb, leb}
+use lib.ListN.{length, getD, take, drop}
 use Rattle.graph.specs.Check.{Graph}
 use Rattle.graph_access.specs.Names.{owner, declaringStatements, only}
 use Rattle.facts.specs.declared.Fact.{Fact}
-use Rattle.facts.specs.declared.Fact.the-variants.{Module, Statement, Use, Checked, Forward, Bailout}
-use Rattle.facts.specs.Facts.{factOf, firstPart, moduleFact, statementFact, markCount}
-use Rattle.facts.specs.Words.{tabulate, symbolOf}
+use Rattle.facts.specs.declared.Fact.the-variants.{Module, Statement, Use, CheckedUse, Forward, Bailout}
+use Rattle.facts.specs.Facts.{firstPart, moduleFact, statementFact, markCount}
+use Rattle.graph_access.specs.Words.{tabulate, symbolOf}
 use Rattle.keep_record.specs.declared.Line.{Line}
 use Rattle.keep_record.specs.Lines.{added, adds}
 use Rattle.keep_rules.specs.Rules.{Given, gives}
 
 -- a line by its parts, and the fact of line k
 abbrev pub line : Fact → ℕ → ℕ → ℕ → Line
-line f rule first second = record { fact = f; rule = rule; first = first; second = second }
+line f rule a b = record { fact = f; rule = rule; because = a; and = b }
 
 unfoldable pub factAt : List Line → ℕ → Fact
 factAt lines k = getD lines k (line (moduleFact 0) 0 0 0) .fact
@@ -38,7 +38,7 @@ abbrev pub isForwardOf : Graph → ℕ → Fact → Bool
 isForwardOf g m (Module n) = false
 isForwardOf g m (Statement n i) = false
 isForwardOf g m (Use s x) = false
-isForwardOf g m (Checked s x) = false
+isForwardOf g m (CheckedUse s x) = false
 isForwardOf g m (Forward s) = eqb (owner (symbolOf g (s .0))) m
 isForwardOf g m (Bailout n) = false
 
@@ -46,7 +46,7 @@ abbrev pub isTheModule : ℕ → Fact → Bool
 isTheModule m (Module n) = eqb (n .0) m
 isTheModule m (Statement n i) = false
 isTheModule m (Use s x) = false
-isTheModule m (Checked s x) = false
+isTheModule m (CheckedUse s x) = false
 isTheModule m (Forward s) = false
 isTheModule m (Bailout n) = false
 
@@ -67,38 +67,43 @@ unfoldable pub moduleLine : ℕ → ℕ → List Line → ℕ
 moduleLine m i [] = 0
 moduleLine m i (l ∷ ls) = elim (isModule m l) [ true ↦ i + 1 | false ↦ moduleLine m (i + 1) ls ]
 
--- K1 at line k, which has fact f: with its partners on earlier lines; its own line is named first
-unfoldable pub joinedTo : Graph → ℕ → ℕ → ℕ → List Line
-joinedTo g s k n = elim (eqb n 0) [ true ↦ [] | false ↦ joined g s (k + 1) n ]
+-- the name of a line by 1 more than its number: 0 for one of an earlier stage ("K1 with a module kept before is named 0", step 6)
+unfoldable pub nameOf : ℕ → ℕ → ℕ
+nameOf base n = elim (leb n base) [ true ↦ 0 | false ↦ n ]
 
-unfoldable pub joins : Graph → List Line → ℕ → Fact → List Line
-joins g lines k (Module m) = joinsAll g (m .0) k 0 (take k lines)
-joins g lines k (Statement m i) = []
-joins g lines k (Use s x) = []
-joins g lines k (Checked s x) = []
-joins g lines k (Forward s) = joinedTo g (s .0) k (moduleLine (owner (symbolOf g (s .0))) 0 (take k lines))
-joins g lines k (Bailout m) = []
+-- K1 at line k, which has fact f: with its partners on earlier lines; its own line is named first. Forwards of an earlier stage do not
+-- count, modules of it do.
+unfoldable pub joinedTo : Graph → ℕ → ℕ → ℕ → ℕ → List Line
+joinedTo g base s k n = elim (eqb n 0) [ true ↦ [] | false ↦ joined g s (k + 1) (nameOf base n) ]
+
+unfoldable pub joins : Graph → ℕ → List Line → ℕ → Fact → List Line
+joins g base lines k (Module m) = joinsAll g (m .0) k base (drop base (take k lines))
+joins g base lines k (Statement m i) = []
+joins g base lines k (Use s x) = []
+joins g base lines k (CheckedUse s x) = []
+joins g base lines k (Forward s) = joinedTo g base (s .0) k (moduleLine (owner (symbolOf g (s .0))) 0 (take k lines))
+joins g base lines k (Bailout m) = []
 
 -- all that follows from line k and the lines before it, in the record's order
-unfoldable pub news : Graph → List ℕ → List Line → ℕ → List Line
-news g v lines k = joins g lines k (factAt lines k) ++ followed g v k (factAt lines k)
+unfoldable pub news : Graph → List ℕ → ℕ → List Line → ℕ → List Line
+news g v base lines k = joins g base lines k (factAt lines k) ++ followed g v k (factAt lines k)
 
--- The lines from number k on handled in turn, at most `fuel` of them; as many as there are marks always suffice (`drained-whole` in
--- Ends.antt).
-unfoldable pub drained : Graph → List ℕ → ℕ → ℕ → List Line → List Line
-drained g v zero k lines = lines
-drained g v (suc fuel) k lines =
-    elim (ltb k (length lines)) [ true ↦ drained g v fuel (k + 1) (adds g lines (news g v lines k)) | false ↦ lines ]
+-- The lines from number k on handled in turn, at most `fuel` of them; as many as there are marks always suffice (`drained-handled` in
+-- closed_choices).
+unfoldable pub drained : Graph → List ℕ → ℕ → ℕ → ℕ → List Line → List Line
+drained g v base zero k lines = lines
+drained g v base (suc fuel) k lines =
+    elim (ltb k (length lines)) [ true ↦ drained g v base fuel (k + 1) (adds g base lines (news g v base lines k)) | false ↦ lines ]
+
+-- one start, and all that follows from it
+unfoldable pub started : Graph → List ℕ → ℕ → List Line → Fact → List Line
+started g v base lines f = drained g v base (markCount g) (length lines) (added g base lines (line f 0 0 0))
 
 -- each start in turn, with all that follows from it before the next
-unfoldable pub drainedAll : Graph → List ℕ → List Fact → List Line → List Line
-drainedAll g v [] lines = lines
-drainedAll g v (f ∷ fs) lines = drainedAll g v fs (drained g v (markCount g) (length lines) (added g lines (line f 0 0 0)))
+unfoldable pub drainedAll : Graph → List ℕ → ℕ → List Fact → List Line → List Line
+drainedAll g v base [] lines = lines
+drainedAll g v base (f ∷ fs) lines = drainedAll g v base fs (started g v base lines f)
 
--- the drain of a list of starts: "a drain's own starts are those it is given"
+-- the drain of a list of starts, over no base: "a drain's own starts are those it is given"
 unfoldable pub drainOf : Graph → List ℕ → List Fact → List Line
-drainOf g v starts = drainedAll g v starts []
-
--- the facts of starts, triples of a kind and two parts
-unfoldable pub startsOf : List ℕ → List Fact
-startsOf starts = tabulate (λ i. factOf (getD starts (3 * i) 0) (getD starts (3 * i + 1) 0) (getD starts (3 * i + 2) 0)) 0 (length starts / 3)
+drainOf g v starts = drainedAll g v 0 starts []

@@ -6,15 +6,16 @@ use mathlib.Core.List.{List, [], _∷_, _++_}
 use lib.ListN.{length, getD, take, drop}
 use Rattle.graph.specs.Check.{Graph}
 use Rattle.graph_access.specs.Names.{owner}
-use Rattle.facts.specs.declared.SymbolIdx.{SymbolIdx}
+use Rattle.index.specs.declared.SymbolIdx.{SymbolIdx}
 use Rattle.facts.specs.declared.Fact.{Fact}
 use Rattle.facts.specs.declared.Fact.the-variants.{Forward}
-use Rattle.facts.specs.Words.{symbolOf}
+use Rattle.graph_access.specs.Words.{symbolOf}
 use Rattle.keep_record.specs.declared.Line.{Line}
 use Rattle.keep_record.specs.declared.Added.{Added}
 use Rattle.keep_record.specs.declared.Added.the-variants.{Lines, Full}
 use Rattle.facts.specs.Facts.{Good, moduleFact}
-use Rattle.keep_record.specs.Lines.{lineAt, linesOf, marksOf, Distinct}
+use Rattle.keep_record.specs.Lines.{marksFrom}
+use Rattle.keep_record.specs.Held.{lineAt, linesOf, Distinct}
 use Rattle.worklist.specs.Drain.{factAt, forwardsTo, moduleLine}
 
 -- 1 more than the number of the first forward of module m among lines that begin with number i; of the last one, or `none`
@@ -27,31 +28,28 @@ lastForward g m none i [] = none
 lastForward g m none i (l ∷ ls) = lastForward g m (elim (forwardsTo g m l) [ true ↦ i + 1 | false ↦ none ]) (i + 1) ls
 
 -- For M modules and the lines that have been handled: number m is the line of module m, M + m its first forward, 2 M + m its last, each
--- plus 1 or 0; 3 M + s is the forward of the same module behind that of symbol s.
-pub record Linked (g : Graph) (links : List ℕ) (lines : List Line) : Type 0 where
+-- plus 1 or 0; 3 M + s is the forward of the same module behind that of symbol s. Forwards of an earlier stage are not in it.
+pub record Linked (g : Graph) (base : ℕ) (links : List ℕ) (lines : List Line) : Type 0 where
   pub long : 3 * g .header .modules + g .header .symbols ≤ length links
   pub module-lines : (m : ℕ) → m < g .header .modules → getD links m 0 ≡ moduleLine m 0 lines
-  pub firsts : (m : ℕ) → m < g .header .modules → getD links (g .header .modules + m) 0 ≡ firstForward g m 0 lines
-  pub lasts : (m : ℕ) → m < g .header .modules → getD links (2 * g .header .modules + m) 0 ≡ lastForward g m 0 0 lines
-  pub nexts : (k : ℕ) (s : SymbolIdx) → k < length lines → factAt lines k ≡ Forward s
+  pub firsts : (m : ℕ) → m < g .header .modules → getD links (g .header .modules + m) 0 ≡ firstForward g m base (drop base lines)
+  pub lasts : (m : ℕ) → m < g .header .modules → getD links (2 * g .header .modules + m) 0 ≡ lastForward g m 0 base (drop base lines)
+  pub nexts : (k : ℕ) (s : SymbolIdx) → base ≤ k → k < length lines → factAt lines k ≡ Forward s
       → getD links (3 * g .header .modules + s .0) 0 ≡ firstForward g (owner (symbolOf g (s .0))) (k + 1) (drop (k + 1) lines)
 
 -- after an addition, the table is that of the first k lines
-pub record StillLinked (g : Graph) (links row : List ℕ) (k : ℕ) (r : Added) : Type 0 where
-  pub known : (c : ℕ) → r ≡ Lines c → Linked g links (take k (linesOf c row))
+pub record StillLinked (g : Graph) (base : ℕ) (links row : List ℕ) (k : ℕ) (r : Added) : Type 0 where
+  pub known : (c : ℕ) → r ≡ Lines c → Linked g base links (take k (linesOf c row))
 
 -- of all lines
-pub record AllLinked (g : Graph) (links row : List ℕ) (r : Added) : Type 0 where
-  pub known : (c : ℕ) → r ≡ Lines c → Linked g links (linesOf c row)
+pub record AllLinked (g : Graph) (base : ℕ) (links row : List ℕ) (r : Added) : Type 0 where
+  pub known : (c : ℕ) → r ≡ Lines c → Linked g base links (linesOf c row)
 
--- line k has this fact, which is good, and the facts of the lines differ
-pub record LinkReady (g : Graph) (row : List ℕ) (count k : ℕ) (f : Fact) : Type 0 where
+-- line k has this fact, which is good, and the facts that are there differ
+pub record LinkReady (g : Graph) (base : ℕ) (row : List ℕ) (count k : ℕ) (f : Fact) : Type 0 where
+  pub behind-base : base ≤ k
   pub inside : k < count
   pub room : 6 * count ≤ length row
   pub is : lineAt row k .fact ≡ f
   pub good : (i : ℕ) → i < count → Good g (lineAt row i .fact)
-  pub apart : Distinct (marksOf g (linesOf count row))
-
--- every start is a good fact
-abbrev pub StartsGood : Graph → List Fact → Type 0
-StartsGood g starts = (i : ℕ) → i < length starts → Good g (getD starts i (moduleFact 0))
+  pub apart : Distinct (marksFrom g base (linesOf count row))

@@ -2,78 +2,70 @@
 ghost use mathlib.Core.Path.{_≡_};
 ghost use Prim.Native.Nat.{ℕ, _+_, _*_, _-_, _/_, _<_, _≤_};
 ghost use mathlib.Core.List.{List, [], _∷_};
-ghost use lib.ListN.{length, getD, take};
+ghost use lib.ListN.{length, getD, take, drop};
 ghost use Rattle.graph_tables.specs.Tables.{headerIn};
 ghost use Rattle.graph.specs.Check.{graphIn};
 ghost use Rattle.graph_access.specs.Names.{owner as ownerIn};
 ghost use Rattle.determine_side_effects.specs.Effects.{lastVerdicts};
 ghost use Rattle.facts.specs.Facts.{Good, markCount};
-ghost use Rattle.facts.specs.Words.{symbolOf};
+ghost use Rattle.graph_access.specs.Words.{symbolOf};
 ghost use Rattle.keep_rules.specs.Prepared.{Prepared};
-ghost use Rattle.keep_record.specs.Lines.{lineAt, linesOf, adds, Held, Grown};
-ghost use Rattle.worklist.specs.Drain.{joined, joinsAll, joins, followed, news, drained, drainOf, startsOf};
-ghost use Rattle.worklist.specs.Links.{Linked, LinkReady, StillLinked, AllLinked, StartsGood};
+ghost use Rattle.keep_record.specs.Lines.{adds};
+ghost use Rattle.keep_record.specs.Held.{lineAt, linesOf, Held, Grown};
+ghost use Rattle.worklist.specs.Drain.{joined, joinsAll, joins, followed, news, drained, started, drainOf};
+ghost use Rattle.starts.specs.Starts.{startsOf};
+ghost use Rattle.worklist.specs.Links.{Linked, LinkReady, StillLinked, AllLinked};
+ghost use Rattle.starts.specs.Starts.{StartsGood};
 ghost use Rattle.facts.specs.declared.Fact.the-variants.{Forward};
+use consequences::Consequence;
+use consequences::Cursor;
 use facts::Fact;
-use facts::ModuleIdx;
-use facts::StmtIdx;
-use facts::SymbolIdx;
-use include_statements::Consequence;
-use include_statements::Cursor;
+use graph_access::symbols;
+use index::ModuleIdx;
+use index::SymbolIdx;
 use keep_record::Added;
 use keep_record::Line;
-
-// A symbol's list of declaring statements.
-const DECLARING: usize = 1;
+use keep_record::Stage;
 
 // K1: adds the statements that declare forward s, naming lines a and b.
 fn declare(
     numbers: &[u32],
-    modules: &[usize],
-    symbols: &[usize],
-    firsts: &[usize],
-    statements: &[usize],
-    verdicts: &[u32],
-    demand: &[usize],
-    keys: &[usize],
-    namespaces: &[usize],
+    tables: &[usize],
     marks: &mut [u8],
-    row: &mut [u32],
-    count: usize,
+    lines: &mut [u32],
+    stage: Stage,
     s: SymbolIdx,
     a: usize,
     b: usize,
 ) -> Added
-    requires { ⌜ Prepared (now numbers) (now modules) (now symbols) (now firsts) (now statements) (now verdicts) (now demand) (now keys) (now namespaces) ⌝ }
-    requires { ⌜ Held (graphIn (now numbers)) (now marks) (now row) count ⌝ }
-    requires { ⌜ (s .0 < headerIn (now numbers) .symbols) × (a ≤ count) × (b ≤ count) ⌝ }
-    ensures { λ r. ⌜ Grown (graphIn (now (numbers .entry))) (adds (graphIn (now (numbers .entry))) (linesOf count (now (row .entry))) (joined (graphIn (now (numbers .entry))) (s .0) a b)) (now (marks .exit)) (now (row .exit)) r ⌝ }
+    requires { ⌜ Prepared (now numbers) (now tables) ⌝ }
+    requires { ⌜ Held (graphIn (now numbers)) (stage .base) (now marks) (now lines) (stage .count) ⌝ }
+    requires { ⌜ (s .0 < headerIn (now numbers) .symbols) × (a ≤ stage .count) × (b ≤ stage .count) ⌝ }
+    ensures { λ r. ⌜ Grown (graphIn (now (numbers .entry))) (stage .base) (adds (graphIn (now (numbers .entry))) (stage .base) (linesOf (stage .count) (now (lines .entry))) (joined (graphIn (now (numbers .entry))) (s .0) a b)) (now (marks .exit)) (now (lines .exit)) r ⌝ }
 {
-    let owner = linking_metadata::owner(numbers, modules, symbols, firsts, statements, s);
-    let declaring = graph_access::symbol_list_length(numbers, symbols, s.0, DECLARING);
-    let mut lines = count;
+    let owner = symbols::owner(numbers, tables, s);
+    let declaring = symbols::declaring_count(numbers, tables, s);
+    let base = stage.base;
+    let mut total = stage.count;
     let mut i: usize = 0;
     while i < declaring {
-        let statement = graph_access::symbol_list_number(numbers, symbols, s.0, DECLARING, i);
+        let statement = symbols::declaring(numbers, tables, s, i);
         let line = Line {
-            fact: Fact::Statement(owner, StmtIdx(statement)),
+            fact: Fact::Statement(owner, statement),
             rule: 1,
-            first: a,
-            second: b,
+            because: a,
+            and: b,
         };
         match keep_record::add(
             numbers,
-            modules,
-            symbols,
-            firsts,
-            statements,
+            tables,
             marks,
-            row,
             lines,
+            Stage { base, count: total },
             line,
         ) {
             Added::Lines(n) => {
-                lines = n;
+                total = n;
             }
             Added::Full => {
                 return Added::Full;
@@ -81,204 +73,132 @@ fn declare(
         }
         i += 1;
     }
-    Added::Lines(lines)
+    Added::Lines(total)
 }
 
 // K1 at the line k of module m: its forwards on earlier lines, in their order.
 fn join_forwards(
     numbers: &[u32],
-    modules: &[usize],
-    symbols: &[usize],
-    firsts: &[usize],
-    statements: &[usize],
-    verdicts: &[u32],
-    demand: &[usize],
-    keys: &[usize],
-    namespaces: &[usize],
-    links: &[usize],
+    tables: &[usize],
+    partners: &[usize],
     marks: &mut [u8],
-    row: &mut [u32],
-    count: usize,
+    lines: &mut [u32],
+    stage: Stage,
     m: ModuleIdx,
     k: usize,
 ) -> Added
-    requires { ⌜ Prepared (now numbers) (now modules) (now symbols) (now firsts) (now statements) (now verdicts) (now demand) (now keys) (now namespaces) ⌝ }
-    requires { ⌜ Held (graphIn (now numbers)) (now marks) (now row) count ⌝ }
-    requires { ⌜ Linked (graphIn (now numbers)) (now links) (take k (linesOf count (now row))) ⌝ }
-    requires { ⌜ (m .0 < headerIn (now numbers) .modules) × (k < count) ⌝ }
-    ensures { λ r. ⌜ Grown (graphIn (now (numbers .entry))) (adds (graphIn (now (numbers .entry))) (linesOf count (now (row .entry))) (joinsAll (graphIn (now (numbers .entry))) (m .0) k 0 (take k (linesOf count (now (row .entry)))))) (now (marks .exit)) (now (row .exit)) r ⌝ }
+    requires { ⌜ Prepared (now numbers) (now tables) ⌝ }
+    requires { ⌜ Held (graphIn (now numbers)) (stage .base) (now marks) (now lines) (stage .count) ⌝ }
+    requires { ⌜ Linked (graphIn (now numbers)) (stage .base) (now partners) (take k (linesOf (stage .count) (now lines))) ⌝ }
+    requires { ⌜ (m .0 < headerIn (now numbers) .modules) × (stage .base ≤ k) × (k < stage .count) ⌝ }
+    ensures { λ r. ⌜ Grown (graphIn (now (numbers .entry))) (stage .base) (adds (graphIn (now (numbers .entry))) (stage .base) (linesOf (stage .count) (now (lines .entry))) (joinsAll (graphIn (now (numbers .entry))) (m .0) k (stage .base) (drop (stage .base) (take k (linesOf (stage .count) (now (lines .entry))))))) (now (marks .exit)) (now (lines .exit)) r ⌝ }
 {
     let h = graph::header_of(numbers);
     let owner = m.0;
-    let mut lines = count;
-    let mut at = links[h.modules + owner];
+    let base = stage.base;
+    let mut total = stage.count;
+    let mut at = partners[h.modules + owner];
     while at > 0 {
-        let s = SymbolIdx(facts::first_part(keep_record::fact_at(row, at - 1)));
+        let s = SymbolIdx(facts::first_part(keep_record::fact_at(lines, at - 1)));
         match declare(
             numbers,
-            modules,
-            symbols,
-            firsts,
-            statements,
-            verdicts,
-            demand,
-            keys,
-            namespaces,
+            tables,
             marks,
-            row,
             lines,
+            Stage { base, count: total },
             s,
             k + 1,
             at,
         ) {
             Added::Lines(n) => {
-                lines = n;
+                total = n;
             }
             Added::Full => {
                 return Added::Full;
             }
         }
-        at = links[3 * h.modules + s.0];
+        at = partners[3 * h.modules + s.0];
     }
-    Added::Lines(lines)
+    Added::Lines(total)
 }
 
 // K1 at line k, which has this fact.
 fn join(
     numbers: &[u32],
-    modules: &[usize],
-    symbols: &[usize],
-    firsts: &[usize],
-    statements: &[usize],
-    verdicts: &[u32],
-    demand: &[usize],
-    keys: &[usize],
-    namespaces: &[usize],
-    links: &[usize],
+    tables: &[usize],
+    partners: &[usize],
     marks: &mut [u8],
-    row: &mut [u32],
-    count: usize,
+    lines: &mut [u32],
+    stage: Stage,
     fact: Fact,
     k: usize,
 ) -> Added
-    requires { ⌜ Prepared (now numbers) (now modules) (now symbols) (now firsts) (now statements) (now verdicts) (now demand) (now keys) (now namespaces) ⌝ }
-    requires { ⌜ Held (graphIn (now numbers)) (now marks) (now row) count ⌝ }
-    requires { ⌜ Linked (graphIn (now numbers)) (now links) (take k (linesOf count (now row))) ⌝ }
-    requires { ⌜ Good (graphIn (now numbers)) fact × (k < count) ⌝ }
-    ensures { λ r. ⌜ Grown (graphIn (now (numbers .entry))) (adds (graphIn (now (numbers .entry))) (linesOf count (now (row .entry))) (joins (graphIn (now (numbers .entry))) (linesOf count (now (row .entry))) k fact)) (now (marks .exit)) (now (row .exit)) r ⌝ }
+    requires { ⌜ Prepared (now numbers) (now tables) ⌝ }
+    requires { ⌜ Held (graphIn (now numbers)) (stage .base) (now marks) (now lines) (stage .count) ⌝ }
+    requires { ⌜ Linked (graphIn (now numbers)) (stage .base) (now partners) (take k (linesOf (stage .count) (now lines))) ⌝ }
+    requires { ⌜ Good (graphIn (now numbers)) fact × (stage .base ≤ k) × (k < stage .count) ⌝ }
+    ensures { λ r. ⌜ Grown (graphIn (now (numbers .entry))) (stage .base) (adds (graphIn (now (numbers .entry))) (stage .base) (linesOf (stage .count) (now (lines .entry))) (joins (graphIn (now (numbers .entry))) (stage .base) (linesOf (stage .count) (now (lines .entry))) k fact)) (now (marks .exit)) (now (lines .exit)) r ⌝ }
 {
     match fact {
-        Fact::Module(m) => join_forwards(
-            numbers,
-            modules,
-            symbols,
-            firsts,
-            statements,
-            verdicts,
-            demand,
-            keys,
-            namespaces,
-            links,
-            marks,
-            row,
-            count,
-            m,
-            k,
-        ),
+        Fact::Module(m) => join_forwards(numbers, tables, partners, marks, lines, stage, m, k),
         Fact::Forward(s) => {
-            let owner = linking_metadata::owner(numbers, modules, symbols, firsts, statements, s);
+            let owner = symbols::owner(numbers, tables, s);
             let o = owner.0;
-            let line = links[o];
+            let line = partners[o];
             if line == 0 {
-                return Added::Lines(count);
+                return Added::Lines(stage.count);
             }
-            declare(
-                numbers,
-                modules,
-                symbols,
-                firsts,
-                statements,
-                verdicts,
-                demand,
-                keys,
-                namespaces,
-                marks,
-                row,
-                count,
-                s,
-                k + 1,
-                line,
-            )
+            let name = if line <= stage.base { 0 } else { line };
+            declare(numbers, tables, marks, lines, stage, s, k + 1, name)
         }
-        Fact::Statement(_, _) => Added::Lines(count),
-        Fact::Use(_, _) => Added::Lines(count),
-        Fact::Checked(_, _) => Added::Lines(count),
-        Fact::Bailout(_) => Added::Lines(count),
+        Fact::Statement(_, _) => Added::Lines(stage.count),
+        Fact::Use(_, _) => Added::Lines(stage.count),
+        Fact::CheckedUse(_, _) => Added::Lines(stage.count),
+        Fact::Bailout(_) => Added::Lines(stage.count),
     }
 }
 
 // K2 to K14 at line k, which has this fact.
 fn follow(
     numbers: &[u32],
-    modules: &[usize],
-    symbols: &[usize],
-    firsts: &[usize],
-    statements: &[usize],
-    verdicts: &[u32],
-    demand: &[usize],
-    keys: &[usize],
-    namespaces: &[usize],
+    tables: &[usize],
     marks: &mut [u8],
-    row: &mut [u32],
-    count: usize,
+    lines: &mut [u32],
+    stage: Stage,
     fact: Fact,
     k: usize,
 ) -> Added
-    requires { ⌜ Prepared (now numbers) (now modules) (now symbols) (now firsts) (now statements) (now verdicts) (now demand) (now keys) (now namespaces) ⌝ }
-    requires { ⌜ Held (graphIn (now numbers)) (now marks) (now row) count ⌝ }
-    requires { ⌜ Good (graphIn (now numbers)) fact × (k < count) ⌝ }
-    ensures { λ r. ⌜ Grown (graphIn (now (numbers .entry))) (adds (graphIn (now (numbers .entry))) (linesOf count (now (row .entry))) (followed (graphIn (now (numbers .entry))) (lastVerdicts (graphIn (now (numbers .entry)))) k fact)) (now (marks .exit)) (now (row .exit)) r ⌝ }
+    requires { ⌜ Prepared (now numbers) (now tables) ⌝ }
+    requires { ⌜ Held (graphIn (now numbers)) (stage .base) (now marks) (now lines) (stage .count) ⌝ }
+    requires { ⌜ Good (graphIn (now numbers)) fact × (stage .base ≤ k) × (k < stage .count) ⌝ }
+    ensures { λ r. ⌜ Grown (graphIn (now (numbers .entry))) (stage .base) (adds (graphIn (now (numbers .entry))) (stage .base) (linesOf (stage .count) (now (lines .entry))) (followed (graphIn (now (numbers .entry))) (lastVerdicts (graphIn (now (numbers .entry)))) k fact)) (now (marks .exit)) (now (lines .exit)) r ⌝ }
 {
-    let mut lines = count;
+    let base = stage.base;
+    let mut total = stage.count;
     let mut cursor = Cursor {
         segment: 0,
         index: 0,
         place: 0,
     };
     loop {
-        match include_statements::next(
-            numbers,
-            modules,
-            symbols,
-            firsts,
-            statements,
-            verdicts,
-            demand,
-            keys,
-            namespaces,
-            fact,
-            cursor,
-        ) {
+        match consequences::next(numbers, tables, fact, cursor) {
             Consequence::Yields(rule, f, c) => {
                 let line = Line {
                     fact: f,
                     rule,
-                    first: k + 1,
-                    second: 0,
+                    because: k + 1,
+                    and: 0,
                 };
                 match keep_record::add(
                     numbers,
-                    modules,
-                    symbols,
-                    firsts,
-                    statements,
+                    tables,
                     marks,
-                    row,
                     lines,
+                    Stage { base, count: total },
                     line,
                 ) {
                     Added::Lines(n) => {
-                        lines = n;
+                        total = n;
                     }
                     Added::Full => {
                         return Added::Full;
@@ -287,7 +207,7 @@ fn follow(
                 cursor = c;
             }
             Consequence::Done => {
-                return Added::Lines(lines);
+                return Added::Lines(total);
             }
         }
     }
@@ -296,84 +216,55 @@ fn follow(
 // Enters line k, a forward of symbol s, into the table.
 fn link_forward(
     numbers: &[u32],
-    modules: &[usize],
-    symbols: &[usize],
-    firsts: &[usize],
-    statements: &[usize],
-    verdicts: &[u32],
-    demand: &[usize],
-    keys: &[usize],
-    namespaces: &[usize],
-    links: &mut [usize],
-    row: &[u32],
-    count: usize,
+    tables: &[usize],
+    partners: &mut [usize],
+    lines: &[u32],
+    stage: Stage,
     s: SymbolIdx,
     k: usize,
 )
-    requires { ⌜ Prepared (now numbers) (now modules) (now symbols) (now firsts) (now statements) (now verdicts) (now demand) (now keys) (now namespaces) ⌝ }
-    requires { ⌜ LinkReady (graphIn (now numbers)) (now row) count k (Forward s) ⌝ }
-    requires { ⌜ Linked (graphIn (now numbers)) (now links) (take k (linesOf count (now row))) ⌝ }
-    ensures { λ _. ⌜ Linked (graphIn (now (numbers .entry))) (now (links .exit)) (take (k + 1) (linesOf count (now (row .entry)))) ⌝ }
+    requires { ⌜ Prepared (now numbers) (now tables) ⌝ }
+    requires { ⌜ LinkReady (graphIn (now numbers)) (stage .base) (now lines) (stage .count) k (Forward s) ⌝ }
+    requires { ⌜ Linked (graphIn (now numbers)) (stage .base) (now partners) (take k (linesOf (stage .count) (now lines))) ⌝ }
+    ensures { λ _. ⌜ Linked (graphIn (now (numbers .entry))) (stage .base) (now (partners .exit)) (take (k + 1) (linesOf (stage .count) (now (lines .entry)))) ⌝ }
 {
     let h = graph::header_of(numbers);
-    let owner = linking_metadata::owner(numbers, modules, symbols, firsts, statements, s);
-    let last = links[2 * h.modules + owner.0];
+    let owner = symbols::owner(numbers, tables, s);
+    let last = partners[2 * h.modules + owner.0];
     if last == 0 {
-        links[h.modules + owner.0] = k + 1;
+        partners[h.modules + owner.0] = k + 1;
     } else {
-        let before = facts::first_part(keep_record::fact_at(row, last - 1));
-        links[3 * h.modules + before] = k + 1;
+        let before = facts::first_part(keep_record::fact_at(lines, last - 1));
+        partners[3 * h.modules + before] = k + 1;
     }
-    links[2 * h.modules + owner.0] = k + 1;
-    links[3 * h.modules + s.0] = 0;
+    partners[2 * h.modules + owner.0] = k + 1;
+    partners[3 * h.modules + s.0] = 0;
 }
 
 // Enters line k, which has this fact, into the table.
 fn link(
     numbers: &[u32],
-    modules: &[usize],
-    symbols: &[usize],
-    firsts: &[usize],
-    statements: &[usize],
-    verdicts: &[u32],
-    demand: &[usize],
-    keys: &[usize],
-    namespaces: &[usize],
-    links: &mut [usize],
-    row: &[u32],
-    count: usize,
+    tables: &[usize],
+    partners: &mut [usize],
+    lines: &[u32],
+    stage: Stage,
     fact: Fact,
     k: usize,
 )
-    requires { ⌜ Prepared (now numbers) (now modules) (now symbols) (now firsts) (now statements) (now verdicts) (now demand) (now keys) (now namespaces) ⌝ }
-    requires { ⌜ LinkReady (graphIn (now numbers)) (now row) count k fact ⌝ }
-    requires { ⌜ Linked (graphIn (now numbers)) (now links) (take k (linesOf count (now row))) ⌝ }
-    ensures { λ _. ⌜ Linked (graphIn (now (numbers .entry))) (now (links .exit)) (take (k + 1) (linesOf count (now (row .entry)))) ⌝ }
+    requires { ⌜ Prepared (now numbers) (now tables) ⌝ }
+    requires { ⌜ LinkReady (graphIn (now numbers)) (stage .base) (now lines) (stage .count) k fact ⌝ }
+    requires { ⌜ Linked (graphIn (now numbers)) (stage .base) (now partners) (take k (linesOf (stage .count) (now lines))) ⌝ }
+    ensures { λ _. ⌜ Linked (graphIn (now (numbers .entry))) (stage .base) (now (partners .exit)) (take (k + 1) (linesOf (stage .count) (now (lines .entry)))) ⌝ }
 {
     match fact {
         Fact::Module(m) => {
             let i = m.0;
-            links[i] = k + 1;
+            partners[i] = k + 1;
         }
-        Fact::Forward(s) => link_forward(
-            numbers,
-            modules,
-            symbols,
-            firsts,
-            statements,
-            verdicts,
-            demand,
-            keys,
-            namespaces,
-            links,
-            row,
-            count,
-            s,
-            k,
-        ),
+        Fact::Forward(s) => link_forward(numbers, tables, partners, lines, stage, s, k),
         Fact::Statement(_, _) => {}
         Fact::Use(_, _) => {}
-        Fact::Checked(_, _) => {}
+        Fact::CheckedUse(_, _) => {}
         Fact::Bailout(_) => {}
     }
 }
@@ -381,75 +272,45 @@ fn link(
 // Handles line k: all that follows from it and the lines before it.
 fn handle(
     numbers: &[u32],
-    modules: &[usize],
-    symbols: &[usize],
-    firsts: &[usize],
-    statements: &[usize],
-    verdicts: &[u32],
-    demand: &[usize],
-    keys: &[usize],
-    namespaces: &[usize],
-    links: &mut [usize],
+    tables: &[usize],
+    partners: &mut [usize],
     marks: &mut [u8],
-    row: &mut [u32],
-    count: usize,
+    lines: &mut [u32],
+    stage: Stage,
     k: usize,
 ) -> Added
-    requires { ⌜ Prepared (now numbers) (now modules) (now symbols) (now firsts) (now statements) (now verdicts) (now demand) (now keys) (now namespaces) ⌝ }
-    requires { ⌜ Held (graphIn (now numbers)) (now marks) (now row) count ⌝ }
-    requires { ⌜ Linked (graphIn (now numbers)) (now links) (take k (linesOf count (now row))) ⌝ }
-    requires { ⌜ k < count ⌝ }
-    ensures { λ r. ⌜ Grown (graphIn (now (numbers .entry))) (adds (graphIn (now (numbers .entry))) (linesOf count (now (row .entry))) (news (graphIn (now (numbers .entry))) (lastVerdicts (graphIn (now (numbers .entry)))) (linesOf count (now (row .entry))) k)) (now (marks .exit)) (now (row .exit)) r × StillLinked (graphIn (now (numbers .entry))) (now (links .exit)) (now (row .exit)) (k + 1) r ⌝ }
+    requires { ⌜ Prepared (now numbers) (now tables) ⌝ }
+    requires { ⌜ Held (graphIn (now numbers)) (stage .base) (now marks) (now lines) (stage .count) ⌝ }
+    requires { ⌜ Linked (graphIn (now numbers)) (stage .base) (now partners) (take k (linesOf (stage .count) (now lines))) ⌝ }
+    requires { ⌜ (stage .base ≤ k) × (k < stage .count) ⌝ }
+    ensures { λ r. ⌜ Grown (graphIn (now (numbers .entry))) (stage .base) (adds (graphIn (now (numbers .entry))) (stage .base) (linesOf (stage .count) (now (lines .entry))) (news (graphIn (now (numbers .entry))) (lastVerdicts (graphIn (now (numbers .entry)))) (stage .base) (linesOf (stage .count) (now (lines .entry))) k)) (now (marks .exit)) (now (lines .exit)) r × StillLinked (graphIn (now (numbers .entry))) (stage .base) (now (partners .exit)) (now (lines .exit)) (k + 1) r ⌝ }
 {
-    let fact = keep_record::fact_at(row, k);
-    match join(
-        numbers,
-        modules,
-        symbols,
-        firsts,
-        statements,
-        verdicts,
-        demand,
-        keys,
-        namespaces,
-        links,
-        marks,
-        row,
-        count,
-        fact,
-        k,
-    ) {
+    let base = stage.base;
+    let fact = keep_record::fact_at(lines, k);
+    match join(numbers, tables, partners, marks, lines, stage, fact, k) {
         Added::Full => Added::Full,
         Added::Lines(joined) => {
             link(
                 numbers,
-                modules,
-                symbols,
-                firsts,
-                statements,
-                verdicts,
-                demand,
-                keys,
-                namespaces,
-                links,
-                row,
-                joined,
+                tables,
+                partners,
+                lines,
+                Stage {
+                    base,
+                    count: joined,
+                },
                 fact,
                 k,
             );
             follow(
                 numbers,
-                modules,
-                symbols,
-                firsts,
-                statements,
-                verdicts,
-                demand,
-                keys,
-                namespaces,
+                tables,
                 marks,
-                row,
-                joined,
+                lines,
+                Stage {
+                    base,
+                    count: joined,
+                },
                 fact,
                 k,
             )
@@ -460,47 +321,34 @@ fn handle(
 // Handles the lines from number k on, those that come to it too.
 fn drain_work_items(
     numbers: &[u32],
-    modules: &[usize],
-    symbols: &[usize],
-    firsts: &[usize],
-    statements: &[usize],
-    verdicts: &[u32],
-    demand: &[usize],
-    keys: &[usize],
-    namespaces: &[usize],
-    links: &mut [usize],
+    tables: &[usize],
+    partners: &mut [usize],
     marks: &mut [u8],
-    row: &mut [u32],
-    count: usize,
+    lines: &mut [u32],
+    stage: Stage,
     k: usize,
 ) -> Added
-    requires { ⌜ Prepared (now numbers) (now modules) (now symbols) (now firsts) (now statements) (now verdicts) (now demand) (now keys) (now namespaces) ⌝ }
-    requires { ⌜ Held (graphIn (now numbers)) (now marks) (now row) count ⌝ }
-    requires { ⌜ Linked (graphIn (now numbers)) (now links) (take k (linesOf count (now row))) ⌝ }
-    requires { ⌜ k ≤ count ⌝ }
-    ensures { λ r. ⌜ Grown (graphIn (now (numbers .entry))) (drained (graphIn (now (numbers .entry))) (lastVerdicts (graphIn (now (numbers .entry)))) (markCount (graphIn (now (numbers .entry)))) k (linesOf count (now (row .entry)))) (now (marks .exit)) (now (row .exit)) r × AllLinked (graphIn (now (numbers .entry))) (now (links .exit)) (now (row .exit)) r ⌝ }
+    requires { ⌜ Prepared (now numbers) (now tables) ⌝ }
+    requires { ⌜ Held (graphIn (now numbers)) (stage .base) (now marks) (now lines) (stage .count) ⌝ }
+    requires { ⌜ Linked (graphIn (now numbers)) (stage .base) (now partners) (take k (linesOf (stage .count) (now lines))) ⌝ }
+    requires { ⌜ (stage .base ≤ k) × (k ≤ stage .count) ⌝ }
+    ensures { λ r. ⌜ Grown (graphIn (now (numbers .entry))) (stage .base) (drained (graphIn (now (numbers .entry))) (lastVerdicts (graphIn (now (numbers .entry)))) (stage .base) (markCount (graphIn (now (numbers .entry)))) k (linesOf (stage .count) (now (lines .entry)))) (now (marks .exit)) (now (lines .exit)) r × AllLinked (graphIn (now (numbers .entry))) (stage .base) (now (partners .exit)) (now (lines .exit)) r ⌝ }
 {
-    let mut lines = count;
+    let base = stage.base;
+    let mut total = stage.count;
     let mut at = k;
-    while at < lines {
+    while at < total {
         match handle(
             numbers,
-            modules,
-            symbols,
-            firsts,
-            statements,
-            verdicts,
-            demand,
-            keys,
-            namespaces,
-            links,
+            tables,
+            partners,
             marks,
-            row,
             lines,
+            Stage { base, count: total },
             at,
         ) {
             Added::Lines(n) => {
-                lines = n;
+                total = n;
             }
             Added::Full => {
                 return Added::Full;
@@ -508,85 +356,92 @@ fn drain_work_items(
         }
         at += 1;
     }
-    Added::Lines(lines)
+    Added::Lines(total)
+}
+
+// One start: adds its fact, and handles all that follows from it.
+pub fn start(
+    numbers: &[u32],
+    tables: &[usize],
+    partners: &mut [usize],
+    marks: &mut [u8],
+    lines: &mut [u32],
+    stage: Stage,
+    fact: Fact,
+) -> Added
+    requires { ⌜ Prepared (now numbers) (now tables) ⌝ }
+    requires { ⌜ Held (graphIn (now numbers)) (stage .base) (now marks) (now lines) (stage .count) ⌝ }
+    requires { ⌜ Linked (graphIn (now numbers)) (stage .base) (now partners) (linesOf (stage .count) (now lines)) ⌝ }
+    requires { ⌜ Good (graphIn (now numbers)) fact ⌝ }
+    ensures { λ r. ⌜ Grown (graphIn (now (numbers .entry))) (stage .base) (started (graphIn (now (numbers .entry))) (lastVerdicts (graphIn (now (numbers .entry)))) (stage .base) (linesOf (stage .count) (now (lines .entry))) fact) (now (marks .exit)) (now (lines .exit)) r × AllLinked (graphIn (now (numbers .entry))) (stage .base) (now (partners .exit)) (now (lines .exit)) r ⌝ }
+{
+    let base = stage.base;
+    let before = stage.count;
+    let line = Line {
+        fact,
+        rule: 0,
+        because: 0,
+        and: 0,
+    };
+    match keep_record::add(numbers, tables, marks, lines, stage, line) {
+        Added::Full => Added::Full,
+        Added::Lines(n) => drain_work_items(
+            numbers,
+            tables,
+            partners,
+            marks,
+            lines,
+            Stage { base, count: n },
+            before,
+        ),
+    }
 }
 
 // Each start in turn, with all that follows from it before the next. The rows are cleared.
 pub fn drain_starts(
     numbers: &[u32],
-    modules: &[usize],
-    symbols: &[usize],
-    firsts: &[usize],
-    statements: &[usize],
-    verdicts: &[u32],
-    demand: &[usize],
-    keys: &[usize],
-    namespaces: &[usize],
+    tables: &[usize],
     starts: &[u32],
-    links: &mut [usize],
+    partners: &mut [usize],
     marks: &mut [u8],
-    row: &mut [u32],
+    lines: &mut [u32],
 ) -> Added
-    requires { ⌜ Prepared (now numbers) (now modules) (now symbols) (now firsts) (now statements) (now verdicts) (now demand) (now keys) (now namespaces) ⌝ }
-    requires { ⌜ Held (graphIn (now numbers)) (now marks) (now row) 0 ⌝ }
-    requires { ⌜ Linked (graphIn (now numbers)) (now links) [] ⌝ }
+    requires { ⌜ Prepared (now numbers) (now tables) ⌝ }
+    requires { ⌜ Held (graphIn (now numbers)) 0 (now marks) (now lines) 0 ⌝ }
+    requires { ⌜ Linked (graphIn (now numbers)) 0 (now partners) [] ⌝ }
     requires { ⌜ StartsGood (graphIn (now numbers)) (startsOf (now starts)) ⌝ }
-    ensures { λ r. ⌜ Grown (graphIn (now (numbers .entry))) (drainOf (graphIn (now (numbers .entry))) (lastVerdicts (graphIn (now (numbers .entry)))) (startsOf (now (starts .entry)))) (now (marks .exit)) (now (row .exit)) r ⌝ }
+    ensures { λ r. ⌜ Grown (graphIn (now (numbers .entry))) 0 (drainOf (graphIn (now (numbers .entry))) (lastVerdicts (graphIn (now (numbers .entry)))) (startsOf (now (starts .entry)))) (now (marks .exit)) (now (lines .exit)) r ⌝ }
 {
-    let total = starts.len() / 3;
-    let mut lines: usize = 0;
+    let triples = starts.len() / 3;
+    let mut total: usize = 0;
     let mut i: usize = 0;
-    while i < total {
+    while i < triples {
         let p = 3 * i;
-        let line = Line {
-            fact: facts::fact_of(
-                rows::wide(starts[p]),
-                rows::wide(starts[p + 1]),
-                rows::wide(starts[p + 2]),
-            ),
-            rule: 0,
-            first: 0,
-            second: 0,
-        };
-        match keep_record::add(
+        let fact = facts::fact_of(
+            rows::wide(starts[p]),
+            rows::wide(starts[p + 1]),
+            rows::wide(starts[p + 2]),
+        );
+        match start(
             numbers,
-            modules,
-            symbols,
-            firsts,
-            statements,
+            tables,
+            partners,
             marks,
-            row,
             lines,
-            line,
+            Stage {
+                base: 0,
+                count: total,
+            },
+            fact,
         ) {
             Added::Full => {
                 return Added::Full;
             }
-            Added::Lines(n) => match drain_work_items(
-                numbers,
-                modules,
-                symbols,
-                firsts,
-                statements,
-                verdicts,
-                demand,
-                keys,
-                namespaces,
-                links,
-                marks,
-                row,
-                n,
-                lines,
-            ) {
-                Added::Full => {
-                    return Added::Full;
-                }
-                Added::Lines(d) => {
-                    lines = d;
-                }
-            },
+            Added::Lines(n) => {
+                total = n;
+            }
         }
         i += 1;
     }
-    Added::Lines(lines)
+    Added::Lines(total)
 }

@@ -1,72 +1,87 @@
-use Rattle.determine_side_effects.proofs.Reading.{fill-start, fill-step}
-use Rattle.determine_side_effects.specs.Effects.{firstVerdict, firstVerdicts}
-use Rattle.graph.specs.Check.{graphIn}
-use Rattle.graph_tables.specs.Tables.{headerIn}
-use Rattle.facts.specs.Words.{tabulate}
-use lib.ListN.{length, drop, length-set}
+use Prim.Native.Nat.{_-_, _<_, _≤_}
+use mathlib.Core.Path.{_≡_, ap, _∙_}
 use mathlib.Core.List.{_++_}
-use Prim.Native.Nat.{_+_, _-_, _<_, _≤_}
-use mathlib.Core.Path.{_≡_, refl, sym, ap, _∙_}
-use borrow.Author.Needs.{needs}
 use native.Mathlib.Omega.{arith}
+use lib.ListN.{drop}
+use Rattle.tables.specs.Layout.{sizes, startOf, Kept, verdictsIn}
+use Rattle.tables.proofs.Sections.{word-inside, kept-none}
+use Rattle.graph_tables.specs.Tables.{headerIn}
+use Rattle.graph.specs.Check.{graphIn}
+use Rattle.graph_access.specs.Words.{tabulate}
+use Rattle.determine_side_effects.specs.Effects.{firstVerdict, firstVerdicts}
+use Rattle.determine_side_effects.proofs.InSection.{word-fits, kept-written, section-written, verdicts-long, verdicts-kept}
+use Rattle.determine_side_effects.proofs.Reading.{fill-start, fill-step, fill-done}
 use Rattle.determine_side_effects.proofs.first_verdicts.Statement.{statement}
 use Rattle.determine_side_effects.proofs.first_verdicts.Tie as tie
-use Rattle.determine_side_effects.proofs.first_verdicts.Reads as reads
-use Rattle.determine_side_effects.proofs.first_verdicts.Lts as lts
-use Rattle.determine_side_effects.proofs.first_verdict.Reads as first-verdict-reads
-use Rattle.determine_side_effects.proofs.relaxed.Reads as relaxed-reads
-use Rattle.graph.proofs.header_of.Reads as header-of-reads
 
 abbrev Inv-loop : tie.InvT-loop
-Inv-loop numbers modules symbols firsts statements verdicts₀ h again m₀ verdicts m = (m ≤ h .modules) × (length verdicts ≡ length verdicts₀) × (verdicts ≡ tabulate (firstVerdict (graphIn numbers)) 0 m ++ drop m verdicts₀)
+Inv-loop numbers tables₀ h again base m₀ tables m = Kept (startOf (headerIn numbers) 5) tables₀ tables × (m ≤ h .modules) × (verdictsIn tables ≡ tabulate (firstVerdict (graphIn numbers)) 0 m ++ drop m (verdictsIn tables₀))
 
 abbrev μ-loop : tie.MeasureT-loop
-μ-loop numbers modules symbols firsts statements verdicts₀ h again m₀ verdicts m = h .modules - m
+μ-loop numbers tables₀ h again base m₀ tables m = h .modules - m
 
--- src/lib.rt:322:9
+-- module m is one
+small : (c : tie.Then1 Inv-loop μ-loop) → c .before .before .loop .m < headerIn (c .before .before .before .before .before .before .before .before .before .args .numbers .now) .modules
+small c = omega (arith, c .if1 .taken, ap (λ q. q .modules) (c .before .before .before .before .before .before .header-of .ensures))
+
 header-of-requires : tie.Need-header-of-requires Inv-loop μ-loop
-header-of-requires c κs = c .before .before .before .before .before .before .pre .0 .long
+header-of-requires c κs = c .before .before .pre .loaded .long
 
--- src/lib.rt:323:9
 relaxed-requires : tie.Need-relaxed-requires Inv-loop μ-loop
-relaxed-requires c κs = c .before .before .before .before .before .before .before .pre .0
+relaxed-requires c κs = c .before .before .before .before .pre .loaded
 
--- src/lib.rt:325:5
+slice-read-base : tie.Need-slice-read-base Inv-loop μ-loop
+slice-read-base c = word-inside (c .before .before .before .before .before .before .pre .laid) 5 (omega arith)
+
 loop-holds : tie.Need-loop-holds Inv-loop μ-loop
-loop-holds c = (omega arith, refl, fill-start _ _)
+loop-holds c = (kept-none, omega arith, fill-start _ _)
 
--- src/lib.rt:326:23
 first-verdict-requires : tie.Need-first-verdict-requires Inv-loop μ-loop
-first-verdict-requires c κs = let s = c .before .before .before .before .before .before .before .before .before .before .before in let i = c .before .before .loop .inv in let n : c .before .before .loop .m < headerIn (s .args .numbers .now) .modules = omega (arith, c .if1 .taken, ap (λ q. q .modules) (c .before .before .before .before .header-of .ensures)) in (s .pre .0, (c .before .before .before .relaxed .ensures, n))
+first-verdict-requires c κs = (verdicts-kept (c .before .before .before .before .before .before .before .before .before .before .pre) (c .before .before .before .loop .inv .0) .loaded, (c .before .before .before .before .before .relaxed .ensures, small (c .before)))
 
--- src/lib.rt:326:9
-mul-verdicts : tie.Need-mul-verdicts Inv-loop μ-loop
-mul-verdicts c = let s = c .before .before .before .before .before .before .before .before .before .before .before .before in let i = c .before .before .before .loop .inv in let n : c .before .before .before .loop .m < headerIn (s .args .numbers .now) .modules = omega (arith, c .before .if1 .taken, ap (λ q. q .modules) (c .before .before .before .before .before .header-of .ensures)) in omega (arith, n, s .pre .0 .few-modules)
+add-tables : tie.Need-add-tables Inv-loop μ-loop
+unfolding sizes
+add-tables c =
+    let i = word-fits (c .before .before .before .before .before .before .before .before .before .before .before .pre .laid) 5 (omega arith) (c .before .before .before .before .loop .inv .0) (c .before .before .before .before .loop .m) (small (c .before .before)) in
+    record { fits = omega (arith, i, verdicts-kept (c .before .before .before .before .before .before .before .before .before .before .before .pre) (c .before .before .before .before .loop .inv .0) .laid .few) }
 
--- src/lib.rt:326:9
-slice-write-verdicts : tie.Need-slice-write-verdicts Inv-loop μ-loop
-slice-write-verdicts c = let s = c .before .before .before .before .before .before .before .before .before .before .before .before in let i = c .before .before .before .loop .inv in let n : c .before .before .before .loop .m < headerIn (s .args .numbers .now) .modules = omega (arith, c .before .if1 .taken, ap (λ q. q .modules) (c .before .before .before .before .before .header-of .ensures)) in omega (arith, n, i .1, s .pre .1)
+mul-tables : tie.Need-mul-tables Inv-loop μ-loop
+unfolding sizes
+mul-tables c =
+    let i = word-fits (c .before .before .before .before .before .before .before .before .before .before .before .pre .laid) 5 (omega arith) (c .before .before .before .before .loop .inv .0) (c .before .before .before .before .loop .m) (small (c .before .before)) in
+    record { fits = omega (arith, i, verdicts-kept (c .before .before .before .before .before .before .before .before .before .before .before .pre) (c .before .before .before .before .loop .inv .0) .laid .few) }
 
--- src/lib.rt:335:9
+slice-write-tables : tie.Need-slice-write-tables Inv-loop μ-loop
+unfolding sizes
+slice-write-tables c = word-fits (c .before .before .before .before .before .before .before .before .before .before .before .pre .laid) 5 (omega arith) (c .before .before .before .before .loop .inv .0) (c .before .before .before .before .loop .m) (small (c .before .before))
+
 add-m : tie.Need-add-m Inv-loop μ-loop
-add-m c = let s = c .before .before .before .before .before .before .before .before .before .before .before .before in let i = c .before .before .before .loop .inv in let n : c .before .before .before .loop .m < headerIn (s .args .numbers .now) .modules = omega (arith, c .before .if1 .taken, ap (λ q. q .modules) (c .before .before .before .before .before .header-of .ensures)) in omega (arith, n, s .pre .0 .few-modules)
+add-m c = record { fits = omega (arith, small (c .before .before), c .before .before .before .before .before .before .before .before .before .before .before .pre .loaded .few-modules) }
 
--- src/lib.rt:325:5
 loop-less : tie.Need-loop-less Inv-loop μ-loop
-loop-less c = omega (arith, c .before .if1 .taken)
+loop-less c = omega (arith, c .before .before .if1 .taken)
 
--- src/lib.rt:325:5
 loop-again : tie.Need-loop-again Inv-loop μ-loop
-loop-again c = let s = c .before .before .before .before .before .before .before .before .before .before .before .before in let i = c .before .before .before .loop .inv in let n : c .before .before .before .loop .m < headerIn (s .args .numbers .now) .modules = omega (arith, c .before .if1 .taken, ap (λ q. q .modules) (c .before .before .before .before .before .header-of .ensures)) in (omega (arith, c .before .if1 .taken), length-set (c .before .before .before .loop .verdicts) (c .before .before .before .loop .m) (c .first-verdict .result) ∙ i .1, fill-step _ _ _ (c .before .before .before .loop .m) _ (i .2) (omega (arith, n, s .pre .1)) (c .first-verdict .ensures))
+unfolding sizes
+loop-again c =
+    let i = c .before .before .before .before .loop .inv in
+    let t = c .before .before .before .before .before .before .before .before .before .before .before .pre .laid in
+    let n = small (c .before .before) in (
+      kept-written t 5 (omega arith) (i .0) (c .before .before .before .before .loop .m) n (c .first-verdict .result),
+      omega (arith, c .before .before .if1 .taken),
+      section-written t 5 (omega arith) (i .0) (c .before .before .before .before .loop .m) n (c .first-verdict .result) ∙ fill-step _ _ _ (c .before .before .before .before .loop .m) _ (i .2) (omega (arith, n, verdicts-long t)) (c .first-verdict .ensures),
+    )
 
--- src/lib.rt:310:1
 same-length : tie.Need-same-length Inv-loop μ-loop
-same-length c = c .before .before .loop .inv .1
+same-length c = c .before .before .loop .inv .0 .same-length
 
--- src/lib.rt:310:1
 returns : tie.Need-returns Inv-loop μ-loop
 unfolding firstVerdicts graphIn
-returns c = let s = c .before .before .before .before .before .before .before .before .before .before .before in let i = c .before .before .loop .inv in let z : c .before .before .loop .m ≡ headerIn (s .args .numbers .now) .modules = omega (arith, c .if1 .left, i .0, ap (λ q. q .modules) (c .before .before .before .before .header-of .ensures)) in i .2 ∙ ap (λ k. tabulate (firstVerdict (graphIn (s .args .numbers .now))) 0 k ++ drop k (s .args .verdicts .now)) z
+returns c =
+    let s = c .before .before .before .before .before .before .before .before .before in
+    let i = c .before .before .loop .inv in
+    let z : c .before .before .loop .m ≡ headerIn (s .args .numbers .now) .modules = omega (arith, c .if1 .left, i .1, ap (λ q. q .modules) (c .before .before .before .before .before .before .header-of .ensures)) in
+    (fill-done _ _ _ _ (i .2) (omega (arith, z, verdicts-long (s .pre .laid))) ∙ ap (tabulate (firstVerdict (graphIn (s .args .numbers .now))) 0) z, i .0)
 
 pub first-verdicts-spec : {M : Type 1} → statement M
 first-verdicts-spec =
@@ -76,10 +91,12 @@ first-verdicts-spec =
     μ-loop
     header-of-requires
     relaxed-requires
+    slice-read-base
     loop-holds
     first-verdict-requires
-    mul-verdicts
-    slice-write-verdicts
+    add-tables
+    mul-tables
+    slice-write-tables
     add-m
     loop-less
     loop-again

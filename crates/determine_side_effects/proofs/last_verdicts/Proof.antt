@@ -1,32 +1,32 @@
-use Rattle.determine_side_effects.proofs.Reading.{targets, last-is}
+use mathlib.Core.Path.{ap, _∙_}
+use Rattle.tables.proofs.Sections.{kept-both}
 use Rattle.graph.specs.Check.{graphIn}
-use mathlib.Core.Path.{_≡_, refl, sym, ap, _∙_}
-use native.Mathlib.Omega.{arith}
-use borrow.Author.Needs.{needs}
+use Rattle.determine_side_effects.specs.Effects.{settle, lastVerdicts}
+use Rattle.determine_side_effects.proofs.InSection.{verdicts-kept}
 use Rattle.determine_side_effects.proofs.last_verdicts.Statement.{statement}
 use Rattle.determine_side_effects.proofs.last_verdicts.Tie as tie
-use Rattle.determine_side_effects.proofs.last_verdicts.Reads as reads
-use Rattle.determine_side_effects.proofs.last_verdicts.Lts as lts
-use Rattle.determine_side_effects.proofs.first_verdicts.Reads as first-verdicts-reads
-use Rattle.determine_side_effects.proofs.settle.Reads as settle-reads
 
--- src/lib.rt:352:5
 first-verdicts-requires : tie.Need-first-verdicts-requires
-first-verdicts-requires c κs = search needs
+first-verdicts-requires c κs = c .before .before .before .pre
 
--- src/lib.rt:353:5
 settle-requires : tie.Need-settle-requires
-settle-requires c κs = search needs
+settle-requires c κs = verdicts-kept (c .before .before .before .before .before .before .before .pre) (c .before .before .before .first-verdicts .ensures .1)
 
--- src/lib.rt:340:1
 same-length : tie.Need-same-length
-same-length c = search needs
+same-length c = kept-both (c .before .before .before .before .before .before .first-verdicts .ensures .1) (c .before .before .settle .ensures .1) .same-length
 
--- src/lib.rt:340:1
 returns : tie.Need-returns
-unfolding graphIn
-returns c = let s = c .before .before .before .before .before .before .before .before .before .before .before .before .before .before in last-is (graphIn (s .args .numbers .now)) (targets (s .pre .0)) _ _ _ (c .before .before .before .before .before .before .first-verdicts .ensures) (c .before .before .settle .ensures)
+unfolding lastVerdicts
+returns c =
+    let f = c .before .before .before .before .before .before .first-verdicts .ensures in
+    let s = c .before .before .settle .ensures in
+    (s .0 ∙ ap (settle (graphIn (c .before .before .before .before .before .before .before .before .before .before .args .numbers .now))) (f .0), kept-both (f .1) (s .1))
 
 pub last-verdicts-spec : {M : Type 1} → statement M
 last-verdicts-spec =
-    tie.close (tie.spec first-verdicts-requires settle-requires same-length returns)
+    tie.close
+    (tie.spec
+    first-verdicts-requires
+    settle-requires
+    same-length
+    returns)

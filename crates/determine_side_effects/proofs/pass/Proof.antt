@@ -1,72 +1,89 @@
-use Rattle.determine_side_effects.proofs.Reading.{pass-moved, pass-kept, pass-done}
-use Rattle.determine_side_effects.specs.Effects.{pass}
-use Rattle.graph.specs.Check.{graphIn}
-use lib.ListN.{length, length-set}
+use Prim.Native.Nat.{_-_, _<_, _≤_}
+use mathlib.Core.Path.{_≡_, refl, ap, _∙_}
 use mathlib.Core.Bool.{false, true≢false}
-use Prim.Native.Nat.{_+_, _-_, _<_, _≤_}
-use mathlib.Core.Path.{_≡_, refl, sym, ap, _∙_}
-use borrow.Author.Needs.{needs}
 use native.Mathlib.Omega.{arith}
+use Rattle.tables.specs.Layout.{sizes, startOf, Kept, verdictsIn}
+use Rattle.tables.proofs.Sections.{word-inside, kept-none}
+use Rattle.graph_tables.specs.Tables.{headerIn}
+use Rattle.graph.specs.Check.{graphIn}
+use Rattle.determine_side_effects.specs.Effects.{pass}
+use Rattle.determine_side_effects.proofs.InSection.{word-fits, kept-written, section-written, verdicts-kept}
+use Rattle.determine_side_effects.proofs.Reading.{pass-moved, pass-kept, pass-done}
 use Rattle.determine_side_effects.proofs.pass.Statement.{statement}
 use Rattle.determine_side_effects.proofs.pass.Tie as tie
-use Rattle.determine_side_effects.proofs.pass.Reads as reads
-use Rattle.determine_side_effects.proofs.pass.Lts as lts
-use Rattle.determine_side_effects.proofs.moves.Reads as moves-reads
-use Rattle.graph.proofs.header_of.Reads as header-of-reads
 
 abbrev Inv-loop : tie.InvT-loop
-Inv-loop numbers modules symbols firsts statements verdicts₀ moved₀ m₀ verdicts moved m = (m ≤ m₀) × (length verdicts ≡ length verdicts₀) × (pass (graphIn numbers) m verdicts ≡ pass (graphIn numbers) m₀ verdicts₀) × (moved ≡ false → verdicts ≡ verdicts₀)
+Inv-loop numbers tables₀ base moved₀ m₀ tables moved m = Kept (startOf (headerIn numbers) 5) tables₀ tables × (m ≤ m₀) × (pass (graphIn numbers) m (verdictsIn tables) ≡ pass (graphIn numbers) m₀ (verdictsIn tables₀)) × (moved ≡ false → verdictsIn tables ≡ verdictsIn tables₀)
 
 abbrev μ-loop : tie.MeasureT-loop
-μ-loop numbers modules symbols firsts statements verdicts₀ moved₀ m₀ verdicts moved m = m
+μ-loop numbers tables₀ base moved₀ m₀ tables moved m = m
 
--- src/lib.rt:174:9
+-- the module in hand is one
+small : (c : tie.In-loop Inv-loop μ-loop) → c .before .loop .m - 1 < headerIn (c .before .before .before .before .before .before .args .numbers .now) .modules
+small c = omega (arith, c .loop-test .taken, c .before .loop .inv .1, ap (λ q. q .modules) (c .before .before .before .header-of .ensures))
+
 header-of-requires : tie.Need-header-of-requires Inv-loop μ-loop
-header-of-requires c κs = c .before .before .before .before .before .before .pre .0 .long
+header-of-requires c κs = c .before .before .pre .loaded .long
 
--- src/lib.rt:177:5
+slice-read-base : tie.Need-slice-read-base Inv-loop μ-loop
+slice-read-base c = word-inside (c .before .before .before .before .pre .laid) 5 (omega arith)
+
 loop-holds : tie.Need-loop-holds Inv-loop μ-loop
-loop-holds c = (omega arith, refl, refl, λ e. refl)
+loop-holds c = (kept-none, omega arith, refl, λ e. refl)
 
--- src/lib.rt:178:9
 sub-m : tie.Need-sub-m Inv-loop μ-loop
 sub-m c = c .loop-test .taken
 
--- src/lib.rt:179:12
 moves-requires : tie.Need-moves-requires Inv-loop μ-loop
-moves-requires c κs = let s = c .before .before .before .before .before .before .before .before .before .before in let h = ap (λ q. q .modules) (c .before .before .before .header-of .ensures) in let i = c .before .before .loop .inv in (s .pre .0, (omega (arith, c .before .loop-test .taken, i .0, h), omega (arith, i .1, s .pre .1)))
+moves-requires c κs = (verdicts-kept (c .before .before .before .before .before .before .before .pre) (c .before .before .loop .inv .0), small (c .before))
 
--- src/lib.rt:180:13
-mul-verdicts : tie.Need-mul-verdicts Inv-loop μ-loop
-mul-verdicts c = let s = c .before .before .before .before .before .before .before .before .before .before .before .before in let h = ap (λ q. q .modules) (c .before .before .before .before .before .header-of .ensures) in let i = c .before .before .before .before .loop .inv in omega (arith, c .before .before .before .loop-test .taken, i .0, h, s .pre .0 .few-modules)
+add-tables : tie.Need-add-tables Inv-loop μ-loop
+unfolding sizes
+add-tables c =
+    let i = word-fits (c .before .before .before .before .before .before .before .before .before .pre .laid) 5 (omega arith) (c .before .before .before .before .loop .inv .0) (c .before .before .before .before .loop .m - 1) (small (c .before .before .before)) in
+    record { fits = omega (arith, i, verdicts-kept (c .before .before .before .before .before .before .before .before .before .pre) (c .before .before .before .before .loop .inv .0) .laid .few) }
 
--- src/lib.rt:180:13
-slice-write-verdicts : tie.Need-slice-write-verdicts Inv-loop μ-loop
-slice-write-verdicts c = let s = c .before .before .before .before .before .before .before .before .before .before .before .before in let h = ap (λ q. q .modules) (c .before .before .before .before .before .header-of .ensures) in let i = c .before .before .before .before .loop .inv in omega (arith, c .before .before .before .loop-test .taken, i .0, i .1, h, s .pre .1)
+mul-tables : tie.Need-mul-tables Inv-loop μ-loop
+unfolding sizes
+mul-tables c =
+    let i = word-fits (c .before .before .before .before .before .before .before .before .before .pre .laid) 5 (omega arith) (c .before .before .before .before .loop .inv .0) (c .before .before .before .before .loop .m - 1) (small (c .before .before .before)) in
+    record { fits = omega (arith, i, verdicts-kept (c .before .before .before .before .before .before .before .before .before .pre) (c .before .before .before .before .loop .inv .0) .laid .few) }
 
--- src/lib.rt:177:5
+slice-write-tables : tie.Need-slice-write-tables Inv-loop μ-loop
+unfolding sizes
+slice-write-tables c = word-fits (c .before .before .before .before .before .before .before .before .before .pre .laid) 5 (omega arith) (c .before .before .before .before .loop .inv .0) (c .before .before .before .before .loop .m - 1) (small (c .before .before .before))
+
 loop-less : tie.Need-loop-less Inv-loop μ-loop
 loop-less c = omega (arith, c .before .before .before .loop-test .taken)
 
--- src/lib.rt:177:5
 loop-again : tie.Need-loop-again Inv-loop μ-loop
-loop-again c = let s = c .before .before .before .before .before .before .before .before .before .before .before .before in let h = ap (λ q. q .modules) (c .before .before .before .before .before .header-of .ensures) in let i = c .before .before .before .before .loop .inv in (omega (arith, i .0), length-set (c .before .before .before .before .loop .verdicts) (c .before .before .before .before .loop .m - 1) 1 ∙ i .1, pass-moved _ _ _ (c .before .before .before .loop-test .taken) (c .before .moves .ensures) (c .if1 .taken) ∙ i .2, λ e. absurd (true≢false e))
+unfolding sizes
+loop-again c =
+    let i = c .before .before .before .before .loop .inv in
+    let t = c .before .before .before .before .before .before .before .before .before .pre .laid in
+    let w = section-written t 5 (omega arith) (i .0) (c .before .before .before .before .loop .m - 1) (small (c .before .before .before)) 1 in (
+      kept-written t 5 (omega arith) (i .0) (c .before .before .before .before .loop .m - 1) (small (c .before .before .before)) 1,
+      omega (arith, i .1),
+      ap (pass (graphIn (c .before .before .before .before .before .before .before .before .before .args .numbers .now)) (c .before .before .before .before .loop .m - 1)) w ∙ pass-moved _ _ _ (c .before .before .before .loop-test .taken) (c .before .moves .ensures) (c .if1 .taken) ∙ i .2,
+      λ e. absurd (true≢false e),
+    )
 
--- src/lib.rt:177:5
 loop-less-2 : tie.Need-loop-less-2 Inv-loop μ-loop
 loop-less-2 c = omega (arith, c .before .before .before .loop-test .taken)
 
--- src/lib.rt:177:5
 loop-again-2 : tie.Need-loop-again-2 Inv-loop μ-loop
-loop-again-2 c = let s = c .before .before .before .before .before .before .before .before .before .before .before .before in let h = ap (λ q. q .modules) (c .before .before .before .before .before .header-of .ensures) in let i = c .before .before .before .before .loop .inv in (omega (arith, i .0), i .1, pass-kept _ _ _ (c .before .before .before .loop-test .taken) (c .before .moves .ensures) (c .if1 .left) ∙ i .2, i .3)
+loop-again-2 c =
+    let i = c .before .before .before .before .loop .inv in
+    (i .0, omega (arith, i .1), pass-kept _ _ _ (c .before .before .before .loop-test .taken) (c .before .moves .ensures) (c .if1 .left) ∙ i .2, i .3)
 
--- src/lib.rt:162:1
 same-length : tie.Need-same-length Inv-loop μ-loop
-same-length c = c .before .loop .inv .1
+same-length c = c .before .loop .inv .0 .same-length
 
--- src/lib.rt:162:1
 returns : tie.Need-returns Inv-loop μ-loop
-returns c = let s = c .before .before .before .before .before .before .before .before .before in (pass-done _ _ _ _ (c .loop-test .left) (c .before .loop .inv .2) ∙ ap (λ q. pass (graphIn (s .args .numbers .now)) (q .modules) (s .args .verdicts .now)) (c .before .before .header-of .ensures), c .before .loop .inv .3)
+returns c =
+    let i = c .before .loop .inv in
+    let h = ap (λ q. pass (graphIn (c .before .before .before .before .before .before .args .numbers .now)) (q .modules) (verdictsIn (c .before .before .before .before .before .before .args .tables .now))) (c .before .before .before .header-of .ensures) in
+    (pass-done _ _ _ _ (c .loop-test .left) (i .2) ∙ h, i .3, i .0)
 
 pub pass-spec : {M : Type 1} → statement M
 pass-spec =
@@ -75,11 +92,13 @@ pass-spec =
     Inv-loop
     μ-loop
     header-of-requires
+    slice-read-base
     loop-holds
     sub-m
     moves-requires
-    mul-verdicts
-    slice-write-verdicts
+    add-tables
+    mul-tables
+    slice-write-tables
     loop-less
     loop-again
     loop-less-2

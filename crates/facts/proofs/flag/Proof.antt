@@ -1,16 +1,14 @@
-use Rattle.facts.specs.Words.{flag as flagOf}
+use Rattle.graph_access.specs.Words.{flag as flagOf}
 use mathlib.Core.Path.{refl}
 use borrow.Author.Needs.{needs}
 use Rattle.facts.proofs.flag.Statement.{statement}
 use Rattle.facts.proofs.flag.Tie as tie
-use Rattle.facts.proofs.flag.Reads as reads
-use Rattle.facts.proofs.flag.Lts as lts
 
--- src/lib.rt:38:6
+-- src/lib.rt:36:6
 shr-result : tie.Need-shr-result
 shr-result c = search needs
 
--- src/lib.rt:34:1
+-- src/lib.rt:32:1
 returns : tie.Need-returns
 unfolding flagOf
 returns c = refl

@@ -1,6 +1,9 @@
-use borrow.Author.Needs.{needs}
-use native.Mathlib.Omega.{arith}
 use Prim.Native.Nat.{ℕ, _<_}
+use native.Mathlib.Omega.{arith}
+use lib.ListN.{length-replicate}
+use Rattle.tables.specs.declared.Size.the-variants.{Middle}
+use Rattle.tables.proofs.Sections.{fits-places}
+use borrow.Author.Needs.{needs}
 use borrow.Fn.Kinds.{In}
 use borrow.Fn.PlainCycle.{Measures, is, falls, and}
 use Rattle.graph.proofs.check_middle.Reads as check-middle
@@ -14,18 +17,12 @@ abbrev μ-check-middle : Measures 1 check-middle-kinds.ps ℕ
 μ-check-middle κs a = a .1 .1 .0
 
 abbrev check-middle-at : ℕ → In 1 check-middle-kinds.ps
-check-middle-at t =
-    and 1 check-middle-kinds.ps (is 1 check-middle-kinds.ps μ-check-middle t) check-middle.Pre
+check-middle-at t = and 1 check-middle-kinds.ps (is 1 check-middle-kinds.ps μ-check-middle t) check-middle.Pre
 
 abbrev check-middle-below : ℕ → In 1 check-middle-kinds.ps
-check-middle-below t =
-    and
-    1
-    check-middle-kinds.ps
-    (falls 1 check-middle-kinds.ps _<_ μ-check-middle t)
-    check-middle.Pre
+check-middle-below t = and 1 check-middle-kinds.ps (falls 1 check-middle-kinds.ps _<_ μ-check-middle t) check-middle.Pre
 
--- src/lib.rt:308:9
+-- src/lib.rt:251:34
 check-middle-slice-aggregate-load : (t : ℕ) → check-middle-lts.Need-slice-aggregate-load (
   load-reads.Asked,
   load-reads.Learnt,
@@ -34,52 +31,16 @@ check-middle-slice-aggregate-load : (t : ℕ) → check-middle-lts.Need-slice-ag
 ) (check-middle-at t) check-middle.Post
 check-middle-slice-aggregate-load t c = search needs
 
--- src/lib.rt:309:9
-check-middle-slice-aggregate-load-2 : (t : ℕ) → check-middle-lts.Need-slice-aggregate-load-2 (
-  load-reads.Asked,
-  load-reads.Learnt,
-  check-middle-below t,
-  check-middle.Post,
-) (check-middle-at t) check-middle.Post
-check-middle-slice-aggregate-load-2 t c = search needs
-
--- src/lib.rt:310:9
-check-middle-slice-aggregate-load-3 : (t : ℕ) → check-middle-lts.Need-slice-aggregate-load-3 (
-  load-reads.Asked,
-  load-reads.Learnt,
-  check-middle-below t,
-  check-middle.Post,
-) (check-middle-at t) check-middle.Post
-check-middle-slice-aggregate-load-3 t c = search needs
-
--- src/lib.rt:311:9
-check-middle-slice-aggregate-load-4 : (t : ℕ) → check-middle-lts.Need-slice-aggregate-load-4 (
-  load-reads.Asked,
-  load-reads.Learnt,
-  check-middle-below t,
-  check-middle.Post,
-) (check-middle-at t) check-middle.Post
-check-middle-slice-aggregate-load-4 t c = search needs
-
--- src/lib.rt:312:9
-check-middle-slice-aggregate-load-5 : (t : ℕ) → check-middle-lts.Need-slice-aggregate-load-5 (
-  load-reads.Asked,
-  load-reads.Learnt,
-  check-middle-below t,
-  check-middle.Post,
-) (check-middle-at t) check-middle.Post
-check-middle-slice-aggregate-load-5 t c = search needs
-
--- src/lib.rt:305:9
+-- src/lib.rt:251:18
 check-middle-load-requires : (t : ℕ) → check-middle-lts.Need-load-requires (
   load-reads.Asked,
   load-reads.Learnt,
   check-middle-below t,
   check-middle.Post,
 ) (check-middle-at t) check-middle.Post
-check-middle-load-requires t c κs = c .before .before .before .before .before .before .pre .1
+check-middle-load-requires t c κs = let s = c .before .before in (s .pre .1 .0, rw (length-replicate {A = ℕ} 2443 0) (fits-places (s .args .h) Middle (s .pre .1 .1), omega arith))
 
--- src/lib.rt:315:41
+-- src/lib.rt:253:41
 check-middle-sub-check-middle : (t : ℕ) → check-middle-lts.Need-sub-check-middle (
   load-reads.Asked,
   load-reads.Learnt,
@@ -88,16 +49,16 @@ check-middle-sub-check-middle : (t : ℕ) → check-middle-lts.Need-sub-check-mi
 ) (check-middle-at t) check-middle.Post
 check-middle-sub-check-middle t c = search needs
 
--- src/lib.rt:315:9
+-- src/lib.rt:253:16
 check-middle-check-middle-requires : (t : ℕ) → check-middle-lts.Need-check-middle-requires (
   load-reads.Asked,
   load-reads.Learnt,
   check-middle-below t,
   check-middle.Post,
 ) (check-middle-at t) check-middle.Post
-check-middle-check-middle-requires t c κs = let s = c .before .before .before .before .before .before .before .before .before .before .before .before .before in (omega (arith, s .pre .0, c .if1 .taken), (s .pre .1 .0, s .pre .1 .1))
+check-middle-check-middle-requires t c κs = let s = c .before .before .before .before .before in (omega (arith, s .pre .0, c .if1 .taken), s .pre .1)
 
--- src/lib.rt:315:9
+-- src/lib.rt:253:16
 check-middle-returns : (t : ℕ) → check-middle-lts.Need-returns (
   load-reads.Asked,
   load-reads.Learnt,
@@ -106,14 +67,14 @@ check-middle-returns : (t : ℕ) → check-middle-lts.Need-returns (
 ) (check-middle-at t) check-middle.Post
 check-middle-returns t c = c .check-middle .ensures
 
--- src/lib.rt:295:1
+-- src/lib.rt:246:1
 check-middle-returns-2 : (t : ℕ) → check-middle-lts.Need-returns-2 (
   load-reads.Asked,
   load-reads.Learnt,
   check-middle-below t,
   check-middle.Post,
 ) (check-middle-at t) check-middle.Post
-check-middle-returns-2 t c = c .before .before .before .before .before .before .load .ensures .0
+check-middle-returns-2 t c = c .before .before .load .ensures .0
 
 pub +check-middle-spec : {M : Type 1} → statement M
 +check-middle-spec = close μ-check-middle λ t. check-middle-lts.spec (
@@ -125,10 +86,6 @@ pub +check-middle-spec : {M : Type 1} → statement M
     (check-middle-at t)
     check-middle.Post
     (check-middle-slice-aggregate-load t)
-    (check-middle-slice-aggregate-load-2 t)
-    (check-middle-slice-aggregate-load-3 t)
-    (check-middle-slice-aggregate-load-4 t)
-    (check-middle-slice-aggregate-load-5 t)
     (check-middle-load-requires t)
     (check-middle-sub-check-middle t)
     (check-middle-check-middle-requires t)

@@ -1,67 +1,57 @@
-use Prim.Native.Nat.{ℕ, _+_, _-_, _*_, _<_, _≤_}
-use mathlib.Core.Path.{_≡_, refl, ap, _∙_, sym}
-use mathlib.Core.List.{List, [], _∷_, _++_}
+use mathlib.Core.Path.{refl, _∙_, sym}
 use native.Mathlib.Omega.{arith}
-use lib.ListN.{length, getD}
-use Rattle.graph.proofs.Loading.{once-fault, once-both, end-is, statements-part, tail-stop, tail-go, statement-table, entry-table}
+use Rattle.tables.specs.Layout.{Laid}
+use Rattle.tables.proofs.Sections.{laid-kept, kept-then}
+use Rattle.graph_tables.proofs.Sections.{modules-kept}
+use Rattle.graph.proofs.Loading.{once-fault, end-is, statements-part, tail-stop, tail-go, statement-table, entry-table}
+use Rattle.graph.proofs.Kept.{statements-kept}
 use borrow.Author.Needs.{needs}
 use Rattle.graph.proofs.tail.Statement.{statement}
 use Rattle.graph.proofs.tail.Tie as tie
-use Rattle.graph.proofs.tail.Reads as reads
-use Rattle.graph.proofs.tail.Lts as lts
-use Rattle.graph_entries.proofs.entries.Reads as entries-reads
-use Rattle.graph_tables.proofs.statements.Reads as statements-reads
 
--- src/lib.rt:83:11
+-- the layout, once the statements are read
+laid : (c : tie.After-statements) → Laid (c .before .before .before .before .args .h) 5 (c .statements .last .1 .1 .1 .0)
+laid c = laid-kept (c .before .before .before .before .pre .0 .0) 2 (omega arith) (c .statements .ensures .2)
+
+-- src/lib.rt:169:11
 statements-requires : tie.Need-statements-requires
-statements-requires c κs = let s = c .before .before .before .before .before .before .before in (s .pre .0, (s .pre .1 .0 .0, s .pre .1 .1 .0, s .pre .1 .1 .1))
+statements-requires c κs = (c .before .before .before .pre .0, c .before .before .before .pre .1 .0)
 
--- src/lib.rt:84:21
+-- src/lib.rt:170:21
 enum-known-n : tie.Need-enum-known-n
 enum-known-n c = search needs
 
--- src/lib.rt:85:18
+-- src/lib.rt:171:18
 enum-known-q : tie.Need-enum-known-q
 enum-known-q c = search needs
 
--- src/lib.rt:85:24
+-- src/lib.rt:171:24
 entries-requires : tie.Need-entries-requires
-entries-requires c κs = let s = c .before .before .before .before .before .before .before .before .before .before .before .before .before .before .before .before in (s .pre .0, (s .pre .1 .0 .0, s .pre .1 .1 .2))
+entries-requires c κs = let p = c .before .before .before .before .before .before .before .before .before .before .pre in ((laid (c .before .before .before .before .before .before), modules-kept (p .0 .0) 2 (omega arith) (omega arith) (c .before .before .before .before .before .before .statements .ensures .2) (p .0 .1) refl), p .1 .0)
 
--- src/lib.rt:69:1
+-- src/lib.rt:164:1
 same-length : tie.Need-same-length
 same-length c = search needs
 
--- src/lib.rt:69:1
+-- src/lib.rt:164:1
+returns : tie.Need-returns
+returns c = (sym (tail-stop _ _ (c .before .before .before .before .before .before .before .before .before .pre .1 .0) _ (sym (c .before .before .before .before .before .statements .ensures .0) ∙ c .before .n .given .1)), once-fault _, c .before .before .before .before .before .statements .ensures .2)
+
+-- src/lib.rt:164:1
 same-length-2 : tie.Need-same-length-2
 same-length-2 c = search needs
 
--- src/lib.rt:69:1
-returns : tie.Need-returns
-returns c = let s = c .before .before .before .before .before .before .before .before .before .before .before .before .before .before .before in (sym (tail-stop _ _ (s .pre .1 .0 .0) _ (sym (c .before .before .before .before .before .before .before .statements .ensures .0) ∙ c .before .n .given .1)), once-fault _)
-
--- src/lib.rt:69:1
-same-length-3 : tie.Need-same-length-3
-same-length-3 c = search needs
-
--- src/lib.rt:69:1
-same-length-4 : tie.Need-same-length-4
-same-length-4 c = search needs
-
--- src/lib.rt:69:1
-same-length-5 : tie.Need-same-length-5
-same-length-5 c = search needs
-
--- src/lib.rt:69:1
+-- src/lib.rt:164:1
 returns-2 : tie.Need-returns-2
 returns-2 c =
-    let s = c .before .before .before .before .before .before .before .before .before .before .before .before .before .before .before .before .before .before .before in
-    let is = s .pre .1 .0 .0 in
-    let e = sym (c .before .before .before .before .before .before .before .before .before .before .before .statements .ensures .0) ∙ c .before .before .before .before .before .q .given .1 in
-    let z = sym (end-is _ (rw (statements-part _ _ is _ (s .pre .1 .0 .1)) at e)) in (
-      c .before .before .entries .ensures .0 ∙ sym (tail-go _ _ is _ e),
-      once-both (λ q f. statement-table _ _ is _ _ _ _ (s .pre .1 .0 .1) e (c .before .before .before .before .before .before .before .before .before .before .before .statements .ensures .1) (omega (arith, s .pre .1 .1 .0, c .before .before .before .before .before .before .before .before .before .before .before .statements .kept .1 .1 .1 .1 .0)) (omega (arith, s .pre .1 .1 .1, c .before .before .before .before .before .before .before .before .before .before .before .statements .kept .1 .1 .1 .1 .1 .0)))
-          (λ q f. entry-table _ _ is _ _ _ z (sym (c .before .before .entries .ensures .0) ∙ f) (c .before .before .entries .ensures .1) (omega (arith, s .pre .1 .1 .2, c .before .before .entries .kept .1 .1 .1 .1 .0))),
+    let p = c .before .before .before .before .before .before .before .before .before .before .before .before .before .pre .1 in
+    let e = sym (c .before .before .before .before .before .before .before .before .before .statements .ensures .0) ∙ c .before .before .before .before .before .q .given .1 in
+    let z = sym (end-is _ (rw (statements-part _ _ (p .0) _ (p .1)) at e)) in
+    let t = laid (c .before .before .before .before .before .before .before .before .before) in
+    let k = c .before .before .entries .ensures .2 in (
+      c .before .before .entries .ensures .0 ∙ sym (tail-go _ _ (p .0) _ e),
+      record { known = λ q f. (statements-kept t 4 (omega arith) k (omega arith) (statement-table _ _ (p .0) _ t _ _ (p .1) e (c .before .before .before .before .before .before .before .before .before .statements .ensures .1)), entry-table _ _ (p .0) _ (laid-kept t 4 (omega arith) k) _ _ z (sym (c .before .before .entries .ensures .0) ∙ f) (c .before .before .entries .ensures .1)) },
+      kept-then (c .before .before .before .before .before .before .before .before .before .before .before .before .before .args .h) 2 4 (omega arith) (c .before .before .before .before .before .before .before .before .before .statements .ensures .2) k,
     )
 
 pub tail-spec : {M : Type 1} → statement M
@@ -73,9 +63,6 @@ tail-spec =
     enum-known-q
     entries-requires
     same-length
-    same-length-2
     returns
-    same-length-3
-    same-length-4
-    same-length-5
+    same-length-2
     returns-2)

@@ -15,7 +15,7 @@ use Rattle.graph_entries.proofs.related.Tie as tie
 use Rattle.graph_entries.proofs.related.Reads as reads
 use Rattle.graph_entries.proofs.related.Lts as lts
 use Rattle.graph_entries.proofs.related_module.Reads as related-module-reads
-use Rattle.graph_entries.proofs.related_record.Reads as related-record-reads
+use Rattle.graph_entries.proofs.related_import_record.Reads as related-import-record-reads
 use Rattle.graph_tables.proofs.module_number.Reads as module-number-reads
 use Rattle.rows.proofs.wide.Reads as wide-reads
 use Rattle.rows.proofs.within.Reads as within-reads
@@ -77,8 +77,8 @@ enum-known-s : tie.Need-enum-known-s
 enum-known-s c = search needs
 
 -- src/lib.rt:58:38
-related-record-requires : tie.Need-related-record-requires
-related-record-requires c κs = (c .before .before .before .before .before .before .before .before .before .before .before .before .before .pre .0, in-header (c .before .before .before .before .before))
+related-import-record-requires : tie.Need-related-import-record-requires
+related-import-record-requires c κs = (c .before .before .before .before .before .before .before .before .before .before .before .before .before .pre .0, in-header (c .before .before .before .before .before))
 
 -- src/lib.rt:59:33
 enum-known-n-3 : tie.Need-enum-known-n-3
@@ -104,12 +104,12 @@ returns-2 c = sym (related-stop-statement _ _ _ _ _ _ _ (counted (c .before .bef
 -- src/lib.rt:46:1
 returns-3 : tie.Need-returns-3
 unfolding statementsOf
-returns-3 c = sym (related-stop-record _ _ _ _ _ _ _ (counted (c .before .before .before .before .before .before .before .before .before .before .before) .1) (same (c .before .before .before .before .before .before .before .before .before)) (c .before .before .before .before .before .before .before .before .module-number .ensures) (second (c .before .before .before .before) .1) (sym (c .before .before .before .related-record .ensures) ∙ c .before .n3 .given .1))
+returns-3 c = sym (related-stop-record _ _ _ _ _ _ _ (counted (c .before .before .before .before .before .before .before .before .before .before .before) .1) (same (c .before .before .before .before .before .before .before .before .before)) (c .before .before .before .before .before .before .before .before .module-number .ensures) (second (c .before .before .before .before) .1) (sym (c .before .before .before .related-import-record .ensures) ∙ c .before .n3 .given .1))
 
 -- src/lib.rt:46:1
 returns-4 : tie.Need-returns-4
 unfolding statementsOf
-returns-4 c = let r = at-got _ _ (sym (c .before .before .before .before .related-record .ensures) ∙ c .before .before .u .given .1) in c .within2 .ensures ∙ sym (related-last _ _ _ _ _ _ _ (counted (c .before .before .before .before .before .before .before .before .before .before .before .before) .1) (same (c .before .before .before .before .before .before .before .before .before .before)) (c .before .before .before .before .before .before .before .before .before .module-number .ensures) (second (c .before .before .before .before .before) .1) (r .1))
+returns-4 c = let r = at-got _ _ (sym (c .before .before .before .before .related-import-record .ensures) ∙ c .before .before .u .given .1) in c .within2 .ensures ∙ sym (related-last _ _ _ _ _ _ _ (counted (c .before .before .before .before .before .before .before .before .before .before .before .before) .1) (same (c .before .before .before .before .before .before .before .before .before .before)) (c .before .before .before .before .before .before .before .before .before .module-number .ensures) (second (c .before .before .before .before .before) .1) (r .1))
 
 pub related-spec : {M : Type 1} → statement M
 related-spec =
@@ -125,7 +125,7 @@ related-spec =
     within-requires
     enum-known-n-2
     enum-known-s
-    related-record-requires
+    related-import-record-requires
     enum-known-n-3
     enum-known-u
     within-requires-2

@@ -1,31 +1,28 @@
-use Prim.Native.Nat.{ℕ, _+_, _-_, _*_, _<_, _≤_}
-use mathlib.Core.Path.{_≡_, refl, ap, _∙_, sym}
+use Prim.Native.Nat.{ℕ, _+_, _-_, _<_, _≤_}
+use mathlib.Core.Path.{_≡_, ap, _∙_, sym}
 use mathlib.Core.List.{List, [], _∷_, _++_}
-use lib.ListN.{length, getD, length-set}
+use lib.ListN.{length, getD}
 use Rattle.rows.specs.Walk.{got, Item}
 use Rattle.rows.proofs.Walks.{at-got}
 use Rattle.graph_format.specs.declared.Header.{Header}
-use Rattle.graph_format.specs.declared.Left.{Left}
 use Rattle.graph_format.specs.Format.{moduleAt, modulesAt, lessModule}
+use Rattle.tables.specs.Layout.{sizes, startOf}
+use Rattle.tables.proofs.Sections.{ends-inside, word-inside}
 use Rattle.graph_tables.proofs.Facts.{read-place, nine-inside, nine-same, nine-fits, less}
-use Rattle.graph_tables.proofs.Filling.{Filling, filling-start, from-start, filling-stop, filling-fault, filling-end, filling-filled}
+use Rattle.graph_tables.proofs.Filling.{Filling, filling-start, filling-inside, filling-step, filling-stop, filling-end}
 use borrow.Author.Needs.{needs}
 use native.Mathlib.Omega.{arith}
 use Rattle.graph_tables.proofs.modules.Statement.{statement}
 use Rattle.graph_tables.proofs.modules.Tie as tie
-use Rattle.graph_tables.proofs.modules.Reads as reads
-use Rattle.graph_tables.proofs.modules.Lts as lts
-use Rattle.graph_format.proofs.module.Reads as module-reads
-use Rattle.rows.proofs.wide.Reads as wide-reads
 
 abbrev Inv-loop : tie.InvT-loop
-Inv-loop numbers at h module-at₀ k₀ q₀ left₀ module-at k q left = (done : List Item) × (length module-at ≡ length module-at₀) × (left ≤ h .statements) × Filling (moduleAt h numbers) lessModule (h .modules) (record { statements = h .statements; modules = h .modules }) at 0 module-at k q (record { statements = left; modules = h .modules - k }) done
+Inv-loop numbers at h tables₀ base k₀ q₀ left₀ tables k q left = (done : List Item) × (left ≤ h .statements) × Filling (moduleAt h numbers) lessModule (h .modules) (record { statements = h .statements; modules = h .modules }) at (startOf h 0) tables₀ tables k q (record { statements = left; modules = h .modules - k }) done
 
 abbrev μ-loop : tie.MeasureT-loop
-μ-loop numbers at h module-at₀ k₀ q₀ left₀ module-at k q left = h .modules - k
+μ-loop numbers at h tables₀ base k₀ q₀ left₀ tables k q left = h .modules - k
 
 -- the module that a turn read
-turned : (c : tie.After-known-told2 Inv-loop μ-loop) → let l = c .before .before .before .before .before .before .before .loop in let s = c .before .before .before .before .before .before .before .before .before .before in
+turned : (c : tie.After-known-told2 Inv-loop μ-loop) → let l = c .before .before .before .before .before .before .before .loop in let s = c .before .before .before .before .before .before .before .before .before .before .before in
     (x : Item) × (moduleAt (s .args .h) (s .args .numbers .now) (record { statements = l .left; modules = s .args .h .modules - l .k }) (l .q) ≡ got x (c .before .next .given .0 .0))
 turned c = at-got _ _ (sym (c .before .before .before .«module» .ensures) ∙ c .before .next .given .1)
 
@@ -36,90 +33,105 @@ behind h numbers left k q e =
     let z : h .modules - k - 1 ≡ h .modules - (k + 1) = omega arith in
     less h numbers _ q e ∙ ap (λ m. record { statements = left - getD numbers (q + 9) 0; modules = m }) z
 
--- src/lib.rt:52:5
+-- the section is inside the tables, and so is the word that a turn writes
+room : (c : tie.Start Inv-loop μ-loop) → startOf (c .args .h) 0 + c .args .h .modules ≤ length (c .args .tables .now)
+unfolding sizes
+room c = ends-inside (c .pre .0) 0 (omega arith)
+
+spot : (c : tie.After-known-told2 Inv-loop μ-loop) → getD (c .before .before .before .before .before .before .before .before .before .before .before .args .tables .now) 0 0 + c .before .before .before .before .before .before .before .loop .k ≡ startOf (c .before .before .before .before .before .before .before .before .before .before .before .args .h) 0 + c .before .before .before .before .before .before .before .loop .k
+spot c = ap (λ b. b + c .before .before .before .before .before .before .before .loop .k) (c .before .before .before .before .before .before .before .before .before .before .before .pre .0 .starts 0 (omega arith))
+
+writes : (c : tie.After-known-told2 Inv-loop μ-loop) → getD (c .before .before .before .before .before .before .before .before .before .before .before .args .tables .now) 0 0 + c .before .before .before .before .before .before .before .loop .k < length (c .before .before .before .before .before .before .before .loop .tables)
+writes c = rw (spot c) (filling-inside (c .before .before .before .before .before .before .before .loop .inv .2) (room (c .before .before .before .before .before .before .before .before .before .before .before)) (c .before .before .before .before .before .if1 .taken))
+
+-- src/lib.rt:61:16
+slice-read-base : tie.Need-slice-read-base Inv-loop μ-loop
+slice-read-base c = word-inside (c .before .before .before .pre .0) 0 (omega arith)
+
+-- src/lib.rt:65:5
 loop-holds : tie.Need-loop-holds Inv-loop μ-loop
-loop-holds c = let z : c .before .before .args .h .modules - 0 ≡ c .before .before .args .h .modules = omega arith in ([], refl, omega arith, rw z (filling-start _ _ _ _ _ _ _))
+loop-holds c = let z : c .before .before .before .args .h .modules - 0 ≡ c .before .before .before .args .h .modules = omega arith in ([], omega arith, rw z filling-start)
 
--- src/lib.rt:55:22
-sub-t13 : tie.Need-sub-t13 Inv-loop μ-loop
-sub-t13 c = search needs
+-- src/lib.rt:68:22
+sub-t16 : tie.Need-sub-t16 Inv-loop μ-loop
+sub-t16 c = search needs
 
--- src/lib.rt:57:15
+-- src/lib.rt:70:15
 module-requires : tie.Need-module-requires Inv-loop μ-loop
-module-requires c κs = let s = c .before .before .before .before .before .before in (s .pre .1 .0, s .pre .1 .1, omega (arith, s .pre .1 .2, c .before .before .before .loop .inv .2))
+module-requires c κs = let p = c .before .before .before .before .before .before .before .pre .1 in (p .0, p .1, omega (arith, p .2, c .before .before .before .loop .inv .1))
 
--- src/lib.rt:58:25
+-- src/lib.rt:71:25
 enum-known-n : tie.Need-enum-known-n Inv-loop μ-loop
 enum-known-n c = search needs
 
--- src/lib.rt:59:17
+-- src/lib.rt:72:17
 same-length : tie.Need-same-length Inv-loop μ-loop
-same-length c = search needs
+same-length c = c .before .before .before .before .before .before .before .loop .inv .2 .kept .same-length
 
--- src/lib.rt:59:17
+-- src/lib.rt:72:17
 returns : tie.Need-returns Inv-loop μ-loop
 unfolding modulesAt
-returns c = let l = c .before .before .before .before .before .before .before .loop .inv in let e = sym (c .before .before .before .«module» .ensures) ∙ c .before .n .given .1 in (filling-stop _ _ _ _ _ _ _ _ _ _ _ _ _ (l .3) (c .before .before .before .before .before .if1 .taken) e, filling-fault _ _ _ _ _ _ _ _ _ _ _ _ _ (l .3) (c .before .before .before .before .before .if1 .taken) e)
+returns c = filling-stop (c .before .before .before .before .before .before .before .loop .inv .2) (c .before .before .before .before .before .if1 .taken) (sym (c .before .before .before .«module» .ensures) ∙ c .before .n .given .1)
 
--- src/lib.rt:61:22
+-- src/lib.rt:74:22
 enum-known-next : tie.Need-enum-known-next Inv-loop μ-loop
 enum-known-next c = search needs
 
--- src/lib.rt:62:17
-mul-module-at : tie.Need-mul-module-at Inv-loop μ-loop
-mul-module-at c = search needs
+-- src/lib.rt:75:24
+add-tables : tie.Need-add-tables Inv-loop μ-loop
+add-tables c = omega (arith, writes c, c .before .before .before .before .before .before .before .loop .inv .2 .kept .same-length, c .before .before .before .before .before .before .before .before .before .before .before .pre .0 .few)
 
--- src/lib.rt:62:17
-slice-write-module-at : tie.Need-slice-write-module-at Inv-loop μ-loop
-slice-write-module-at c = let l = c .before .before .before .before .before .before .before .loop .inv in omega (arith, l .1, c .before .before .before .before .before .before .before .before .before .before .pre .0, c .before .before .before .before .before .if1 .taken)
+-- src/lib.rt:75:17
+mul-tables : tie.Need-mul-tables Inv-loop μ-loop
+mul-tables c = omega (arith, writes c, c .before .before .before .before .before .before .before .loop .inv .2 .kept .same-length, c .before .before .before .before .before .before .before .before .before .before .before .pre .0 .few)
 
--- src/lib.rt:63:50
+-- src/lib.rt:75:17
+slice-write-tables : tie.Need-slice-write-tables Inv-loop μ-loop
+slice-write-tables c = writes c
+
+-- src/lib.rt:76:50
 add-wide : tie.Need-add-wide Inv-loop μ-loop
 add-wide c = omega (arith, nine-inside _ _ _ _ (turned c .1))
 
--- src/lib.rt:63:42
+-- src/lib.rt:76:42
 mul-wide : tie.Need-mul-wide Inv-loop μ-loop
 mul-wide c = omega (arith, nine-inside _ _ _ _ (turned c .1))
 
--- src/lib.rt:63:42
+-- src/lib.rt:76:42
 shared-slice-read-wide : tie.Need-shared-slice-read-wide Inv-loop μ-loop
 shared-slice-read-wide c = nine-inside _ _ _ _ (turned (c .before) .1)
 
--- src/lib.rt:63:31
+-- src/lib.rt:76:31
 wide-requires : tie.Need-wide-requires Inv-loop μ-loop
 wide-requires c κs = search needs
 
--- src/lib.rt:63:24
+-- src/lib.rt:76:24
 sub-left : tie.Need-sub-left Inv-loop μ-loop
 sub-left c = let t = turned (c .before .before) .1 in omega (arith, c .wide .ensures, nine-same _ _ _ _ t, nine-fits _ _ _ _ t)
 
--- src/lib.rt:67:9
+-- src/lib.rt:80:9
 add-k : tie.Need-add-k Inv-loop μ-loop
 add-k c = search needs
 
--- src/lib.rt:52:5
+-- src/lib.rt:65:5
 loop-less : tie.Need-loop-less Inv-loop μ-loop
 loop-less c = search needs
 
--- src/lib.rt:52:5
+-- src/lib.rt:65:5
 loop-again : tie.Need-loop-again Inv-loop μ-loop
-loop-again c = let l = c .before .before .before .before .before .before .before .before .before .loop .inv in
+loop-again c = let i = c .before .before .before .before .before .before .before .before .before .loop .inv in
     let t = turned (c .before .before) in
-    let g = from-start _ _ _ _ _ _ _ _ _ _ _ _ (l .3) (c .before .before .before .before .before .before .before .if1 .taken) (t .1) (read-place _ _ _ _ (t .1)) (omega (arith, l .1, c .before .before .before .before .before .before .before .before .before .before .before .before .pre .0, c .before .before .before .before .before .before .before .if1 .taken)) in (
-      l .0 ++ (t .0 ∷ []),
-      rw length-set (l .1),
-      omega (arith, l .2),
-      rw (c .wide .ensures) (rw (behind _ _ _ _ _ (t .1)) at g),
-    )
+    let g = filling-step (i .2) (room (c .before .before .before .before .before .before .before .before .before .before .before .before .before)) (c .before .before .before .before .before .before .before .if1 .taken) (t .1) (read-place _ _ _ _ (t .1)) (spot (c .before .before)) in
+    (i .0 ++ (t .0 ∷ []), omega (arith, i .1), rw (c .wide .ensures) (rw (behind _ _ _ _ _ (t .1)) at g))
 
--- src/lib.rt:44:1
+-- src/lib.rt:57:1
 same-length-2 : tie.Need-same-length-2 Inv-loop μ-loop
-same-length-2 c = search needs
+same-length-2 c = c .before .before .loop .inv .2 .kept .same-length
 
--- src/lib.rt:44:1
+-- src/lib.rt:57:1
 returns-2 : tie.Need-returns-2 Inv-loop μ-loop
 unfolding modulesAt
-returns-2 c = let l = c .before .before .loop .inv in (filling-end _ _ _ _ _ _ _ _ _ _ _ (l .3) (c .if1 .left), filling-filled _ _ _ _ _ _ _ _ _ _ _ (l .3) (c .if1 .left))
+returns-2 c = filling-end (c .before .before .loop .inv .2) (c .if1 .left)
 
 pub modules-spec : {M : Type 1} → statement M
 modules-spec =
@@ -127,15 +139,17 @@ modules-spec =
     (tie.spec
     Inv-loop
     μ-loop
+    slice-read-base
     loop-holds
-    sub-t13
+    sub-t16
     module-requires
     enum-known-n
     same-length
     returns
     enum-known-next
-    mul-module-at
-    slice-write-module-at
+    add-tables
+    mul-tables
+    slice-write-tables
     add-wide
     mul-wide
     shared-slice-read-wide

@@ -3,9 +3,6 @@ use Rattle.host.proofs.Numbers.{as-accepted, as-refused}
 use borrow.Author.Needs.{needs}
 use Rattle.host.proofs.keep_check.Statement.{statement}
 use Rattle.host.proofs.keep_check.Tie as tie
-use Rattle.host.proofs.keep_check.Reads as reads
-use Rattle.host.proofs.keep_check.Lts as lts
-use Rattle.graph.proofs.check.Reads as check-reads
 
 -- src/lib.rt:47:11
 check-requires : tie.Need-check-requires

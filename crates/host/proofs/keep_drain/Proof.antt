@@ -3,9 +3,6 @@ use Rattle.host.proofs.Numbers.{as-lines, as-not-drained, same-ends}
 use borrow.Author.Needs.{needs}
 use Rattle.host.proofs.keep_drain.Statement.{statement}
 use Rattle.host.proofs.keep_drain.Tie as tie
-use Rattle.host.proofs.keep_drain.Reads as reads
-use Rattle.host.proofs.keep_drain.Lts as lts
-use Rattle.drain.proofs.drain.Reads as drain-reads
 
 -- src/lib.rt:102:11
 drain-requires : tie.Need-drain-requires

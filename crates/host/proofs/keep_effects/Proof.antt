@@ -3,9 +3,6 @@ use Rattle.host.proofs.Numbers.{as-passed, as-not-passed}
 use borrow.Author.Needs.{needs}
 use Rattle.host.proofs.keep_effects.Statement.{statement}
 use Rattle.host.proofs.keep_effects.Tie as tie
-use Rattle.host.proofs.keep_effects.Reads as reads
-use Rattle.host.proofs.keep_effects.Lts as lts
-use Rattle.determine_side_effects.proofs.effects.Reads as effects-reads
 
 -- src/lib.rt:74:11
 effects-requires : tie.Need-effects-requires

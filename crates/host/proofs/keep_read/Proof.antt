@@ -3,9 +3,6 @@ use Rattle.host.proofs.Numbers.{as-count, as-refusal}
 use borrow.Author.Needs.{needs}
 use Rattle.host.proofs.keep_read.Statement.{statement}
 use Rattle.host.proofs.keep_read.Tie as tie
-use Rattle.host.proofs.keep_read.Reads as reads
-use Rattle.host.proofs.keep_read.Lts as lts
-use Rattle.leb128.proofs.read.Reads as read-reads
 
 -- src/lib.rt:28:11
 read-requires : tie.Need-read-requires

@@ -4,68 +4,48 @@ use mathlib.Core.Path.{_≡_, refl, ap, _∙_, sym}
 use borrow.Author.Needs.{needs}
 use Rattle.keep_record.proofs.add.Statement.{statement}
 use Rattle.keep_record.proofs.add.Tie as tie
-use Rattle.keep_record.proofs.add.Reads as reads
-use Rattle.keep_record.proofs.add.Lts as lts
-use Rattle.bit_row.proofs.set.Reads as set-reads
-use Rattle.bit_row.proofs.test.Reads as test-reads
-use Rattle.facts.proofs.mark_of.Reads as mark-of-reads
-use Rattle.keep_record.proofs.write_line.Reads as write-line-reads
 
--- src/lib.rt:74:9
 mark-of-requires : tie.Need-mark-of-requires
 mark-of-requires c κs = search needs
 
--- src/lib.rt:75:8
 test-requires : tie.Need-test-requires
 test-requires c κs = search needs
 
--- src/lib.rt:76:9
 same-length : tie.Need-same-length
 same-length c = search needs
 
--- src/lib.rt:76:9
 returns : tie.Need-returns
-returns c = grown-same _ _ _ _ _ _ (c .before .before .before .before .before .before .before .before .before .before .before .pre .1 .0) (c .before .before .before .mark-of .ensures .0) (sym (c .before .test .ensures) ∙ c .if1 .taken)
+returns c = grown-same _ _ _ _ _ _ _ (c .before .before .before .before .before .before .before .before .pre .1 .0) (c .before .before .before .mark-of .ensures .0) (sym (c .before .test .ensures) ∙ c .if1 .taken)
 
--- src/lib.rt:78:20
 mul-if2 : tie.Need-mul-if2
 mul-if2 c = search needs
 
--- src/lib.rt:78:20
 add-if2 : tie.Need-add-if2
 add-if2 c = search needs
 
--- src/lib.rt:79:9
 same-length-2 : tie.Need-same-length-2
 same-length-2 c = search needs
 
--- src/lib.rt:79:9
 returns-2 : tie.Need-returns-2
-returns-2 c = grown-full _ _ _ _ _ _ (c .before .before .before .before .before .before .before .before .before .before .before .before .pre .1 .0) (c .before .before .before .before .mark-of .ensures .0) (sym (c .before .before .test .ensures) ∙ c .before .if1 .left) (c .if2 .taken)
+returns-2 c = grown-full _ _ _ _ _ _ _ (c .before .before .before .before .before .before .before .before .before .pre .1 .0) (c .before .before .before .before .mark-of .ensures .0) (sym (c .before .before .test .ensures) ∙ c .before .if1 .left) (c .if2 .taken)
 
--- src/lib.rt:81:5
 set-requires : tie.Need-set-requires
 set-requires c κs = search needs
 
--- src/lib.rt:82:5
 write-line-requires : tie.Need-write-line-requires
-write-line-requires c κs = (omega (arith, c .before .before .before .before .before .if2 .left), line-small (c .before .before .before .before .before .before .before .before .before .before .before .before .before .before .before .before .before .pre .0) _ _ _ _ (c .before .before .before .before .before .before .before .before .before .before .before .before .before .before .before .before .before .pre .1 .0) (c .before .before .before .before .before .before .before .before .before .before .before .before .before .before .before .before .before .pre .1 .1))
+write-line-requires c κs = let s = c .before .before .before .before .before .before .before .before .before .before .before .before .before .before in (omega (arith, c .before .before .before .before .before .if2 .left), line-small (s .pre .0) _ _ _ _ _ (s .pre .1 .0) (s .pre .1 .1))
 
--- src/lib.rt:83:18
-add-t15 : tie.Need-add-t15
-add-t15 c = search needs
+add-t13 : tie.Need-add-t13
+add-t13 c = search needs
 
--- src/lib.rt:57:1
 same-length-3 : tie.Need-same-length-3
 same-length-3 c = search needs
 
--- src/lib.rt:57:1
 same-length-4 : tie.Need-same-length-4
 same-length-4 c = search needs
 
--- src/lib.rt:57:1
 returns-3 : tie.Need-returns-3
-returns-3 c = grown-more _ _ _ _ _ _ (c .before .before .before .before .before .before .before .before .before .before .before .before .before .before .before .before .before .before .before .before .pre .1 .0) (c .before .before .before .before .before .before .before .before .before .before .before .before .mark-of .ensures .0) _ _ (omega (arith, c .before .before .before .before .before .before .before .before .if2 .left)) (c .before .before .write-line .ensures) (c .before .before .before .before .before .before .before .before .before .before .before .before .before .before .before .before .before .before .before .before .pre .1 .1 .good-fact) (sym (c .before .before .before .before .before .before .before .before .before .before .test .ensures) ∙ c .before .before .before .before .before .before .before .before .before .if1 .left) (c .before .before .before .before .before .before .set .ensures) (c .before .before .before .before .before .before .set .kept .0) (c .before .before .write-line .kept .0)
+returns-3 c = let s = c .before .before .before .before .before .before .before .before .before .before .before .before .before .before .before .before .before in grown-more _ _ _ _ _ _ _ (s .pre .1 .0) (c .before .before .before .before .before .before .before .before .before .before .before .before .mark-of .ensures .0) _ _ (omega (arith, c .before .before .before .before .before .before .before .before .if2 .left)) (c .before .before .write-line .ensures) (s .pre .1 .1 .good-fact) (sym (c .before .before .before .before .before .before .before .before .before .before .test .ensures) ∙ c .before .before .before .before .before .before .before .before .before .if1 .left) (c .before .before .before .before .before .before .set .ensures) (c .before .before .before .before .before .before .set .kept .0) (c .before .before .write-line .kept .0)
 
 pub add-spec : {M : Type 1} → statement M
 add-spec =
@@ -81,7 +61,7 @@ add-spec =
     returns-2
     set-requires
     write-line-requires
-    add-t15
+    add-t13
     same-length-3
     same-length-4
     returns-3)

@@ -1,66 +1,48 @@
-use Rattle.keep_record.specs.Lines.{lineAt}
+use Rattle.keep_record.specs.Held.{lineAt}
 use mathlib.Core.Path.{_≡_, refl, ap, _∙_, sym}
 use borrow.Author.Needs.{needs}
 use Rattle.keep_record.proofs.fact_at.Statement.{statement}
 use Rattle.keep_record.proofs.fact_at.Tie as tie
-use Rattle.keep_record.proofs.fact_at.Reads as reads
-use Rattle.keep_record.proofs.fact_at.Lts as lts
-use Rattle.facts.proofs.fact_of.Reads as fact-of-reads
-use Rattle.rows.proofs.wide.Reads as wide-reads
 
--- src/lib.rt:32:13
 mul-p : tie.Need-mul-p
 mul-p c = search needs
 
--- src/lib.rt:34:20
 mul-wide : tie.Need-mul-wide
 mul-wide c = search needs
 
--- src/lib.rt:34:20
 shared-slice-read-wide : tie.Need-shared-slice-read-wide
 shared-slice-read-wide c = search needs
 
--- src/lib.rt:34:9
 wide-requires : tie.Need-wide-requires
 wide-requires c κs = search needs
 
--- src/lib.rt:35:24
 add-wide : tie.Need-add-wide
 add-wide c = search needs
 
--- src/lib.rt:35:20
 mul-wide-2 : tie.Need-mul-wide-2
 mul-wide-2 c = search needs
 
--- src/lib.rt:35:20
 shared-slice-read-wide-2 : tie.Need-shared-slice-read-wide-2
 shared-slice-read-wide-2 c = search needs
 
--- src/lib.rt:35:9
 wide-requires-2 : tie.Need-wide-requires-2
 wide-requires-2 c κs = search needs
 
--- src/lib.rt:36:24
 add-wide-2 : tie.Need-add-wide-2
 add-wide-2 c = search needs
 
--- src/lib.rt:36:20
 mul-wide-3 : tie.Need-mul-wide-3
 mul-wide-3 c = search needs
 
--- src/lib.rt:36:20
 shared-slice-read-wide-3 : tie.Need-shared-slice-read-wide-3
 shared-slice-read-wide-3 c = search needs
 
--- src/lib.rt:36:9
 wide-requires-3 : tie.Need-wide-requires-3
 wide-requires-3 c κs = search needs
 
--- src/lib.rt:33:5
 fact-of-requires : tie.Need-fact-of-requires
 fact-of-requires c κs = search needs
 
--- src/lib.rt:28:1
 returns : tie.Need-returns
 unfolding lineAt
 returns c = rw (c .before .before .before .before .before .wide .ensures, c .before .before .before .wide2 .ensures, c .before .wide3 .ensures) at (c .fact-of .ensures)

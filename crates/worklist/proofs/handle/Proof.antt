@@ -8,68 +8,48 @@ use mathlib.Core.Path.{_≡_, refl, ap, _∙_, sym}
 use borrow.Author.Needs.{needs}
 use Rattle.worklist.proofs.handle.Statement.{statement}
 use Rattle.worklist.proofs.handle.Tie as tie
-use Rattle.worklist.proofs.handle.Reads as reads
-use Rattle.worklist.proofs.handle.Lts as lts
-use Rattle.keep_record.proofs.fact_at.Reads as fact-at-reads
-use Rattle.worklist.proofs.follow.Reads as follow-reads
-use Rattle.worklist.proofs.join.Reads as join-reads
-use Rattle.worklist.proofs.link.Reads as link-reads
 
--- src/lib.rt:338:9
 fact-at-requires : tie.Need-fact-at-requires
-fact-at-requires c κs = omega (arith, c .before .before .before .before .before .before .before .before .before .before .before .before .before .pre .1 .0 .room, c .before .before .before .before .before .before .before .before .before .before .before .before .before .pre .1 .1 .1)
+fact-at-requires c κs = let s = c .before .before .before .before .before .before in omega (arith, s .pre .1 .0 .room, s .pre .1 .1 .1 .1)
 
--- src/lib.rt:339:11
 join-requires : tie.Need-join-requires
-join-requires c κs = (c .before .before .before .before .before .before .before .before .before .before .before .before .before .before .before .before .before .pre .0, (c .before .before .before .before .before .before .before .before .before .before .before .before .before .before .before .before .before .pre .1 .0, (c .before .before .before .before .before .before .before .before .before .before .before .before .before .before .before .before .before .pre .1 .1 .0, (rw (c .before .before .before .fact-at .ensures) (c .before .before .before .before .before .before .before .before .before .before .before .before .before .before .before .before .before .pre .1 .0 .good _ (c .before .before .before .before .before .before .before .before .before .before .before .before .before .before .before .before .before .pre .1 .1 .1)), c .before .before .before .before .before .before .before .before .before .before .before .before .before .before .before .before .before .pre .1 .1 .1))))
+join-requires c κs = let s = c .before .before .before .before .before .before .before .before .before .before in (s .pre .0, (s .pre .1 .0, (s .pre .1 .1 .0, (rw (c .before .before .before .fact-at .ensures) (s .pre .1 .0 .good _ (s .pre .1 .1 .1 .1)), s .pre .1 .1 .1 .0, s .pre .1 .1 .1 .1))))
 
--- src/lib.rt:356:24
 enum-told : tie.Need-enum-told
 enum-told c = search needs
 
--- src/lib.rt:357:22
 enum-known-joined : tie.Need-enum-known-joined
 enum-known-joined c = search needs
 
--- src/lib.rt:358:13
 link-requires : tie.Need-link-requires
-link-requires c κs = (c .before .before .before .before .before .before .before .before .before .before .before .before .before .before .before .before .before .before .before .before .before .before .before .before .before .before .before .pre .0, (link-ready _ (lastVerdicts (graphIn (c .before .before .before .before .before .before .before .before .before .before .before .before .before .before .before .before .before .before .before .before .before .before .before .before .before .before .before .args .numbers .now))) _ _ _ _ (c .before .before .before .before .before .before .before .before .before .before .before .before .before .before .before .before .before .before .before .before .before .before .before .before .before .before .before .pre .1 .1 .1) (c .before .before .before .before .before .before .before .before .before .before .before .before .before .fact-at .ensures) _ _ _ (rw (c .before .before .before .joined .given .1) at (c .before .before .before .before .before .before .before .before .before .join .ensures)), still-linked _ (lastVerdicts (graphIn (c .before .before .before .before .before .before .before .before .before .before .before .before .before .before .before .before .before .before .before .before .before .before .before .before .before .before .before .args .numbers .now))) _ _ _ _ (c .before .before .before .before .before .before .before .before .before .before .before .before .before .before .before .before .before .before .before .before .before .before .before .before .before .before .before .pre .1 .1 .1) (c .before .before .before .before .before .before .before .before .before .before .before .before .before .fact-at .ensures) _ _ _ (rw (c .before .before .before .joined .given .1) at (c .before .before .before .before .before .before .before .before .before .join .ensures)) _ (c .before .before .before .before .before .before .before .before .before .before .before .before .before .before .before .before .before .before .before .before .before .before .before .before .before .before .before .pre .1 .1 .0)))
+link-requires c κs = let s = c .before .before .before .before .before .before .before .before .before .before .before .before .before .before .before .before .before .before .before .before in (s .pre .0, (link-ready _ _ (lastVerdicts (graphIn (s .args .numbers .now))) _ _ _ _ (s .pre .1 .1 .1 .1) (c .before .before .before .before .before .before .before .before .before .before .before .before .before .fact-at .ensures) _ _ _ (rw (c .before .before .before .joined .given .1) at (c .before .before .before .before .before .before .before .before .before .join .ensures)) (s .pre .1 .1 .1 .0), still-linked _ _ (lastVerdicts (graphIn (s .args .numbers .now))) _ _ _ _ (s .pre .1 .1 .1 .1) (c .before .before .before .before .before .before .before .before .before .before .before .before .before .fact-at .ensures) _ _ _ (rw (c .before .before .before .joined .given .1) at (c .before .before .before .before .before .before .before .before .before .join .ensures)) _ (s .pre .1 .1 .0)))
 
--- src/lib.rt:374:13
 follow-requires : tie.Need-follow-requires
-follow-requires c κs = (c .before .before .before .before .before .before .before .before .before .before .before .before .before .before .before .before .before .before .before .before .before .before .before .before .before .before .before .before .before .before .before .before .pre .0, ((rw (c .before .before .before .before .before .before .before .before .joined .given .1) at (c .before .before .before .before .before .before .before .before .before .before .before .before .before .before .join .ensures)) .held _ refl .1, (rw (c .before .before .before .before .before .before .before .before .before .before .before .before .before .before .before .before .before .before .fact-at .ensures) (c .before .before .before .before .before .before .before .before .before .before .before .before .before .before .before .before .before .before .before .before .before .before .before .before .before .before .before .before .before .before .before .before .pre .1 .0 .good _ (c .before .before .before .before .before .before .before .before .before .before .before .before .before .before .before .before .before .before .before .before .before .before .before .before .before .before .before .before .before .before .before .before .pre .1 .1 .1)), link-ready _ (lastVerdicts (graphIn (c .before .before .before .before .before .before .before .before .before .before .before .before .before .before .before .before .before .before .before .before .before .before .before .before .before .before .before .before .before .before .before .before .args .numbers .now))) _ _ _ _ (c .before .before .before .before .before .before .before .before .before .before .before .before .before .before .before .before .before .before .before .before .before .before .before .before .before .before .before .before .before .before .before .before .pre .1 .1 .1) (c .before .before .before .before .before .before .before .before .before .before .before .before .before .before .before .before .before .before .fact-at .ensures) _ _ _ (rw (c .before .before .before .before .before .before .before .before .joined .given .1) at (c .before .before .before .before .before .before .before .before .before .before .before .before .before .before .join .ensures)) .inside)))
+follow-requires c κs = let s = c .before .before .before .before .before .before .before .before .before .before .before .before .before .before .before .before .before .before .before .before .before .before .before .before .before in (s .pre .0, ((rw (c .before .before .before .before .before .before .before .before .joined .given .1) at (c .before .before .before .before .before .before .before .before .before .before .before .before .before .before .join .ensures)) .held _ refl .1, (rw (c .before .before .before .before .before .before .before .before .before .before .before .before .before .before .before .before .before .before .fact-at .ensures) (s .pre .1 .0 .good _ (s .pre .1 .1 .1 .1)), s .pre .1 .1 .1 .0, link-ready _ _ (lastVerdicts (graphIn (s .args .numbers .now))) _ _ _ _ (s .pre .1 .1 .1 .1) (c .before .before .before .before .before .before .before .before .before .before .before .before .before .before .before .before .before .before .fact-at .ensures) _ _ _ (rw (c .before .before .before .before .before .before .before .before .joined .given .1) at (c .before .before .before .before .before .before .before .before .before .before .before .before .before .before .join .ensures)) (s .pre .1 .1 .1 .0) .inside)))
 
--- src/lib.rt:316:1
 same-length : tie.Need-same-length
 same-length c = search needs
 
--- src/lib.rt:316:1
 same-length-2 : tie.Need-same-length-2
 same-length-2 c = search needs
 
--- src/lib.rt:316:1
 same-length-3 : tie.Need-same-length-3
 same-length-3 c = search needs
 
--- src/lib.rt:316:1
 returns : tie.Need-returns
-returns c = handle-full _ _ _ _ _ _ (c .before .before .before .before .before .before .before .before .before .before .before .before .before .before .before .before .before .before .before .before .before .before .before .before .pre .1 .1 .1) (c .before .before .before .before .before .before .before .before .before .before .fact-at .ensures) _ _ _ (rw (c .enum-told .given .1) at (c .before .before .before .before .before .before .join .ensures))
+returns c = let s = c .before .before .before .before .before .before .before .before .before .before .before .before .before .before .before .before .before in handle-full _ _ _ _ _ _ _ (s .pre .1 .1 .1 .1) (c .before .before .before .before .before .before .before .before .before .before .fact-at .ensures) _ _ _ (rw (c .enum-told .given .1) at (c .before .before .before .before .before .before .join .ensures))
 
--- src/lib.rt:316:1
 same-length-4 : tie.Need-same-length-4
 same-length-4 c = search needs
 
--- src/lib.rt:316:1
 same-length-5 : tie.Need-same-length-5
 same-length-5 c = search needs
 
--- src/lib.rt:316:1
 same-length-6 : tie.Need-same-length-6
 same-length-6 c = search needs
 
--- src/lib.rt:316:1
 returns-2 : tie.Need-returns-2
-returns-2 c = handle-done _ (lastVerdicts (graphIn (c .before .before .before .before .before .before .before .before .before .before .before .before .before .before .before .before .before .before .before .before .before .before .before .before .before .before .before .before .before .before .before .before .before .before .before .before .before .args .numbers .now))) _ _ _ _ (c .before .before .before .before .before .before .before .before .before .before .before .before .before .before .before .before .before .before .before .before .before .before .before .before .before .before .before .before .before .before .before .before .before .before .before .before .before .pre .1 .1 .1) (c .before .before .before .before .before .before .before .before .before .before .before .before .before .before .before .before .before .before .before .before .before .before .before .fact-at .ensures) _ _ _ (rw (c .before .before .before .before .before .before .before .before .before .before .before .before .before .joined .given .1) at (c .before .before .before .before .before .before .before .before .before .before .before .before .before .before .before .before .before .before .before .join .ensures)) _ _ _ _ (c .before .before .before .before .before .before .before .before .before .link .ensures) (c .before .before .before .before .follow .ensures)
+returns-2 c = let s = c .before .before .before .before .before .before .before .before .before .before .before .before .before .before .before .before .before .before .before .before .before .before .before .before .before .before .before .before .before .before in handle-done _ _ (lastVerdicts (graphIn (s .args .numbers .now))) _ _ _ _ (s .pre .1 .1 .1 .1) (c .before .before .before .before .before .before .before .before .before .before .before .before .before .before .before .before .before .before .before .before .before .before .before .fact-at .ensures) _ _ _ (rw (c .before .before .before .before .before .before .before .before .before .before .before .before .before .joined .given .1) at (c .before .before .before .before .before .before .before .before .before .before .before .before .before .before .before .before .before .before .before .join .ensures)) _ _ _ _ (c .before .before .before .before .before .before .before .before .before .link .ensures) (c .before .before .before .before .follow .ensures)
 
 pub handle-spec : {M : Type 1} → statement M
 handle-spec =

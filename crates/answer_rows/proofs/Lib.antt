@@ -1,0 +1,9 @@
+pub mod Tabulated
+pub mod Bytes
+pub mod FirstBytes
+pub mod Listed
+pub mod OfUses
+pub mod InRow
+pub mod Turned
+pub mod Enough
+pub mod OtherKinds

@@ -1,0 +1,3 @@
+pub mod Shown
+pub mod Tabled
+pub mod Kinds

@@ -1,3 +1,0 @@
-pub mod Starts
-pub mod Operation
-pub mod Parts

@@ -1,0 +1,186 @@
+// The drain's parts: getting ready, and working and showing what was kept.
+ghost use mathlib.Core.Path.{_≡_};
+ghost use Prim.Native.Nat.{ℕ, _+_, _*_, _-_, _/_, _%_, _<_, _≤_};
+ghost use mathlib.Core.Bool.{Bool, true, false};
+ghost use mathlib.Core.List.{List, [], _∷_};
+ghost use lib.ListN.{length, getD, replicate};
+ghost use Rattle.bit_row.specs.Row.{bytesFor};
+ghost use Rattle.tables.specs.Layout.{startOf};
+ghost use Rattle.graph_tables.specs.Tables.{headerIn};
+ghost use Rattle.graph.specs.Check.{graphIn, HeaderRead};
+ghost use Rattle.determine_side_effects.specs.Effects.{lastVerdicts};
+ghost use Rattle.facts.specs.Facts.{Good, markCount};
+ghost use Rattle.keep_rules.specs.Prepared.{Prepared};
+ghost use Rattle.keep_record.specs.Held.{lineAt, linesOf};
+ghost use Rattle.starts.specs.Starts.{startsOf, StartsGood};
+ghost use Rattle.worklist.specs.Drain.{drainOf};
+ghost use Rattle.answer_rows.specs.Tabled.{FirstBytes};
+ghost use Rattle.drain_parts.specs.Operation.{rows as rowsOf, roomsOf, enough, worked, Ends};
+ghost use Rattle.drain_parts.specs.Parts.{Readied, Worked, RowsFit, RowsShown};
+use answer_rows::Lengths;
+use answer_rows::Row;
+use graph::Checked;
+use graph_format::Header;
+use keep_record::Added;
+use rows::Walk;
+
+// How a drain ends: with so many lines, or with a refusal's number and its place.
+pub enum Drained {
+    Lines(usize),
+    Refused(u32, usize),
+}
+
+// Whether a drain may begin: its tables are filled and all lengths but the record's are enough; or it is refused.
+pub enum Readiness {
+    Good,
+    Refused(u32, usize),
+}
+
+// Gets ready: loads and checks the graph, checks the starts, fills the tables, and compares the lengths of marks and answer rows.
+pub fn ready(
+    numbers: &[u32],
+    starts: &[u32],
+    h: Header,
+    marks: usize,
+    lengths: Lengths,
+    tables: &mut [usize],
+) -> Readiness
+    requires { ⌜ HeaderRead (now numbers) h ⌝ }
+    requires { ⌜ (startOf h 10 ≤ length (now tables)) × (length (now tables) < 4294967296) ⌝ }
+    ensures { λ r. ⌜ Readied (now (numbers .entry)) (now (starts .entry)) marks lengths (now (tables .exit)) r ⌝ }
+{
+    match graph::load(numbers, h, tables) {
+        Checked::Refused(n, p) => Readiness::Refused(n, p),
+        Checked::Accepted => match starts::check(numbers, tables, starts) {
+            Walk::Fault(n, p) => Readiness::Refused(n, p),
+            Walk::At(_) => {
+                rule_tables::fill(numbers, tables);
+                if marks < bit_row::bytes_for(facts::mark_count(numbers, tables)) {
+                    return Readiness::Refused(5, 0);
+                }
+                if !answer_rows::are_long_enough(numbers, tables, lengths) {
+                    return Readiness::Refused(5, 0);
+                }
+                Readiness::Good
+            }
+        },
+    }
+}
+
+// The work: marks and record are cleared, and hold the drain's lines afterwards, or are cleared again where the record is short.
+fn work(
+    numbers: &[u32],
+    tables: &[usize],
+    starts: &[u32],
+    partners: &mut [usize],
+    marks: &mut [u8],
+    lines: &mut [u32],
+) -> Added
+    requires { ⌜ Prepared (now numbers) (now tables) ⌝ }
+    requires { ⌜ (bytesFor (markCount (graphIn (now numbers))) ≤ length (now marks)) × (3 * headerIn (now numbers) .modules + headerIn (now numbers) .symbols ≤ length (now partners)) × ((i : ℕ) → getD (now partners) i 0 ≡ 0) ⌝ }
+    requires { ⌜ StartsGood (graphIn (now numbers)) (startsOf (now starts)) ⌝ }
+    ensures { λ r. ⌜ Worked (graphIn (now (numbers .entry))) (drainOf (graphIn (now (numbers .entry))) (lastVerdicts (graphIn (now (numbers .entry)))) (startsOf (now (starts .entry)))) (now (marks .entry)) (now (lines .entry)) (now (marks .exit)) (now (lines .exit)) r ⌝ }
+{
+    keep_record::clear(marks, lines);
+    match worklist::drain_starts(numbers, tables, starts, partners, marks, lines) {
+        Added::Full => {
+            keep_record::clear(marks, lines);
+            Added::Full
+        }
+        Added::Lines(n) => Added::Lines(n),
+    }
+}
+
+// Writes the six answer rows.
+fn show_all(
+    numbers: &[u32],
+    tables: &[usize],
+    lines: &[u32],
+    count: usize,
+    modules_row: &mut [u8],
+    statements_row: &mut [u8],
+    used: &mut [u8],
+    external: &mut [u8],
+    json: &mut [u8],
+    reason: &mut [u8],
+)
+    requires { ⌜ Prepared (now numbers) (now tables) × FirstBytes (now numbers) (now tables) ⌝ }
+    requires { ⌜ RowsFit (graphIn (now numbers)) (length (now «modules_row»)) (length (now «statements_row»)) (length (now used)) (length (now external)) (length (now json)) (length (now reason)) ⌝ }
+    requires { ⌜ (6 * count ≤ length (now lines)) × ((k : ℕ) → k < count → Good (graphIn (now numbers)) (lineAt (now lines) k .fact)) ⌝ }
+    ensures { λ _. ⌜ RowsShown (graphIn (now (numbers .entry))) (linesOf count (now (lines .entry))) (rowsOf [] [] (now («modules_row» .entry)) (now («statements_row» .entry)) (now (used .entry)) (now (external .entry)) (now (json .entry)) (now (reason .entry))) (rowsOf [] [] (now («modules_row» .exit)) (now («statements_row» .exit)) (now (used .exit)) (now (external .exit)) (now (json .exit)) (now (reason .exit))) ⌝ }
+{
+    answer_rows::show(numbers, tables, Row::Modules, lines, count, modules_row);
+    answer_rows::show(
+        numbers,
+        tables,
+        Row::Statements,
+        lines,
+        count,
+        statements_row,
+    );
+    answer_rows::show(numbers, tables, Row::Used, lines, count, used);
+    answer_rows::show(numbers, tables, Row::External, lines, count, external);
+    answer_rows::show(numbers, tables, Row::Json, lines, count, json);
+    answer_rows::show(numbers, tables, Row::NamespaceReason, lines, count, reason);
+}
+
+// The drain of good starts into rows that are long enough, but perhaps the record.
+pub fn work_and_show(
+    numbers: &[u32],
+    tables: &[usize],
+    starts: &[u32],
+    partners: &mut [usize],
+    marks: &mut [u8],
+    lines: &mut [u32],
+    modules_row: &mut [u8],
+    statements_row: &mut [u8],
+    used: &mut [u8],
+    external: &mut [u8],
+    json: &mut [u8],
+    reason: &mut [u8],
+) -> Drained
+    requires { ⌜ Prepared (now numbers) (now tables) × FirstBytes (now numbers) (now tables) × StartsGood (graphIn (now numbers)) (startsOf (now starts)) ⌝ }
+    requires { ⌜ (3 * headerIn (now numbers) .modules + headerIn (now numbers) .symbols ≤ length (now partners)) × ((i : ℕ) → getD (now partners) i 0 ≡ 0) ⌝ }
+    requires { ⌜ enough (graphIn (now numbers)) (roomsOf (rowsOf (now marks) (now lines) (now «modules_row») (now «statements_row») (now used) (now external) (now json) (now reason))) ≡ true ⌝ }
+    ensures { λ r. ⌜ Ends (worked (graphIn (now (numbers .entry))) (drainOf (graphIn (now (numbers .entry))) (lastVerdicts (graphIn (now (numbers .entry)))) (startsOf (now (starts .entry)))) (length (now (lines .entry)))) r (rowsOf (now (marks .entry)) (now (lines .entry)) (now («modules_row» .entry)) (now («statements_row» .entry)) (now (used .entry)) (now (external .entry)) (now (json .entry)) (now (reason .entry))) (rowsOf (now (marks .exit)) (now (lines .exit)) (now («modules_row» .exit)) (now («statements_row» .exit)) (now (used .exit)) (now (external .exit)) (now (json .exit)) (now (reason .exit))) ⌝ }
+{
+    match work(numbers, tables, starts, partners, marks, lines) {
+        Added::Full => Drained::Refused(5, 0),
+        Added::Lines(n) => {
+            show_all(
+                numbers,
+                tables,
+                lines,
+                n,
+                modules_row,
+                statements_row,
+                used,
+                external,
+                json,
+                reason,
+            );
+            Drained::Lines(n)
+        }
+    }
+}
+
+// The lengths of the answer rows.
+pub fn lengths_of(
+    modules_row: &[u8],
+    statements_row: &[u8],
+    used: &[u8],
+    external: &[u8],
+    json: &[u8],
+    reason: &[u8],
+) -> Lengths
+    ensures { λ r. ⌜ r ≡ record { modules = length (now («modules_row» .entry)); statements = length (now («statements_row» .entry)); used = length (now (used .entry)); external = length (now (external .entry)); json = length (now (json .entry)); reason = length (now (reason .entry)) } ⌝ }
+{
+    Lengths {
+        modules: modules_row.len(),
+        statements: statements_row.len(),
+        used: used.len(),
+        external: external.len(),
+        json: json.len(),
+        reason: reason.len(),
+    }
+}

@@ -1,2 +1,0 @@
-pub mod OfEntries
-pub mod Ranges

@@ -1,0 +1,16 @@
+use Rattle.graph_access.specs.Names.{commonJsNamespaces}
+use borrow.Author.Needs.{needs}
+use Rattle.graph_access.proofs.modules.commonjs_namespace_count.Statement.{statement}
+use Rattle.graph_access.proofs.modules.commonjs_namespace_count.Tie as tie
+
+-- src/modules.rt:337:5
+list-length-requires : tie.Need-list-length-requires
+list-length-requires c κs = search needs
+
+-- src/modules.rt:332:1
+returns : tie.Need-returns
+unfolding commonJsNamespaces
+returns c = c .list-length .ensures
+
+pub commonjs-namespace-count-spec : {M : Type 1} → statement M
+commonjs-namespace-count-spec = tie.close (tie.spec list-length-requires returns)

@@ -1,0 +1,16 @@
+use Rattle.graph_access.specs.Names.{namedImports}
+use borrow.Author.Needs.{needs}
+use Rattle.graph_access.proofs.modules.named_import_count.Statement.{statement}
+use Rattle.graph_access.proofs.modules.named_import_count.Tie as tie
+
+-- src/modules.rt:251:5
+list-length-requires : tie.Need-list-length-requires
+list-length-requires c κs = search needs
+
+-- src/modules.rt:246:1
+returns : tie.Need-returns
+unfolding namedImports
+returns c = c .list-length .ensures
+
+pub named-import-count-spec : {M : Type 1} → statement M
+named-import-count-spec = tie.close (tie.spec list-length-requires returns)

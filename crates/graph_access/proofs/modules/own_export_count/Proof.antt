@@ -1,0 +1,16 @@
+use Rattle.graph_access.specs.Names.{ownExports}
+use borrow.Author.Needs.{needs}
+use Rattle.graph_access.proofs.modules.own_export_count.Statement.{statement}
+use Rattle.graph_access.proofs.modules.own_export_count.Tie as tie
+
+-- src/modules.rt:269:5
+list-length-requires : tie.Need-list-length-requires
+list-length-requires c κs = search needs
+
+-- src/modules.rt:264:1
+returns : tie.Need-returns
+unfolding ownExports
+returns c = c .list-length .ensures
+
+pub own-export-count-spec : {M : Type 1} → statement M
+own-export-count-spec = tie.close (tie.spec list-length-requires returns)

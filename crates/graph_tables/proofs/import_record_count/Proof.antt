@@ -1,0 +1,50 @@
+use Prim.Native.Nat.{ℕ, _+_, _-_, _*_, _<_, _≤_}
+use mathlib.Core.Path.{_≡_, refl, ap, _∙_, sym}
+use native.Mathlib.Omega.{arith}
+use Rattle.graph_tables.proofs.Facts.{at-count-inside, at-count}
+use borrow.Author.Needs.{needs}
+use Rattle.graph_tables.proofs.import_record_count.Statement.{statement}
+use Rattle.graph_tables.proofs.import_record_count.Tie as tie
+use Rattle.graph_tables.proofs.import_record_count.Reads as reads
+use Rattle.graph_tables.proofs.import_record_count.Lts as lts
+use Rattle.rows.proofs.wide.Reads as wide-reads
+
+-- src/lib.rt:29:13
+mul-p : tie.Need-mul-p
+mul-p c = search needs
+
+-- src/lib.rt:29:13
+shared-slice-read-p : tie.Need-shared-slice-read-p
+shared-slice-read-p c = let s = c .before .before .before in omega (arith, s .pre .0 .long, s .pre .1)
+
+-- src/lib.rt:30:24
+add-wide : tie.Need-add-wide
+add-wide c = let s = c .before .before .before in omega (arith, at-count-inside _ _ (s .pre .0) _ (s .pre .1))
+
+-- src/lib.rt:30:16
+mul-wide : tie.Need-mul-wide
+mul-wide c = let s = c .before .before .before in omega (arith, at-count-inside _ _ (s .pre .0) _ (s .pre .1))
+
+-- src/lib.rt:30:16
+shared-slice-read-wide : tie.Need-shared-slice-read-wide
+shared-slice-read-wide c = let s = c .before .before .before .before in at-count-inside _ _ (s .pre .0) _ (s .pre .1)
+
+-- src/lib.rt:30:5
+wide-requires : tie.Need-wide-requires
+wide-requires c κs = search needs
+
+-- src/lib.rt:24:1
+returns : tie.Need-returns
+returns c = let s = c .before .before .before .before .before in c .wide .ensures ∙ at-count _ _ (s .pre .0) _ (s .pre .1)
+
+pub import-record-count-spec : {M : Type 1} → statement M
+import-record-count-spec =
+    tie.close
+    (tie.spec
+    mul-p
+    shared-slice-read-p
+    add-wide
+    mul-wide
+    shared-slice-read-wide
+    wide-requires
+    returns)

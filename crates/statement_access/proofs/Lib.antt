@@ -1,4 +1,0 @@
-pub mod Column
-pub mod ReadReferences
-pub mod OfStatements
-pub mod Ranges
