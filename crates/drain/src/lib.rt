@@ -1,69 +1,18 @@
-// The drain: a graph, starts and lent rows in; a keep record and the answer rows out. Here is which tables it takes, and the order of
-// its parts.
+// The drain: a graph, starts and lent rows in; a keep record and the answer rows out. Here is which tables it takes.
 ghost use mathlib.Core.Path.{_≡_};
 ghost use Prim.Native.Nat.{ℕ, _+_, _*_, _<_, _≤_};
 ghost use mathlib.Core.List.{List, [], _∷_};
-ghost use lib.ListN.{length, getD};
-ghost use Rattle.tables.specs.Layout.{startOf, FitsSize};
+ghost use Rattle.tables.specs.Layout.{FitsSize};
 ghost use Rattle.tables.specs.declared.Size.the-variants.{Small, Middle, Large};
 ghost use Rattle.graph.specs.Check.{HeaderRead};
 ghost use Rattle.drain_parts.specs.Operation.{rows as rowsOf, Drains};
 use drain_parts::Drained;
-use drain_parts::Readiness;
 use graph_format::Header;
 use rows::Walk;
 use tables::LARGE;
 use tables::MIDDLE;
 use tables::SMALL;
 use tables::Size;
-
-// The drain with tables and partners that hold the graph. The partners are cleared.
-fn drain_in(
-    numbers: &[u32],
-    starts: &[u32],
-    h: Header,
-    tables: &mut [usize],
-    partners: &mut [usize],
-    marks: &mut [u8],
-    lines: &mut [u32],
-    modules_row: &mut [u8],
-    statements_row: &mut [u8],
-    used: &mut [u8],
-    external: &mut [u8],
-    json: &mut [u8],
-    reason: &mut [u8],
-) -> Drained
-    requires { ⌜ HeaderRead (now numbers) h ⌝ }
-    requires { ⌜ (startOf h 10 ≤ length (now tables)) × (length (now tables) < 4294967296) ⌝ }
-    requires { ⌜ (3 * h .modules + h .symbols ≤ length (now partners)) × ((i : ℕ) → getD (now partners) i 0 ≡ 0) ⌝ }
-    ensures { λ r. ⌜ Drains (now (numbers .entry)) (now (starts .entry)) r (rowsOf (now (marks .entry)) (now (lines .entry)) (now («modules_row» .entry)) (now («statements_row» .entry)) (now (used .entry)) (now (external .entry)) (now (json .entry)) (now (reason .entry))) (rowsOf (now (marks .exit)) (now (lines .exit)) (now («modules_row» .exit)) (now («statements_row» .exit)) (now (used .exit)) (now (external .exit)) (now (json .exit)) (now (reason .exit))) ⌝ }
-{
-    let lengths = drain_parts::lengths_of(
-        modules_row,
-        statements_row,
-        used,
-        external,
-        json,
-        reason,
-    );
-    match drain_parts::ready(numbers, starts, h, marks.len(), lengths, tables) {
-        Readiness::Refused(n, p) => Drained::Refused(n, p),
-        Readiness::Good => drain_parts::work_and_show(
-            numbers,
-            tables,
-            starts,
-            partners,
-            marks,
-            lines,
-            modules_row,
-            statements_row,
-            used,
-            external,
-            json,
-            reason,
-        ),
-    }
-}
 
 // The drain with tables for a small graph.
 fn drain_small(
@@ -84,7 +33,7 @@ fn drain_small(
 {
     let mut tables = [0usize; SMALL];
     let mut partners = [0usize; 112];
-    drain_in(
+    drain_parts::drain_in(
         numbers,
         starts,
         h,
@@ -121,7 +70,7 @@ fn drain_middle(
 {
     let mut tables = [0usize; MIDDLE];
     let mut partners = [0usize; 1408];
-    let answer = drain_in(
+    let answer = drain_parts::drain_in(
         numbers,
         starts,
         h,
@@ -175,7 +124,7 @@ fn drain_large(
 {
     let mut tables = [0usize; LARGE];
     let mut partners = [0usize; 19456];
-    let answer = drain_in(
+    let answer = drain_parts::drain_in(
         numbers,
         starts,
         h,

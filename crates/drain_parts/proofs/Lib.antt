@@ -1,3 +1,4 @@
 pub mod Working
 pub mod Ending
 pub mod Readying
+pub mod InOrder

@@ -1,4 +1,4 @@
-// The drain's parts: getting ready, and working and showing what was kept.
+// The drain's parts: getting ready, working and showing what was kept, and both in their order.
 ghost use mathlib.Core.Path.{_≡_};
 ghost use Prim.Native.Nat.{ℕ, _+_, _*_, _-_, _/_, _%_, _<_, _≤_};
 ghost use mathlib.Core.Bool.{Bool, true, false};
@@ -15,7 +15,7 @@ ghost use Rattle.keep_record.specs.Held.{lineAt, linesOf};
 ghost use Rattle.starts.specs.Starts.{startsOf, StartsGood};
 ghost use Rattle.worklist.specs.Drain.{drainOf};
 ghost use Rattle.answer_rows.specs.Tabled.{FirstBytes};
-ghost use Rattle.drain_parts.specs.Operation.{rows as rowsOf, roomsOf, enough, worked, Ends};
+ghost use Rattle.drain_parts.specs.Operation.{rows as rowsOf, roomsOf, enough, worked, Ends, Drains};
 ghost use Rattle.drain_parts.specs.Parts.{Readied, Worked, RowsFit, RowsShown};
 use answer_rows::Lengths;
 use answer_rows::Row;
@@ -165,7 +165,7 @@ pub fn work_and_show(
 }
 
 // The lengths of the answer rows.
-pub fn lengths_of(
+fn lengths_of(
     modules_row: &[u8],
     statements_row: &[u8],
     used: &[u8],
@@ -182,5 +182,46 @@ pub fn lengths_of(
         external: external.len(),
         json: json.len(),
         reason: reason.len(),
+    }
+}
+
+// The drain with tables and partners that hold the graph. The partners are cleared.
+pub fn drain_in(
+    numbers: &[u32],
+    starts: &[u32],
+    h: Header,
+    tables: &mut [usize],
+    partners: &mut [usize],
+    marks: &mut [u8],
+    lines: &mut [u32],
+    modules_row: &mut [u8],
+    statements_row: &mut [u8],
+    used: &mut [u8],
+    external: &mut [u8],
+    json: &mut [u8],
+    reason: &mut [u8],
+) -> Drained
+    requires { ⌜ HeaderRead (now numbers) h ⌝ }
+    requires { ⌜ (startOf h 10 ≤ length (now tables)) × (length (now tables) < 4294967296) ⌝ }
+    requires { ⌜ (3 * h .modules + h .symbols ≤ length (now partners)) × ((i : ℕ) → getD (now partners) i 0 ≡ 0) ⌝ }
+    ensures { λ r. ⌜ Drains (now (numbers .entry)) (now (starts .entry)) r (rowsOf (now (marks .entry)) (now (lines .entry)) (now («modules_row» .entry)) (now («statements_row» .entry)) (now (used .entry)) (now (external .entry)) (now (json .entry)) (now (reason .entry))) (rowsOf (now (marks .exit)) (now (lines .exit)) (now («modules_row» .exit)) (now («statements_row» .exit)) (now (used .exit)) (now (external .exit)) (now (json .exit)) (now (reason .exit))) ⌝ }
+{
+    let lengths = lengths_of(modules_row, statements_row, used, external, json, reason);
+    match ready(numbers, starts, h, marks.len(), lengths, tables) {
+        Readiness::Refused(n, p) => Drained::Refused(n, p),
+        Readiness::Good => work_and_show(
+            numbers,
+            tables,
+            starts,
+            partners,
+            marks,
+            lines,
+            modules_row,
+            statements_row,
+            used,
+            external,
+            json,
+            reason,
+        ),
     }
 }

@@ -1,4 +1,5 @@
 use mathlib.Core.Path.{_∙_, refl}
+use lib.ListN.{length-replicate}
 use native.Mathlib.Omega.{arith}
 use Rattle.tables.specs.declared.Size.the-variants.{Large}
 use Rattle.drain.proofs.Twice.{ends-twice}
@@ -9,7 +10,7 @@ use borrow.Fn.PlainCycle.{Measures, is, falls, and}
 use Rattle.drain.proofs.drain_large.Reads as drain-large
 use Rattle.drain.proofs.drain_large.Kinds as drain-large-kinds
 use Rattle.drain.proofs.+drain_large.Lts-drain_large as drain-large-lts
-use Rattle.drain.proofs.drain_in.Reads as drain-in-reads
+use Rattle.drain_parts.proofs.drain_in.Reads as drain-in-reads
 use Rattle.drain.proofs.+drain_large.{statement}
 use Rattle.drain.proofs.+drain_large.Tie.{close}
 
@@ -35,7 +36,7 @@ drain-large-slice-aggregate-drain-in : (t : ℕ) → drain-large-lts.Need-slice-
   drain-large-below t,
   drain-large.Post,
 ) (drain-large-at t) drain-large.Post
-drain-large-slice-aggregate-drain-in t c = refl
+drain-large-slice-aggregate-drain-in t c = length-replicate {A = ℕ} 71691 0
 
 -- src/lib.rt:130:9
 drain-large-slice-aggregate-drain-in-2 :
@@ -45,7 +46,7 @@ drain-large-slice-aggregate-drain-in-2 :
       drain-large-below t,
       drain-large.Post,
     ) (drain-large-at t) drain-large.Post
-drain-large-slice-aggregate-drain-in-2 t c = refl
+drain-large-slice-aggregate-drain-in-2 t c = length-replicate {A = ℕ} 19456 0
 
 -- src/lib.rt:125:9
 drain-large-drain-in-requires : (t : ℕ) → drain-large-lts.Need-drain-in-requires (

@@ -9,7 +9,7 @@ use borrow.Fn.PlainCycle.{Measures, is, falls, and}
 use Rattle.drain.proofs.drain_middle.Reads as drain-middle
 use Rattle.drain.proofs.drain_middle.Kinds as drain-middle-kinds
 use Rattle.drain.proofs.+drain_middle.Lts-drain_middle as drain-middle-lts
-use Rattle.drain.proofs.drain_in.Reads as drain-in-reads
+use Rattle.drain_parts.proofs.drain_in.Reads as drain-in-reads
 use Rattle.drain.proofs.+drain_middle.{statement}
 use Rattle.drain.proofs.+drain_middle.Tie.{close}
 

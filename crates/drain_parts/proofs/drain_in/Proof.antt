@@ -1,7 +1,7 @@
 use mathlib.Core.Path.{refl}
-use Rattle.drain.proofs.Tiers.{partners-fit, tier-enough, tier-refused, tier-worked}
-use Rattle.drain.proofs.drain_in.Statement.{statement}
-use Rattle.drain.proofs.drain_in.Tie as tie
+use Rattle.drain_parts.proofs.InOrder.{partners-fit, tier-enough, tier-refused, tier-worked}
+use Rattle.drain_parts.proofs.drain_in.Statement.{statement}
+use Rattle.drain_parts.proofs.drain_in.Tie as tie
 
 -- src/lib.rt:127:9
 lengths-of-requires : tie.Need-lengths-of-requires
