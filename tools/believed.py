@@ -21,6 +21,8 @@ from pathlib import Path
 BOUNDARY = "host/src/lib.rt"
 THEOREMS = [
     "closed_choices/specs/*.antt",
+    "run_choices/specs/*.antt",
+    "keep/specs/*.antt",
     "determine_side_effects/specs/Paths.antt",
     "determine_side_effects/specs/Sequence.antt",
     "worked_facts/specs/*.antt",

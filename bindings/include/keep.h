@@ -47,6 +47,15 @@ struct keep_drain_answer {
     uint64_t lines;  /* how many record lines were written; 0 if refused */
 };
 
+struct keep_run_answer {
+    uint32_t number;        /* 0: not refused */
+    uint64_t place;         /* where the fault is; 0 for a refusal 5 */
+    uint64_t rounds;        /* how many rounds were made; 0 if refused, as all that follow */
+    uint64_t lines;         /* how many record lines the main stage wrote */
+    uint64_t runtime_lines; /* how many record lines the runtime stage wrote behind them */
+    uint64_t entries;       /* how many final entries were written */
+};
+
 /*
  * Reads the numbers of a file: unsigned LEB128, each in its shortest form and below 2^32.
  *
@@ -101,6 +110,28 @@ struct keep_drain_answer keep_drain(const uint32_t *numbers, size_t numbers_leng
                                     uint8_t *statements, size_t statements_length, uint8_t *used, size_t used_length,
                                     uint8_t *external, size_t external_length, uint8_t *json, size_t json_length,
                                     uint8_t *reason, size_t reason_length);
+
+/*
+ * Works out what the entries of a graph keep, which of the dynamic ones are live, and what the runtime adds.
+ *
+ * Rows as for keep_drain, and with R import records, E entries:
+ *   dead     R bits, the records of all modules in one row: a dynamic import that is dead
+ *   helpers  M numbers: bit h for each runtime helper h that the module needs
+ *   entries  room for E numbers: the final entries, by graph index; only as many are written as are final
+ * modules, statements, used and external are as after the runtime stage; json, reason, dead and helpers as before it.
+ * The record has the lines of the main stage, then those of the runtime stage, whose numbers go on; 3M + S + 20Y lines
+ * are always enough. Marks have the modules and statements of both stages and the other facts of the runtime stage alone.
+ *
+ * Refused as by keep_check; then 5 for a row that is too short, the record last. A refusal leaves marks and record as
+ * lent, except that both are all zero if the record was found short during the work. Not refused: marks and record were
+ * cleared whole and then written from the front.
+ */
+struct keep_run_answer keep_run(const uint32_t *numbers, size_t numbers_length, uint8_t *marks, size_t marks_length,
+                                uint32_t *record, size_t record_length, uint8_t *modules, size_t modules_length,
+                                uint8_t *statements, size_t statements_length, uint8_t *used, size_t used_length,
+                                uint8_t *external, size_t external_length, uint8_t *json, size_t json_length,
+                                uint8_t *reason, size_t reason_length, uint8_t *dead, size_t dead_length,
+                                uint32_t *helpers, size_t helpers_length, uint32_t *entries, size_t entries_length);
 
 #ifdef __cplusplus
 }

@@ -1,5 +1,7 @@
 //! Random graphs that are accepted, random damage to them, and random files of numbers. All follows from a seed.
 
+pub mod runs;
+
 use crate::model::{Encoded, Entry, Graph, Module, Record, Reference, Statement, Symbol};
 use crate::reference::graph::{ENTRIES, HELPERS, MODULES, STATEMENTS, SYMBOLS};
 use crate::reference::leb128;

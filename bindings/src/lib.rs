@@ -1,8 +1,8 @@
 //! The keep decision of a bundler: safe wrappers of the C boundary.
 //!
 //! A graph is a list of numbers. [`read`] takes the numbers of a file (unsigned LEB128, shortest form), [`check`] says
-//! whether numbers are a graph, [`effects`] which of its modules have effects, [`drain`] what some starts keep. All
-//! answer with a struct of the C boundary; its method `result` makes it a `Result`.
+//! whether numbers are a graph, [`effects`] which of its modules have effects, [`drain`] what some starts keep, `run`
+//! what the graph's entries keep. All answer with a struct of the C boundary; its method `result` makes it a `Result`.
 //!
 //! ```no_run
 //! let file = [0x01, 0x80, 0x01];
@@ -17,13 +17,18 @@
 //! The library takes no memory from the heap. A call uses at most [`STACK`] bytes (4 MiB) of the caller's stack. Rust
 //! gives a spawned thread 2 MiB unless told otherwise, so call from the main thread or through [`with_stack`].
 //!
-//! The modules [`mod@reference`], [`model`] and [`generate`] are not wrappers: they are an independent implementation and
-//! a source of graphs, for the tests and the benchmark.
+//! The modules [`mod@reference`], [`model`], [`generate`], [`loads`] and [`happenings`] are not wrappers: they are an
+//! independent implementation and sources of graphs, for the tests and the benchmark.
 
+mod buffers;
 pub mod generate;
+pub mod happenings;
+pub mod listing;
+pub mod loads;
 pub mod model;
 pub mod reference;
 
+pub use buffers::RunBuffers;
 use std::fmt;
 
 /// The most stack that a call of the library uses, in bytes.
@@ -63,6 +68,24 @@ pub struct DrainAnswer {
     pub lines: u64,
 }
 
+/// The answer of a run.
+#[repr(C)]
+#[derive(Clone, Copy, Debug, PartialEq, Eq)]
+pub struct RunAnswer {
+    /// Why it is refused; 0 if it is not.
+    pub number: u32,
+    /// Where the fault is; 0 if it is not refused, and for a refusal 5.
+    pub place: u64,
+    /// How many rounds were made; 0 if it is refused.
+    pub rounds: u64,
+    /// How many record lines the main stage wrote; 0 if it is refused.
+    pub lines: u64,
+    /// How many record lines the runtime stage wrote behind them; 0 if it is refused.
+    pub runtime_lines: u64,
+    /// How many final entries were written; 0 if it is refused.
+    pub entries: u64,
+}
+
 /// The rows that [`drain`] is lent, with M modules, S statements and Y symbols.
 #[derive(Debug)]
 pub struct Rows<'a> {
@@ -82,6 +105,33 @@ pub struct Rows<'a> {
     pub json: &'a mut [u8],
     /// A byte for each module: why its namespace is kept, 1 Unknown, 2 ReExportDynamicExports, 3 both.
     pub reason: &'a mut [u8],
+}
+
+/// The rows that a run is lent, with M modules, S statements, Y symbols, R import records and E entries.
+#[derive(Debug)]
+pub struct RunRows<'a> {
+    /// Working row, a bit for each fact: 2M + S + 63Y bits.
+    pub marks: &'a mut [u8],
+    /// Working row, six numbers a line: the fact, its rule (0 for a start), two earlier lines plus 1.
+    pub record: &'a mut [u32],
+    /// A bit for each module that is kept.
+    pub modules: &'a mut [u8],
+    /// A bit for each statement that is kept; each module's begin at a whole byte.
+    pub statements: &'a mut [u8],
+    /// A bit for each symbol that is used.
+    pub used: &'a mut [u8],
+    /// A bit for each symbol of an external module that is used.
+    pub external: &'a mut [u8],
+    /// A bit for each symbol of a Json module that is used from elsewhere, before the runtime stage.
+    pub json: &'a mut [u8],
+    /// A byte for each module: why its namespace is kept, before the runtime stage.
+    pub reason: &'a mut [u8],
+    /// A bit for each import record, those of all modules in one row: a dynamic import that is dead.
+    pub dead: &'a mut [u8],
+    /// A number for each module: bit h for each runtime helper h that it needs.
+    pub helpers: &'a mut [u32],
+    /// Room for a number an entry: the final entries, by graph index.
+    pub entries: &'a mut [u32],
 }
 
 /// A refusal as an error: its number and its place.
@@ -146,6 +196,21 @@ impl DrainAnswer {
     }
 }
 
+impl RunAnswer {
+    /// The answer of a run that is refused.
+    pub const fn refused(Refused { number, place }: Refused) -> RunAnswer {
+        RunAnswer { number, place, rounds: 0, lines: 0, runtime_lines: 0, entries: 0 }
+    }
+
+    /// The answer as a `Result`: itself, or the refusal.
+    pub fn result(self) -> Result<RunAnswer, Refused> {
+        match self.number {
+            0 => Ok(self),
+            number => Err(Refused { number, place: self.place }),
+        }
+    }
+}
+
 impl fmt::Display for Refused {
     fn fmt(&self, f: &mut fmt::Formatter) -> fmt::Result {
         write!(f, "refused {} at {}", self.number, self.place)
@@ -188,6 +253,32 @@ mod boundary {
             reason: *mut u8,
             reason_length: usize,
         ) -> DrainAnswer;
+        pub fn keep_run(
+            numbers: *const u32,
+            numbers_length: usize,
+            marks: *mut u8,
+            marks_length: usize,
+            record: *mut u32,
+            record_length: usize,
+            modules: *mut u8,
+            modules_length: usize,
+            statements: *mut u8,
+            statements_length: usize,
+            used: *mut u8,
+            used_length: usize,
+            external: *mut u8,
+            external_length: usize,
+            json: *mut u8,
+            json_length: usize,
+            reason: *mut u8,
+            reason_length: usize,
+            dead: *mut u8,
+            dead_length: usize,
+            helpers: *mut u32,
+            helpers_length: usize,
+            entries: *mut u32,
+            entries_length: usize,
+        ) -> super::RunAnswer;
     }
 }
 
@@ -258,6 +349,49 @@ pub fn drain(numbers: &[u32], starts: &[u32], rows: &mut Rows) -> DrainAnswer {
             rows.json.len(),
             rows.reason.as_mut_ptr(),
             rows.reason.len(),
+        )
+    }
+}
+
+/// Works out what the entries of a graph keep, which of the dynamic ones are live, and what the runtime adds.
+///
+/// Refused as by [`check`]; then 5 at place 0 for a row that is too short, the record last. A refusal leaves the answer
+/// rows as lent; marks and record too, except that both are all zero if the record was found short during the work.
+/// Otherwise marks and record were cleared whole and written from the front, and what is past the other answers is as
+/// lent: of `entries` only as many are written as are final.
+///
+/// The record has the lines of the main stage, then those of the runtime stage. Modules, statements, used and external
+/// are as after both; json, reason, dead and helpers as before the runtime stage; marks have the modules and statements
+/// of both and the other facts of the runtime stage alone. [`RunBuffers`] makes rows of the right length.
+#[must_use]
+pub fn run(numbers: &[u32], rows: &mut RunRows) -> RunAnswer {
+    // SAFETY: all slices are valid for their lengths and no two overlap, as Rust's references promise.
+    unsafe {
+        boundary::keep_run(
+            numbers.as_ptr(),
+            numbers.len(),
+            rows.marks.as_mut_ptr(),
+            rows.marks.len(),
+            rows.record.as_mut_ptr(),
+            rows.record.len(),
+            rows.modules.as_mut_ptr(),
+            rows.modules.len(),
+            rows.statements.as_mut_ptr(),
+            rows.statements.len(),
+            rows.used.as_mut_ptr(),
+            rows.used.len(),
+            rows.external.as_mut_ptr(),
+            rows.external.len(),
+            rows.json.as_mut_ptr(),
+            rows.json.len(),
+            rows.reason.as_mut_ptr(),
+            rows.reason.len(),
+            rows.dead.as_mut_ptr(),
+            rows.dead.len(),
+            rows.helpers.as_mut_ptr(),
+            rows.helpers.len(),
+            rows.entries.as_mut_ptr(),
+            rows.entries.len(),
         )
     }
 }

@@ -1,7 +1,8 @@
 //! The library against the reference: the same input, in the same run, by turns, best of several rounds.
 
 use lizdakk::generate::{self, Random, PRINTED};
-use lizdakk::model::{Entry, Graph, Module, Record, Reference, Statement, Symbol};
+use lizdakk::loads;
+use lizdakk::model::{Graph, Module, Statement, Symbol};
 use lizdakk::reference::drain::LINE;
 use lizdakk::reference::rows::Answer;
 use lizdakk::reference::rules::{Fact, Rules};
@@ -18,7 +19,7 @@ const TURN: Duration = Duration::from_millis(1);
 
 fn main() {
     with_stack(|| {
-        let graph = bundle();
+        let graph = loads::bundle(1_000);
         let bundle = graph.numbers();
         println!(
             "{:<44} {:>8} {:>12} {:>12} {:>7} {:>7} {:>6}",
@@ -33,6 +34,7 @@ fn main() {
         bench_drain("drain, all statements of the bundle, by lines", &bundle, &statements);
         bench_decoded("the same, reference with a decoded graph", &graph, &statements);
         bench_drain("drain, printed case from its entry, by lines", &PRINTED, &[1, 1, 0]);
+        runs::bench_runs();
     });
 }
 
@@ -122,6 +124,78 @@ impl DrainRows {
     }
 }
 
+/// Runs; their time is given for each record line of both stages.
+mod runs {
+    use super::compare;
+    use lizdakk::generate::PRINTED;
+    use lizdakk::loads::loads;
+    use lizdakk::model::Graph;
+    use lizdakk::reference::drain::LINE;
+    use lizdakk::reference::run::{self, Run};
+    use lizdakk::{reference, RunRows};
+    use std::hint::black_box;
+
+    pub fn bench_runs() {
+        for load in loads() {
+            let numbers = load.graph.numbers();
+            bench_run(&format!("run, {}", load.name), &numbers);
+            bench_decoded("the same, reference with a decoded graph", &numbers, &load.graph);
+        }
+        bench_run("run, printed case", &PRINTED);
+    }
+
+    fn bench_run(name: &str, numbers: &[u32]) {
+        let run = run::answer(numbers).expect("a good graph");
+        let (mut row, mut expected_row) = (RowsOfRun::new(&run), RowsOfRun::new(&run));
+        let library = lizdakk::run(numbers, &mut row.lend());
+        let expected = reference::run(numbers, &mut expected_row.lend());
+        assert_eq!(library, expected, "{name}");
+        assert_eq!(row, expected_row, "{name}");
+        compare(
+            name,
+            run.lines.len() + run.runtime_lines.len(),
+            || lizdakk::run(black_box(numbers), &mut row.lend()),
+            || reference::run(black_box(numbers), &mut expected_row.lend()),
+        );
+    }
+
+    /// A run against the reference's without its check and decoding.
+    fn bench_decoded(name: &str, numbers: &[u32], graph: &Graph) {
+        let run = Run::of(graph);
+        let (mut row, mut expected_row) = (RowsOfRun::new(&run), RowsOfRun::new(&run));
+        compare(
+            name,
+            run.lines.len() + run.runtime_lines.len(),
+            || lizdakk::run(black_box(numbers), &mut row.lend()),
+            || Run::of(black_box(graph)).put(&mut expected_row.lend()),
+        );
+    }
+
+    /// Rows to lend to a run, each exactly long enough.
+    #[derive(PartialEq, Debug)]
+    struct RowsOfRun {
+        bytes: [Vec<u8>; 8],
+        words: [Vec<u32>; 3],
+    }
+
+    impl RowsOfRun {
+        fn new(run: &Run) -> RowsOfRun {
+            let Run { marks, modules, statements, used, external, json, reason, dead, .. } = run;
+            let bytes = [marks, modules, statements, used, external, json, reason, dead];
+            let lines = run.lines.len() + run.runtime_lines.len();
+            let words = [LINE * lines, run.helpers.len(), run.all_entries];
+            RowsOfRun { bytes: bytes.map(|row| vec![0; row.len()]), words: words.map(|length| vec![0; length]) }
+        }
+
+        fn lend(&mut self) -> RunRows<'_> {
+            let [marks, modules, statements, used, external, json, reason, dead] =
+                self.bytes.each_mut().map(Vec::as_mut_slice);
+            let [record, helpers, entries] = self.words.each_mut().map(Vec::as_mut_slice);
+            RunRows { marks, record, modules, statements, used, external, json, reason, dead, helpers, entries }
+        }
+    }
+}
+
 /// Measures both by turns and prints the best of each, in all and for each of so many numbers or lines.
 fn compare<L, R>(name: &str, count: usize, mut library: impl FnMut() -> L, mut reference: impl FnMut() -> R) {
     let times = repetitions(&mut library).max(repetitions(&mut reference));
@@ -158,116 +232,6 @@ fn nanoseconds<T>(times: u32, run: &mut impl FnMut() -> T) -> f64 {
         black_box(run());
     }
     start.elapsed().as_nanos() as f64 / f64::from(times)
-}
-
-const MODULES: u32 = 1_000;
-const SYMBOLS: u32 = 16_000;
-const STATEMENTS: u32 = 16_000;
-
-/// A bundle: each twentieth module is external, the others have some 17 statements.
-fn bundle() -> Graph {
-    let mut random = Random::new(1);
-    let mut graph = Graph { options: 1, runtime: 1, helpers: (0..8).collect(), ..Graph::default() };
-    graph.modules = (0..MODULES).map(|index| Module { normal: index % 20 != 0, ..Module::default() }).collect();
-    let normal: Vec<usize> = (0..MODULES as usize).filter(|index| index % 20 != 0).collect();
-    for statement in 0..STATEMENTS as usize {
-        graph.modules[normal[statement % normal.len()]].statements.push(Statement::default());
-    }
-    for (index, module) in (0..).zip(&mut graph.modules) {
-        fill_module(&mut random, index, module);
-    }
-    graph.symbols = (0..SYMBOLS).map(|index| symbol(&mut random, index, &graph.modules)).collect();
-    graph.entries = (0..40).map(|index| entry(&mut random, index)).collect();
-    graph
-}
-
-/// Symbols `index`, `index + MODULES` and so on are the module's, the first of them its namespace.
-fn fill_module(random: &mut Random, index: u32, module: &mut Module) {
-    if !module.normal {
-        return;
-    }
-    module.namespace = index + 1;
-    module.effects = random.below(2);
-    module.kind = random.below(2);
-    module.scan_effects = module.effects;
-    module.scan_statements = module.statements.len() as u32;
-    module.records = (0..6).map(|_| record(random)).collect();
-    module.dependencies = indexes(random, 5, MODULES);
-    module.named_imports = indexes(random, 8, SYMBOLS);
-    module.own_exports = indexes(random, 6, SYMBOLS);
-    module.resolved_exports = names(random, 10).into_iter().map(|name| [name, random.below(SYMBOLS), 0]).collect();
-    if random.chance(20) {
-        module.commonjs_namespaces = vec![[random.below(SYMBOLS), random.below(MODULES)]];
-    }
-    if random.chance(10) {
-        module.enum_members = (0..4).map(|member| [random.below(9_000), member]).collect();
-    }
-    if random.chance(25) {
-        module.helpers = vec![[random.below(8), 1]];
-    }
-    let records = module.records.len() as u32;
-    for statement in &mut module.statements {
-        statement.bits = random.below(32);
-        statement.records = if random.chance(25) { indexes(random, 1, records) } else { Vec::new() };
-        statement.references = (0..random.below(7)).map(|_| reference(random)).collect();
-    }
-}
-
-/// A record with a target.
-fn record(random: &mut Random) -> Record {
-    Record {
-        target: random.between(1, MODULES),
-        kind: if random.chance(80) { 0 } else { random.below(3) },
-        bits: random.below(4),
-    }
-}
-
-fn indexes(random: &mut Random, count: u32, bound: u32) -> Vec<u32> {
-    (0..count).map(|_| random.below(bound)).collect()
-}
-
-/// Distinct names in no order.
-fn names(random: &mut Random, count: u32) -> Vec<u32> {
-    let first = random.below(9_000);
-    let mut names: Vec<u32> = (0..count).map(|index| first + 37 * index).collect();
-    generate::shuffle(random, &mut names);
-    names
-}
-
-fn symbol(random: &mut Random, index: u32, modules: &[Module]) -> Symbol {
-    let owner = index % MODULES;
-    let statements = modules[owner as usize].statements.len() as u32;
-    let declared = statements > 0;
-    // Symbols of the first half are their own roots; a few of the others are rooted there.
-    let root = if index >= SYMBOLS / 2 && random.chance(30) { random.below(SYMBOLS / 2) } else { index };
-    Symbol {
-        owner,
-        name: random.below(9_000),
-        root,
-        alias_namespace: if random.chance(5) { random.below(SYMBOLS) + 1 } else { 0 },
-        constant: if random.chance(10) { 3 } else { 0 },
-        chain: if random.chance(10) { indexes(random, 2, SYMBOLS) } else { Vec::new() },
-        declaring: if declared { indexes(random, 1, statements) } else { Vec::new() },
-        written: if declared && random.chance(5) { indexes(random, 1, statements) } else { Vec::new() },
-        ..Symbol::default()
-    }
-}
-
-fn reference(random: &mut Random) -> Reference {
-    let symbol = random.below(SYMBOLS);
-    match random.below(20) {
-        0..=11 => Reference::Symbol(symbol),
-        12 => Reference::Nothing,
-        13..=16 => Reference::Resolved { symbol, commonjs: 0, depended: indexes(random, 1, SYMBOLS) },
-        _ => Reference::Member { object: symbol, write: 0, properties: 1, first: random.below(9_000) },
-    }
-}
-
-/// Two user-defined entries, then dynamic ones with a few related statements.
-fn entry(random: &mut Random, index: u32) -> Entry {
-    let related = if index < 2 { 0 } else { 4 };
-    let related = (0..related).map(|_| [random.below(50) * 20 + 1, random.below(16), random.below(6), 0]).collect();
-    Entry { module: random.below(50) * 20 + 1, kind: if index < 2 { 0 } else { 2 }, related }
 }
 
 /// One module with the longest lists in which repeats are looked for; the export names are multiples of `step`.

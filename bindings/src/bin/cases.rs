@@ -3,18 +3,26 @@
 //! `cases check COUNT [SEED]`: lines `number place | n0 n1 ...`; `cases read COUNT [SEED]`: lines
 //! `number place count | hex bytes | room`; `cases effects COUNT [SEED]`: lines `v0 v1 ... | n0 n1 ...`, the last
 //! verdict of each module; `cases drain COUNT [SEED]`: lines `n0 n1 ... | starts | record | used symbols | external
-//! symbols | json symbols | REASON of each module`.
+//! symbols | json symbols | REASON of each module`; `cases run COUNT [SEED]`: lines `n0 n1 ... | rounds | main record |
+//! runtime record | final entries | dead | helper words | marks | modules | statements | used | external | json | REASON |
+//! starts`, each row byte by byte.
 
+use lizdakk::generate::runs::small_run_graph;
 use lizdakk::generate::{self, Random, Size};
+use lizdakk::happenings::{happenings, Happenings};
 use lizdakk::model::{Encoded, Graph};
+use lizdakk::reference::drain::Line;
+use lizdakk::reference::run::Run;
 use lizdakk::reference::{drain, effects};
 use lizdakk::{reference, Refusal, Refused};
-use std::collections::HashSet;
+use std::collections::{HashMap, HashSet};
 
 /// The most numbers of a printed graph, and the most bytes of a printed file.
 const LONGEST: usize = 120;
 /// The most numbers of a printed graph with verdicts or starts.
 const LONGEST_KEPT: usize = 160;
+/// The most numbers of a printed graph with a run.
+const LONGEST_RUN: usize = 250;
 /// The most lines of a printed record.
 const LINES: usize = 60;
 
@@ -28,7 +36,8 @@ fn main() {
         Some("read") => read_cases(&mut random, count),
         Some("effects") => effects_cases(&mut random, count),
         Some("drain") => drain_cases(&mut random, count),
-        _ => eprintln!("cases check|read|effects|drain COUNT [SEED]"),
+        Some("run") => run_cases(&mut random, count),
+        _ => eprintln!("cases check|read|effects|drain|run COUNT [SEED]"),
     }
 }
 
@@ -223,4 +232,54 @@ fn print_drain(case: &DrainCase) {
 /// The bits that are set, ascending.
 fn bits_of(row: &[u8]) -> Vec<usize> {
     (0..8 * row.len()).filter(|bit| row[bit / 8] >> (bit % 8) & 1 == 1).collect()
+}
+
+/// A run to print.
+struct RunCase {
+    numbers: Vec<u32>,
+    run: Run,
+    happenings: Happenings,
+}
+
+/// Of several runs each time the one in which happens what was shown least.
+fn run_cases(random: &mut Random, count: usize) {
+    const CANDIDATES: usize = 40;
+    let mut shown: HashMap<&str, usize> = HashMap::new();
+    for _ in 0..count {
+        let candidates = (0..CANDIDATES).map(|_| run_case(random));
+        let times = |name: &&str| shown.get(name).copied().unwrap_or(0);
+        let worth = |case: &RunCase| case.happenings.iter().map(|name| 1_000_000 / (1 + times(name))).sum::<usize>();
+        let best = candidates.max_by_key(worth).expect("there are candidates");
+        for &name in &best.happenings {
+            *shown.entry(name).or_default() += 1;
+        }
+        print_run(&best);
+    }
+}
+
+fn run_case(random: &mut Random) -> RunCase {
+    loop {
+        let graph = small_run_graph(random);
+        let numbers = graph.numbers();
+        if numbers.len() > LONGEST_RUN {
+            continue;
+        }
+        let run = Run::of(&graph);
+        if run.lines.len() + run.runtime_lines.len() <= LINES {
+            let happenings = happenings(&graph, &run);
+            return RunCase { numbers, run, happenings };
+        }
+    }
+}
+
+fn print_run(RunCase { numbers, run, .. }: &RunCase) {
+    let record = |lines: &[Line]| lines.iter().flat_map(|line| line.numbers()).collect::<Vec<u32>>();
+    let starts: Vec<u32> = run.starts.iter().flat_map(|start| start.parts()).collect();
+    let rows = [&run.marks, &run.modules, &run.statements, &run.used, &run.external, &run.json, &run.reason];
+    let mut parts = vec![words(numbers), run.rounds.to_string()];
+    parts.extend([words(&record(&run.lines)), words(&record(&run.runtime_lines))]);
+    parts.extend([words(&run.entries), words(&run.dead), words(&run.helpers)]);
+    parts.extend(rows.map(|row| words(row)));
+    parts.push(words(&starts));
+    println!("{}", parts.join(" | "));
 }

@@ -18,19 +18,25 @@ pub struct Shown {
 
 /// The smallest set that holds the starts and all that the rules give from its own facts, and what it shows.
 pub fn closure(graph: &Graph, starts: &[Fact]) -> (HashSet<Fact>, Shown) {
+    closure_over(graph, starts, &HashSet::new())
+}
+
+/// The same over modules and statements that are kept already: they are not among the facts and give nothing again,
+/// but a forward finds its module among them.
+pub fn closure_over(graph: &Graph, starts: &[Fact], kept: &HashSet<Fact>) -> (HashSet<Fact>, Shown) {
     let context = Context { graph, verdicts: verdicts_by_paths(graph) };
-    let mut facts: HashSet<Fact> = starts.iter().copied().collect();
+    let mut facts: HashSet<Fact> = starts.iter().copied().filter(|fact| !kept.contains(fact)).collect();
     let mut shown = Shown::default();
     loop {
         let before: Vec<Fact> = facts.iter().copied().collect();
+        let mut given = Vec::new();
         for &fact in &before {
-            context.handle(fact, &mut shown, &mut |new| {
-                facts.insert(new);
-            });
-            for &other in &before {
-                facts.extend(context.retained(fact, other));
+            context.handle(fact, &mut shown, &mut |new| given.push(new));
+            for &module in before.iter().chain(kept) {
+                given.extend(context.retained(module, fact));
             }
         }
+        facts.extend(given.into_iter().filter(|fact| !kept.contains(fact)));
         if facts.len() == before.len() {
             return (facts, shown);
         }

@@ -3,6 +3,7 @@
 use super::rows::{bit_row, set, Answer, MarkLayout};
 use super::rules::{Fact, Rules};
 use super::{check, decode::decode};
+use crate::listing::is_set;
 use crate::{DrainAnswer, Refused, Rows};
 
 /// How many numbers a record line has.
@@ -28,14 +29,13 @@ impl Line {
 pub fn lines(rules: &Rules, starts: &[Fact]) -> Vec<Line> {
     let mut queue = Queue::new(rules);
     for &start in starts {
-        queue.written.add(start, 0, [0, 0]);
-        queue.work_off();
+        queue.start(start);
     }
-    queue.written.lines
+    queue.into_lines()
 }
 
-/// The lines written so far, and how many of them were handled.
-struct Queue<'a> {
+/// The lines that a stage wrote so far, and how many of them were handled.
+pub struct Queue<'a> {
     rules: &'a Rules<'a>,
     written: Written,
     handled: usize,
@@ -44,8 +44,12 @@ struct Queue<'a> {
 /// The lines written so far, with what finds a fact among them.
 struct Written {
     lines: Vec<Line>,
+    /// How many lines earlier stages wrote: line numbers go on from there.
+    before: u32,
     layout: MarkLayout,
     marks: Vec<u8>,
+    /// By module: whether an earlier stage kept it.
+    kept_before: Vec<bool>,
     /// By module: its line plus 1, 0 if it has none.
     module_lines: Vec<u32>,
     /// By module: forward and line plus 1 of each forward that it owns, by line.
@@ -54,13 +58,28 @@ struct Written {
 }
 
 impl Written {
-    /// Writes a line unless the fact has one.
+    fn new(rules: &Rules) -> Written {
+        let layout = MarkLayout::new(rules.graph);
+        let modules = rules.graph.modules.len();
+        Written {
+            lines: Vec::new(),
+            before: 0,
+            marks: bit_row(layout.bits()),
+            layout,
+            kept_before: vec![false; modules],
+            module_lines: vec![0; modules],
+            forwards: vec![Vec::new(); modules],
+            owners: rules.graph.symbols.iter().map(|symbol| symbol.owner).collect(),
+        }
+    }
+
+    /// Writes a line unless the fact has one, or is a module or a statement that was kept before.
     fn add(&mut self, fact: Fact, rule: u32, names: [u32; 2]) {
         if !set(&mut self.marks, self.layout.bit(fact)) {
             return;
         }
         self.lines.push(Line { fact, rule, names });
-        let number = self.lines.len() as u32;
+        let number = self.before + self.lines.len() as u32;
         match fact {
             Fact::Module(module) => self.module_lines[module as usize] = number,
             Fact::Forward(symbol) => {
@@ -72,25 +91,49 @@ impl Written {
 }
 
 impl<'a> Queue<'a> {
-    fn new(rules: &'a Rules<'a>) -> Queue<'a> {
-        let layout = MarkLayout::new(rules.graph);
-        let modules = rules.graph.modules.len();
-        let written = Written {
-            lines: Vec::new(),
-            marks: bit_row(layout.bits()),
-            layout,
-            module_lines: vec![0; modules],
-            forwards: vec![Vec::new(); modules],
-            owners: rules.graph.symbols.iter().map(|symbol| symbol.owner).collect(),
-        };
+    pub fn new(rules: &'a Rules<'a>) -> Queue<'a> {
+        Queue { rules, written: Written::new(rules), handled: 0 }
+    }
+
+    /// A stage that goes on behind the lines of an earlier one: the modules and statements of those are kept already,
+    /// their other facts are forgotten.
+    pub fn after(rules: &'a Rules<'a>, earlier: &[Line]) -> Queue<'a> {
+        let mut written = Written { before: earlier.len() as u32, ..Written::new(rules) };
+        for line in earlier {
+            match line.fact {
+                Fact::Module(module) => written.kept_before[module as usize] = true,
+                Fact::Statement(..) => {}
+                _ => continue,
+            }
+            set(&mut written.marks, written.layout.bit(line.fact));
+        }
         Queue { rules, written, handled: 0 }
+    }
+
+    /// Writes a line for a start unless it is a fact already, and the lines that follow.
+    pub fn start(&mut self, fact: Fact) {
+        self.written.add(fact, 0, [0, 0]);
+        self.work_off();
+    }
+
+    /// Whether the fact has a line, or is a module or a statement that was kept before.
+    pub fn has(&self, fact: Fact) -> bool {
+        is_set(&self.written.marks, self.written.layout.bit(fact))
+    }
+
+    pub fn lines(&self) -> &[Line] {
+        &self.written.lines
+    }
+
+    pub fn into_lines(self) -> Vec<Line> {
+        self.written.lines
     }
 
     fn work_off(&mut self) {
         while let Some(line) = self.written.lines.get(self.handled) {
             let fact = line.fact;
             self.handled += 1;
-            self.handle(fact, self.handled as u32);
+            self.handle(fact, self.written.before + self.handled as u32);
         }
     }
 
@@ -115,10 +158,13 @@ impl<'a> Queue<'a> {
         }
     }
 
-    /// K1 at a forward's line, with its owner on an earlier line.
+    /// K1 at a forward's line, with its owner on an earlier line or kept before.
     fn join_module(&mut self, symbol: u32, number: u32) {
-        let line = self.written.module_lines[self.rules.symbol(symbol).owner as usize];
-        if line != 0 && line < number {
+        let owner = self.rules.symbol(symbol).owner as usize;
+        let line = self.written.module_lines[owner];
+        if self.written.kept_before[owner] {
+            self.join(symbol, [number, 0]);
+        } else if line != 0 && line < number {
             self.join(symbol, [number, line]);
         }
     }

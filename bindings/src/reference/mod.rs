@@ -4,14 +4,20 @@
 pub mod closure;
 pub mod decode;
 pub mod drain;
+pub mod dynamic_entries;
 pub mod effects;
+pub mod entries;
 pub mod graph;
+pub mod helpers;
 pub mod leb128;
 pub mod rows;
 pub mod rules;
+pub mod run;
+pub mod run_by_sets;
 mod seen;
 
 pub use drain::drain;
 pub use effects::effects;
 pub use graph::check;
 pub use leb128::read;
+pub use run::run;

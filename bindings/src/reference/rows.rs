@@ -2,8 +2,10 @@
 
 use super::drain::{Line, LINE};
 use super::rules::{reason, Fact, Rules};
+use crate::listing::first_statement_bytes;
 use crate::model::Graph;
 use crate::{DrainAnswer, Refused, Rows};
+use std::ops::Range;
 
 const JSON: u32 = 2;
 /// How many reasons there are.
@@ -50,6 +52,16 @@ impl MarkLayout {
     pub fn bits(&self) -> usize {
         self.end
     }
+
+    /// The bits of modules.
+    pub fn modules(&self) -> Range<usize> {
+        0..self.modules
+    }
+
+    /// The bits of statements.
+    pub fn statements(&self) -> Range<usize> {
+        2 * self.modules..self.forwards
+    }
 }
 
 /// A row of bits, from bit 0 of byte 0.
@@ -82,7 +94,7 @@ impl Answer {
     pub fn new(rules: &Rules, lines: Vec<Line>) -> Answer {
         let (modules, symbols) = (rules.graph.modules.len(), rules.graph.symbols.len());
         let layout = MarkLayout::new(rules.graph);
-        let parts = statement_parts(rules.graph);
+        let parts = first_statement_bytes(rules.graph);
         let mut answer = Answer {
             lines: Vec::new(),
             marks: bit_row(layout.bits()),
@@ -180,13 +192,4 @@ fn namespace_reason(reason: u32) -> u8 {
     } else {
         0
     }
-}
-
-/// The first byte of each module's statements, then the length of the row.
-fn statement_parts(graph: &Graph) -> Vec<usize> {
-    let mut parts = vec![0];
-    for module in &graph.modules {
-        parts.push(parts[parts.len() - 1] + module.statements.len().div_ceil(8));
-    }
-    parts
 }

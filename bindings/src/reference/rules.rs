@@ -48,6 +48,7 @@ pub mod option {
     pub const COMMONJS_SHAKING: u32 = 4;
     pub const PROPERTY_WRITES_FALSE: u32 = 8;
     pub const DEV_MODE: u32 = 16;
+    pub const SPLITTING_OFF: u32 = 32;
 }
 
 /// Bits of a reason.
@@ -128,11 +129,12 @@ impl<'a> Rules<'a> {
         &self.graph.symbols[index as usize]
     }
 
-    fn has(&self, option: u32) -> bool {
+    pub fn has(&self, option: u32) -> bool {
         self.graph.options & option != 0
     }
 
-    fn effectful(&self, module: u32) -> bool {
+    /// Whether the last verdict of a module is one of effects.
+    pub fn effectful(&self, module: u32) -> bool {
         is_effectful(self.verdicts[module as usize])
     }
 

@@ -5,12 +5,12 @@ use mathlib.Core.Bool.{Bool, true, false}
 use mathlib.Core.List.{List, [], _∷_}
 use native.Mathlib.Decide.{decLt}
 use native.Mathlib.Omega.{arith}
-use borrow.Author.Tests.{eqb-true, ltb-false}
+use borrow.Author.Tests.{eqb-true, eq-eqb, ltb-false}
 use lib.Dec.{eqb, ltb}
 use lib.ListN.{length, getD}
 use Rattle.rows.specs.Walk.{got, ListRule, lists, Item, noItem}
 use Rattle.rows.proofs.Items.{list-got, lists-first}
-use Rattle.graph_format.specs.Format.{moduleRules, moduleLists, importLists, exportLists, nameLists, leastStatements, symbolRules, symbolLists, statementLists, statementsOf, importRecordsOf}
+use Rattle.graph_format.specs.Format.{moduleRules, moduleLists, importLists, exportLists, nameLists, leastStatements, symbolRules, symbolLists, statementLists, kindOf, statementsOf, importRecordsOf}
 use Rattle.graph_tables.specs.Tables.{itemsOf, headerIn, modulesIn, firstOf}
 use Rattle.graph_tables.proofs.Facts.{modules-long, its-read, number-same, symbol-read}
 use Rattle.graph_tables.proofs.ByModule.{first-step, first-mono}
@@ -19,11 +19,12 @@ use Rattle.graph.proofs.LaterRules.{namespace-fits}
 use Rattle.graph.proofs.WellFormed.{helper-count, helper-same, helper-below}
 use Rattle.graph_access.specs.Lists.{moduleWidths, moduleLimits, symbolLimits}
 use Rattle.graph_access.specs.Words.{rootOf}
-use Rattle.graph_access.specs.Names.{kind, effects, wrapper, namespace, statementCount, scanEffects, importRecords, dependencies, namedImports, ownExports, entryReferences, commonJsExportSymbols, resolvedExports, commonJsNamespaces, only, importRecordTarget, exportSymbol, namespaceSymbol, namespaceModule, owner, aliasNamespace, exportChain, declaringStatements, writtenPropertyStatements, statementImportRecords, references, entryModule, entryKind}
+use Rattle.graph_access.specs.Names.{kind, effects, wrapper, namespace, statementCount, scanEffects, importRecords, dependencies, namedImports, ownExports, entryReferences, commonJsExportSymbols, resolvedExports, commonJsNamespaces, only, importRecordTarget, exportSymbol, namespaceSymbol, namespaceModule, owner, aliasNamespace, exportChain, declaringStatements, writtenPropertyStatements, statementImportRecords, references, moduleHelpers, helperNumber, helperStatement, entryModule, entryKind, related, relatedModule, relatedStatement, relatedImportRecord, unreachable}
 use Rattle.graph_access.proofs.Ranges.{module-list-below, symbol-list-below, wrapper-below as wrapper-is, owner-below as owner-is, root-below as root-is, alias-below as alias-is}
 use Rattle.graph_access.proofs.OfStatements.{its-read as statement-read}
 use Rattle.graph_access.proofs.StatementRanges.{record-below, ReferenceGood, reference-good}
-use Rattle.graph_access.proofs.EntryRanges.{module-below, kind-below}
+use Rattle.graph_access.proofs.EntryRanges.{module-below, kind-below, related-good}
+use Rattle.graph_access.specs.Related.{RelatedHere}
 use Rattle.graph_access.specs.Words.{moduleOf, symbolOf, statementList, statementOf, entryOf, normal}
 use Rattle.graph.specs.Loaded.{Loaded}
 use Rattle.graph_access.proofs.StatementNumbers.{all-long, number-below}
@@ -121,6 +122,15 @@ module _ {numbers tables : List ℕ} (t : Loaded numbers tables) where
   namespace-row-below m k h l =
       (module-list-below numbers _ (t .of-modules) m h 7 k 0 (omega arith) l (omega arith), module-list-below numbers _ (t .of-modules) m h 7 k 1 (omega arith) l (omega arith))
 
+  pub helper-row-below : (m k : ℕ) → m < headerIn numbers .modules → k < length (moduleHelpers (moduleOf (graphIn numbers) m))
+      → (helperNumber (getD (moduleHelpers (moduleOf (graphIn numbers) m)) k []) < headerIn numbers .helpers) × (helperStatement (getD (moduleHelpers (moduleOf (graphIn numbers) m)) k []) < length (statementList (graphIn numbers) m))
+  unfolding helperNumber helperStatement moduleHelpers moduleOf graphIn moduleLimits moduleWidths statementsOf
+  helper-row-below m k h l =
+      let s = all-long t m h in
+      let r : getD (getD (getD (getD (modulesIn numbers) m noItem .rows) 9 []) k []) 1 0 < getD (getD (modulesIn numbers) m noItem .head) 9 0 =
+      module-list-below numbers _ (t .of-modules) m h 9 k 1 (omega arith) l (omega arith) in
+      (module-list-below numbers _ (t .of-modules) m h 9 k 0 (omega arith) l (omega arith), omega (arith, r, s))
+
   pub record-target-below : (m k : ℕ) → m < headerIn numbers .modules → k < length (importRecords (moduleOf (graphIn numbers) m)) → importRecordTarget (getD (importRecords (moduleOf (graphIn numbers) m)) k []) ≤ headerIn numbers .modules
   unfolding importRecordTarget importRecords moduleOf graphIn moduleLimits moduleWidths
   record-target-below m k h l = omega (arith, module-list-below numbers _ (t .of-modules) m h 0 k 0 (omega arith) l (omega arith))
@@ -214,6 +224,19 @@ module _ {numbers tables : List ℕ} (t : Loaded numbers tables) where
   pub entry-kind-below : (e : ℕ) → e < headerIn numbers .entries → entryKind (entryOf (graphIn numbers) e) < 3
   unfolding entryKind entryOf graphIn
   entry-kind-below e h = kind-below numbers _ (t .of-entries) e h
+
+  -- a related statement: in range, of a normal module, its import record resolved
+  pub related-here : (e k : ℕ) → e < headerIn numbers .entries → k < length (related (entryOf (graphIn numbers) e)) → RelatedHere (graphIn numbers) (getD (related (entryOf (graphIn numbers) e)) k [])
+  unfolding related entryOf relatedModule relatedStatement relatedImportRecord importRecords importRecordTarget importRecordsOf statementsOf moduleOf graphIn normal kind kindOf
+  related-here e k h l =
+      let r = related-good numbers _ (t .of-entries) e h k l in
+      record {
+        inside = r .inside;
+        is-normal = eq-eqb _ _ (r .normal);
+        statement-inside = (let s = all-long t _ (r .inside) in omega (arith, r .statement, s));
+        import-record-inside = r .import-record;
+        resolved = r .resolved;
+      }
 
   -- helper symbols
   helper-one : (k : ℕ) → k < headerIn numbers .helpers → k < length (itemsOf (helpersAt (headerIn numbers) numbers 7))

@@ -7,10 +7,21 @@ ghost use Rattle.graph_tables.specs.Tables.{headerIn};
 ghost use Rattle.graph.specs.Check.{graphIn};
 ghost use Rattle.graph.specs.Loaded.{Loaded};
 ghost use Rattle.graph_access.specs.Names.{entryModule, entryKind, related};
+ghost use Rattle.graph_access.specs.Related.{RelatedIs};
 ghost use Rattle.graph_access.specs.Words.{entryOf};
 use index::EntryIdx;
+use index::ImportRecordIdx;
 use index::ModuleIdx;
+use index::StmtIdx;
 use tables::ENTRIES;
+
+// A statement that is related to an entry: where it stands, its import record, and 1 if it can't be reached.
+pub struct RelatedStmt {
+    pub module: ModuleIdx,
+    pub statement: StmtIdx,
+    pub import_record: ImportRecordIdx,
+    pub unreachable: usize,
+}
 
 // Number i of the two leading numbers of an entry.
 fn number(numbers: &[u32], tables: &[usize], e: EntryIdx, i: usize) -> usize
@@ -70,4 +81,21 @@ pub fn related_number(
     let a = e.0;
     let p = places[a];
     rows::wide(numbers[p + 3 + 4 * k + column])
+}
+
+// Related statement k.
+pub fn related_statement(numbers: &[u32], tables: &[usize], e: EntryIdx, k: usize) -> RelatedStmt
+    requires { ⌜ Loaded (now numbers) (now tables) ⌝ }
+    requires { ⌜ (e .0 < headerIn (now numbers) .entries) × (k < length (related (entryOf (graphIn (now numbers)) (e .0)))) ⌝ }
+    ensures { λ r. ⌜ RelatedIs (graphIn (now (numbers .entry))) (getD (related (entryOf (graphIn (now (numbers .entry))) (e .0))) k []) r ⌝ }
+{
+    let module = ModuleIdx(related_number(numbers, tables, e, k, 0));
+    let statement = StmtIdx(related_number(numbers, tables, e, k, 1));
+    let import_record = ImportRecordIdx(related_number(numbers, tables, e, k, 2));
+    RelatedStmt {
+        module,
+        statement,
+        import_record,
+        unreachable: related_number(numbers, tables, e, k, 3),
+    }
 }

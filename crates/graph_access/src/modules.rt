@@ -7,11 +7,12 @@ ghost use Rattle.graph_tables.specs.Tables.{headerIn};
 ghost use Rattle.graph.specs.Check.{graphIn};
 ghost use Rattle.graph.specs.Loaded.{Loaded};
 ghost use Rattle.graph_access.specs.Lists.{moduleWidths};
-ghost use Rattle.graph_access.specs.Names.{effects as effectsOf, exports as exportsOf, moduleType as moduleTypeOf, flags as flagsOf, wrap as wrapOf, wrapper as wrapperOf, namespace as namespaceOf, reexportCount as reexportCountOf, scanEffects as scanEffectsOf, scanStatementCount as scanStatementCountOf, importRecords, dependencies, namedImports, ownExports, commonJsExportSymbols, resolvedExports, commonJsNamespaces, enumMembers, only, importRecordTarget, importRecordKind, importRecordBits, exportName, exportSymbol, namespaceSymbol, namespaceModule, enumName, enumMember};
+ghost use Rattle.graph_access.specs.Names.{effects as effectsOf, exports as exportsOf, moduleType as moduleTypeOf, flags as flagsOf, wrap as wrapOf, wrapper as wrapperOf, namespace as namespaceOf, reexportCount as reexportCountOf, scanEffects as scanEffectsOf, scanStatementCount as scanStatementCountOf, importRecords, dependencies, namedImports, ownExports, entryReferences, commonJsExportSymbols, resolvedExports, commonJsNamespaces, enumMembers, moduleHelpers, only, importRecordTarget, importRecordKind, importRecordBits, exportName, exportSymbol, exportFromCommonJs, namespaceSymbol, namespaceModule, enumName, enumMember, helperNumber, helperStatement as helperStatementOf};
 ghost use Rattle.graph_access.specs.Words.{moduleOf, statementList, normal};
 use crate::lists;
 use index::ImportRecordIdx;
 use index::ModuleIdx;
+use index::StmtIdx;
 use index::SymbolIdx;
 use tables::MODULES;
 
@@ -23,6 +24,8 @@ pub const SAFELY_TREESHAKE_COMMONJS: usize = 1;
 pub const IS_CJS_REEXPORT: usize = 2;
 
 pub const DYNAMIC_EXPORTS: usize = 3;
+
+pub const DYNAMIC_IMPORTS_USE_NO_EXPORT: usize = 4;
 
 pub const RELAXED: usize = 5;
 
@@ -390,4 +393,63 @@ pub fn enum_member(numbers: &[u32], tables: &[usize], m: ModuleIdx, k: usize) ->
     ensures { λ r. ⌜ r ≡ enumMember (getD (enumMembers (moduleOf (graphIn (now (numbers .entry))) (m .0))) k []) ⌝ }
 {
     list_number(numbers, tables, m, 8, k, 1)
+}
+
+// How many entry references it has.
+pub fn entry_reference_count(numbers: &[u32], tables: &[usize], m: ModuleIdx) -> usize
+    requires { ⌜ Loaded (now numbers) (now tables) ⌝ }
+    requires { ⌜ m .0 < headerIn (now numbers) .modules ⌝ }
+    ensures { λ r. ⌜ (r ≡ length (entryReferences (moduleOf (graphIn (now (numbers .entry))) (m .0)))) × (r ≤ 16384) ⌝ }
+{
+    list_length(numbers, tables, m, 4)
+}
+
+// Its entry reference k.
+pub fn entry_reference(numbers: &[u32], tables: &[usize], m: ModuleIdx, k: usize) -> SymbolIdx
+    requires { ⌜ Loaded (now numbers) (now tables) ⌝ }
+    requires { ⌜ (m .0 < headerIn (now numbers) .modules) × (k < length (entryReferences (moduleOf (graphIn (now numbers)) (m .0)))) ⌝ }
+    ensures { λ r. ⌜ (r .0 ≡ only (getD (entryReferences (moduleOf (graphIn (now (numbers .entry))) (m .0))) k [])) × (r .0 < headerIn (now (numbers .entry)) .symbols) ⌝ }
+{
+    SymbolIdx(list_number(numbers, tables, m, 4, k, 0))
+}
+
+// Whether its resolved export k is from CommonJS: 0 or 1.
+pub fn resolved_export_from_commonjs(
+    numbers: &[u32],
+    tables: &[usize],
+    m: ModuleIdx,
+    k: usize,
+) -> usize
+    requires { ⌜ Loaded (now numbers) (now tables) ⌝ }
+    requires { ⌜ (m .0 < headerIn (now numbers) .modules) × (k < length (resolvedExports (moduleOf (graphIn (now numbers)) (m .0)))) ⌝ }
+    ensures { λ r. ⌜ r ≡ exportFromCommonJs (getD (resolvedExports (moduleOf (graphIn (now (numbers .entry))) (m .0))) k []) ⌝ }
+{
+    list_number(numbers, tables, m, 6, k, 2)
+}
+
+// How many helpers its statements need, one row for each statement that needs one.
+pub fn helper_count(numbers: &[u32], tables: &[usize], m: ModuleIdx) -> usize
+    requires { ⌜ Loaded (now numbers) (now tables) ⌝ }
+    requires { ⌜ m .0 < headerIn (now numbers) .modules ⌝ }
+    ensures { λ r. ⌜ (r ≡ length (moduleHelpers (moduleOf (graphIn (now (numbers .entry))) (m .0)))) × (r ≤ 16384) ⌝ }
+{
+    list_length(numbers, tables, m, 9)
+}
+
+// The helper of row k.
+pub fn helper(numbers: &[u32], tables: &[usize], m: ModuleIdx, k: usize) -> usize
+    requires { ⌜ Loaded (now numbers) (now tables) ⌝ }
+    requires { ⌜ (m .0 < headerIn (now numbers) .modules) × (k < length (moduleHelpers (moduleOf (graphIn (now numbers)) (m .0)))) ⌝ }
+    ensures { λ r. ⌜ (r ≡ helperNumber (getD (moduleHelpers (moduleOf (graphIn (now (numbers .entry))) (m .0))) k [])) × (r < headerIn (now (numbers .entry)) .helpers) ⌝ }
+{
+    list_number(numbers, tables, m, 9, k, 0)
+}
+
+// The statement of row k.
+pub fn helper_statement(numbers: &[u32], tables: &[usize], m: ModuleIdx, k: usize) -> StmtIdx
+    requires { ⌜ Loaded (now numbers) (now tables) ⌝ }
+    requires { ⌜ (m .0 < headerIn (now numbers) .modules) × (k < length (moduleHelpers (moduleOf (graphIn (now numbers)) (m .0)))) ⌝ }
+    ensures { λ r. ⌜ (r .0 ≡ helperStatementOf (getD (moduleHelpers (moduleOf (graphIn (now (numbers .entry))) (m .0))) k [])) × (r .0 < length (statementList (graphIn (now (numbers .entry))) (m .0))) ⌝ }
+{
+    StmtIdx(list_number(numbers, tables, m, 9, k, 1))
 }

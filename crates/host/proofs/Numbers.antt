@@ -13,10 +13,14 @@ use Rattle.graph.specs.declared.Checked.the-variants.{Accepted, Refused as Chec
 use Rattle.drain_parts.specs.declared.Drained.{Drained}
 use Rattle.drain_parts.specs.declared.Drained.the-variants.{Lines, Refused as Drained·Refused}
 use Rattle.drain_parts.specs.Operation.{Rows, Outcome, answered, Ends}
+use Rattle.run_parts.specs.declared.Ran.{Ran}
+use Rattle.run_parts.specs.declared.Ran.the-variants.{Done, Refused as Ran·Refused}
+use Rattle.run_parts.specs.Operation.{Rows as RunRows, Outcome as RunOutcome, answered as runAnswered, Ends as RunEnds}
 use Rattle.host.specs.declared.DrainAnswer.{DrainAnswer}
 use Rattle.host.specs.declared.ReadAnswer.{ReadAnswer}
 use Rattle.host.specs.declared.Refusal.{Refusal}
-use Rattle.host.specs.Answers.{readAnswerOf, refusalOf, passedOf, drainAnswerOf}
+use Rattle.host.specs.declared.RunAnswer.{RunAnswer}
+use Rattle.host.specs.Answers.{readAnswerOf, refusalOf, passedOf, drainAnswerOf, runAnswerOf}
 
 pub as-count : (d : Decoded) (n : ℕ) → answerOf d ≡ Numbers n → _≡_ {A = ReadAnswer} (record { number = 0; place = 0; count = n }) (readAnswerOf d)
 unfolding answerOf readAnswerOf
@@ -71,4 +75,33 @@ same-ends o r lent after e =
       external-are = e .external-are;
       json-are = e .json-are;
       reasons-are = e .reasons-are;
+    }
+
+pub as-run : (d : Ran) (rounds main runtime entries : ℕ) → d ≡ Done rounds main runtime entries
+    → _≡_ {A = RunAnswer} (record { number = 0; place = 0; rounds = rounds; lines = main; «runtime_lines» = runtime; entries = entries }) (runAnswerOf d)
+unfolding runAnswerOf
+as-run (Done a b c d) rounds main runtime entries e = cc
+as-run (Ran·Refused m p) rounds main runtime entries e = let z : _≡_ {A = ℕ} 0 1 = cc in absurd (omega arith)
+
+pub as-not-run : (d : Ran) (n p : ℕ) → d ≡ Ran·Refused n p → _≡_ {A = RunAnswer} (record { number = n; place = p; rounds = 0; lines = 0; «runtime_lines» = 0; entries = 0 }) (runAnswerOf d)
+unfolding runAnswerOf
+as-not-run (Done a b c d) n p e = let z : _≡_ {A = ℕ} 0 1 = cc in absurd (omega arith)
+as-not-run (Ran·Refused m q) n p e = cc
+
+-- the rows of a run, whatever its answer is called
+pub run-same-ends : (o : RunOutcome) (r : Ran) (lent after : RunRows) → RunEnds o r lent after → RunEnds o (runAnswered o) lent after
+run-same-ends o r lent after e =
+    record {
+      answer = refl;
+      marks-are = e .marks-are;
+      record-is = e .record-is;
+      modules-are = e .modules-are;
+      statements-are = e .statements-are;
+      used-are = e .used-are;
+      external-are = e .external-are;
+      json-are = e .json-are;
+      reasons-are = e .reasons-are;
+      dead-are = e .dead-are;
+      helpers-are = e .helpers-are;
+      entries-are = e .entries-are;
     }

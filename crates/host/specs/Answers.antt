@@ -12,9 +12,13 @@ use Rattle.determine_side_effects.specs.Operation.{effectsAnswer, effectsRow}
 use Rattle.drain_parts.specs.declared.Drained.{Drained}
 use Rattle.drain_parts.specs.declared.Drained.the-variants.{Lines, Refused as DrainRefused}
 use Rattle.drain_parts.specs.Operation.{Rows, roomsOf, outcomeOf, answered, Ends}
+use Rattle.run_parts.specs.declared.Ran.{Ran}
+use Rattle.run_parts.specs.declared.Ran.the-variants.{Done, Refused as RunRefused}
+use Rattle.run_parts.specs.Operation.{Rows as RunRows, roomsOf as runRoomsOf, outcomeOf as runOutcomeOf, answered as runAnswered, Ends as RunEnds}
 use Rattle.host.specs.declared.DrainAnswer.{DrainAnswer}
 use Rattle.host.specs.declared.ReadAnswer.{ReadAnswer}
 use Rattle.host.specs.declared.Refusal.{Refusal}
+use Rattle.host.specs.declared.RunAnswer.{RunAnswer}
 
 -- of a file: how many numbers it holds, or the refusal
 unfoldable pub readAnswerOf : Decoded → ReadAnswer
@@ -36,6 +40,11 @@ unfoldable pub drainAnswerOf : Drained → DrainAnswer
 drainAnswerOf (Lines n) = record { number = 0; place = 0; lines = n }
 drainAnswerOf (DrainRefused n p) = record { number = n; place = p; lines = 0 }
 
+-- of a run: its rounds, the lines of the main part and of the runtime stage, the final entries; or the refusal
+unfoldable pub runAnswerOf : Ran → RunAnswer
+runAnswerOf (Done rounds main runtime entries) = record { number = 0; place = 0; rounds = rounds; lines = main; «runtime_lines» = runtime; entries = entries }
+runAnswerOf (RunRefused n p) = record { number = n; place = p; rounds = 0; lines = 0; «runtime_lines» = 0; entries = 0 }
+
 pub record KeepRead (file lent : List ℕ) (answer : ReadAnswer) (numbers : List ℕ) : Type 0 where
   pub answers : answer ≡ readAnswerOf (readOf file (length lent))
   pub leaves : numbers ≡ lentOf (readOf file (length lent)) lent
@@ -47,3 +56,7 @@ pub record KeepEffects (numbers lent : List ℕ) (answer : Refusal) (verdicts : 
 pub record KeepDrain (numbers starts : List ℕ) (answer : DrainAnswer) (lent after : Rows) : Type 0 where
   pub answers : answer ≡ drainAnswerOf (answered (outcomeOf numbers starts (roomsOf lent)))
   pub leaves : Ends (outcomeOf numbers starts (roomsOf lent)) (answered (outcomeOf numbers starts (roomsOf lent))) lent after
+
+pub record KeepRun (numbers : List ℕ) (answer : RunAnswer) (lent after : RunRows) : Type 0 where
+  pub answers : answer ≡ runAnswerOf (runAnswered (runOutcomeOf numbers (runRoomsOf lent)))
+  pub leaves : RunEnds (runOutcomeOf numbers (runRoomsOf lent)) (runAnswered (runOutcomeOf numbers (runRoomsOf lent))) lent after

@@ -2,10 +2,12 @@
 ghost use mathlib.Core.Path.{_≡_};
 ghost use Rattle.graph.specs.Check.{checkOf};
 ghost use Rattle.drain_parts.specs.Operation.{rows as rowsOf};
-ghost use Rattle.host.specs.Answers.{KeepRead, KeepEffects, KeepDrain, refusalOf};
+ghost use Rattle.run_parts.specs.Operation.{rows as runRowsOf};
+ghost use Rattle.host.specs.Answers.{KeepRead, KeepEffects, KeepDrain, KeepRun, refusalOf};
 use drain_parts::Drained;
 use graph::Checked;
 use leb128::Answer;
+use run_parts::Ran;
 
 // A refusal's number and its place; number 0: not refused.
 #[repr(C)]
@@ -28,6 +30,17 @@ pub struct DrainAnswer {
     pub number: u32,
     pub place: u64,
     pub lines: u64,
+}
+
+// A refusal, and how many rounds there were, how many lines the main part and the runtime stage have, and how many final entries there are.
+#[repr(C)]
+pub struct RunAnswer {
+    pub number: u32,
+    pub place: u64,
+    pub rounds: u64,
+    pub lines: u64,
+    pub runtime_lines: u64,
+    pub entries: u64,
 }
 
 // Reads the numbers of a file into the first of the lent numbers.
@@ -120,6 +133,57 @@ pub extern "C" fn keep_drain(
             number: n,
             place: p as u64,
             lines: 0,
+        },
+    }
+}
+
+// Runs: marks, the record of both stages, answer rows, dead import records, helper words and final entries.
+#[no_mangle]
+pub extern "C" fn keep_run(
+    numbers: &[u32],
+    marks: &mut [u8],
+    lines: &mut [u32],
+    modules: &mut [u8],
+    statements: &mut [u8],
+    used: &mut [u8],
+    external: &mut [u8],
+    json: &mut [u8],
+    reason: &mut [u8],
+    dead: &mut [u8],
+    helpers: &mut [u32],
+    entries: &mut [u32],
+) -> RunAnswer
+    ensures { λ r. ⌜ KeepRun (now (numbers .entry)) r (runRowsOf (now (marks .entry)) (now (lines .entry)) (now (modules .entry)) (now (statements .entry)) (now (used .entry)) (now (external .entry)) (now (json .entry)) (now (reason .entry)) (now (dead .entry)) (now (helpers .entry)) (now (entries .entry))) (runRowsOf (now (marks .exit)) (now (lines .exit)) (now (modules .exit)) (now (statements .exit)) (now (used .exit)) (now (external .exit)) (now (json .exit)) (now (reason .exit)) (now (dead .exit)) (now (helpers .exit)) (now (entries .exit))) ⌝ }
+{
+    match run::run(
+        numbers,
+        marks,
+        lines,
+        modules,
+        statements,
+        used,
+        external,
+        json,
+        reason,
+        dead,
+        helpers,
+        entries,
+    ) {
+        Ran::Done(rounds, main, runtime, count) => RunAnswer {
+            number: 0,
+            place: 0,
+            rounds: rounds as u64,
+            lines: main as u64,
+            runtime_lines: runtime as u64,
+            entries: count as u64,
+        },
+        Ran::Refused(n, p) => RunAnswer {
+            number: n,
+            place: p as u64,
+            rounds: 0,
+            lines: 0,
+            runtime_lines: 0,
+            entries: 0,
         },
     }
 }

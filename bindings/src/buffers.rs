@@ -1,0 +1,247 @@
+//! Rows for a run that are made from the graph, so that no caller counts bits.
+
+use crate::listing::{is_set, sums, Listed};
+use crate::reference::decode::decode;
+use crate::{check, effects, run, Refused, RunAnswer, RunRows};
+
+/// How many numbers a record line has.
+const LINE: usize = 6;
+
+/// A run of a graph, with the rows that the library wrote.
+///
+/// ```no_run
+/// # let numbers = [0];
+/// let run = lizdakk::RunBuffers::for_graph(&numbers)?;
+/// println!("{} rounds", run.rounds());
+/// for (module, statements) in (0..).zip(run.statement_counts()) {
+///     let kept: Vec<usize> = (0..statements).filter(|&statement| run.statement(module, statement)).collect();
+///     println!("module {module}: kept {}, statements {kept:?}", run.kept(module));
+/// }
+/// # Ok::<(), lizdakk::Refused>(())
+/// ```
+#[derive(Clone, Debug)]
+pub struct RunBuffers<'a> {
+    numbers: &'a [u32],
+    counts: Counts,
+    answer: RunAnswer,
+    marks: Vec<u8>,
+    record: Vec<u32>,
+    modules: Vec<u8>,
+    statements: Vec<u8>,
+    used: Vec<u8>,
+    external: Vec<u8>,
+    json: Vec<u8>,
+    reason: Vec<u8>,
+    dead: Vec<u8>,
+    helpers: Vec<u32>,
+    entries: Vec<u32>,
+}
+
+impl<'a> RunBuffers<'a> {
+    /// Makes rows for a graph and runs. The only refusals are those of [`check`].
+    pub fn for_graph(numbers: &'a [u32]) -> Result<RunBuffers<'a>, Refused> {
+        let mut buffers = RunBuffers::new(numbers)?;
+        buffers.answer = run(numbers, &mut buffers.rows()).result()?;
+        Ok(buffers)
+    }
+
+    /// Runs again into the same rows, with a record that is just as long as it has to be: for measurements.
+    pub fn again(&mut self) -> RunAnswer {
+        let lines = self.answer.lines + self.answer.runtime_lines;
+        self.record.truncate(LINE * lines as usize);
+        self.answer = run(self.numbers, &mut self.rows());
+        self.answer
+    }
+
+    /// Rows of the lengths that the graph needs, all zero.
+    fn new(numbers: &'a [u32]) -> Result<RunBuffers<'a>, Refused> {
+        check(numbers).result()?;
+        let counts = Counts::of(numbers);
+        let (modules, symbols) = (counts.modules(), counts.symbols);
+        let bytes = |bits: usize| vec![0; bits.div_ceil(8)];
+        Ok(RunBuffers {
+            numbers,
+            answer: RunAnswer { number: 0, place: 0, rounds: 0, lines: 0, runtime_lines: 0, entries: 0 },
+            marks: bytes(2 * modules + counts.all_statements() + 63 * symbols),
+            record: vec![0; LINE * counts.most_lines()],
+            modules: bytes(modules),
+            statements: vec![0; counts.first_statement_bytes[modules]],
+            used: bytes(symbols),
+            external: bytes(symbols),
+            json: bytes(symbols),
+            reason: vec![0; modules],
+            dead: bytes(counts.first_records[modules]),
+            helpers: vec![0; modules],
+            entries: vec![0; counts.entries],
+            counts,
+        })
+    }
+
+    fn rows(&mut self) -> RunRows<'_> {
+        RunRows {
+            marks: &mut self.marks,
+            record: &mut self.record,
+            modules: &mut self.modules,
+            statements: &mut self.statements,
+            used: &mut self.used,
+            external: &mut self.external,
+            json: &mut self.json,
+            reason: &mut self.reason,
+            dead: &mut self.dead,
+            helpers: &mut self.helpers,
+            entries: &mut self.entries,
+        }
+    }
+
+    /// How many rounds were made.
+    pub fn rounds(&self) -> u64 {
+        self.answer.rounds
+    }
+
+    /// How many statements each module has.
+    pub fn statement_counts(&self) -> impl Iterator<Item = usize> + '_ {
+        self.counts.statements.iter().copied()
+    }
+
+    /// Whether a module is kept.
+    pub fn kept(&self, module: usize) -> bool {
+        assert!(module < self.counts.modules(), "module {module}");
+        is_set(&self.modules, module)
+    }
+
+    /// Whether a statement of a module is kept.
+    pub fn statement(&self, module: usize, statement: usize) -> bool {
+        assert!(statement < self.counts.statements[module], "statement {statement} of module {module}");
+        is_set(&self.statements[self.counts.first_statement_bytes[module]..], statement)
+    }
+
+    /// Whether a symbol is used.
+    pub fn used(&self, symbol: usize) -> bool {
+        self.symbol(&self.used, symbol)
+    }
+
+    /// Whether a symbol is of an external module and used.
+    pub fn external(&self, symbol: usize) -> bool {
+        self.symbol(&self.external, symbol)
+    }
+
+    /// Whether a symbol is of a Json module and used from elsewhere, before the runtime stage.
+    pub fn json(&self, symbol: usize) -> bool {
+        self.symbol(&self.json, symbol)
+    }
+
+    fn symbol(&self, row: &[u8], symbol: usize) -> bool {
+        assert!(symbol < self.counts.symbols, "symbol {symbol}");
+        is_set(row, symbol)
+    }
+
+    /// Why a module's namespace is kept, before the runtime stage: 0 not, 1 Unknown, 2 ReExportDynamicExports, 3 both.
+    pub fn reason(&self, module: usize) -> u8 {
+        self.reason[module]
+    }
+
+    /// Whether an import record of a module is a dynamic import that is dead.
+    pub fn dead(&self, module: usize, record: usize) -> bool {
+        let records = &self.counts.first_records[module..module + 2];
+        assert!(record < records[1] - records[0], "record {record} of module {module}");
+        is_set(&self.dead, records[0] + record)
+    }
+
+    /// Bit h for each runtime helper h that a module needs.
+    pub fn helpers(&self, module: usize) -> u32 {
+        self.helpers[module]
+    }
+
+    /// The final entries, by graph index.
+    pub fn entries(&self) -> &[u32] {
+        &self.entries[..self.answer.entries as usize]
+    }
+
+    /// The record lines of the main stage: kind and parts of the fact, rule, two earlier lines plus 1.
+    pub fn lines(&self) -> impl Iterator<Item = [u32; LINE]> + '_ {
+        self.all_lines().take(self.answer.lines as usize)
+    }
+
+    /// The record lines of the runtime stage; their numbers go on from the main stage's.
+    pub fn runtime_lines(&self) -> impl Iterator<Item = [u32; LINE]> + '_ {
+        self.all_lines().skip(self.answer.lines as usize).take(self.answer.runtime_lines as usize)
+    }
+
+    fn all_lines(&self) -> impl Iterator<Item = [u32; LINE]> + '_ {
+        self.record.chunks_exact(LINE).map(|line| line.try_into().expect("a line has six numbers"))
+    }
+
+    /// What the program `keep` prints for the graph, if its record is long enough there.
+    pub fn listing(&self) -> String {
+        let mut verdicts = vec![0; self.counts.modules()];
+        effects(self.numbers, &mut verdicts).result().expect("the graph was accepted");
+        let listed = Listed {
+            rounds: self.rounds(),
+            entries: self.entries(),
+            verdicts: &verdicts,
+            modules: &self.modules,
+            statements: &self.statements,
+            used: &self.used,
+            external: &self.external,
+            json: &self.json,
+            reason: &self.reason,
+            dead: &self.dead,
+            helpers: &self.helpers,
+        };
+        listed.text(&decode(self.numbers))
+    }
+}
+
+/// What lengths follow from.
+#[derive(Clone, Debug)]
+struct Counts {
+    symbols: usize,
+    entries: usize,
+    /// By module.
+    statements: Vec<usize>,
+    /// By module, then the length of the row.
+    first_statement_bytes: Vec<usize>,
+    /// By module, then how many records there are.
+    first_records: Vec<usize>,
+}
+
+impl Counts {
+    /// The counts of accepted numbers.
+    fn of(numbers: &[u32]) -> Counts {
+        let at = |place: usize| numbers[place] as usize;
+        let (mut statements, mut records) = (Vec::new(), Vec::new());
+        let mut place = 7 + at(6);
+        for _ in 0..at(2) {
+            statements.push(at(place + 9));
+            records.push(at(place + 12));
+            place += 12;
+            // Records, dependencies, named imports, own exports, entry references, K5 symbols, resolved exports, CommonJS
+            // namespaces, enum members, helpers: how many numbers an element has.
+            for width in [3, 1, 1, 1, 1, 1, 3, 2, 2, 2] {
+                place += 1 + width * at(place);
+            }
+        }
+        Counts {
+            symbols: at(3),
+            entries: at(5),
+            first_statement_bytes: sums(statements.iter().map(|count| count.div_ceil(8))),
+            first_records: sums(records.into_iter()),
+            statements,
+        }
+    }
+
+    fn modules(&self) -> usize {
+        self.statements.len()
+    }
+
+    fn all_statements(&self) -> usize {
+        self.statements.iter().sum()
+    }
+
+    /// So many record lines are always enough for a run. A module or a statement has one line in both stages together.
+    /// In each stage a module has at most one bailout and a symbol one forward. Uses and checked uses of a symbol have
+    /// the reasons 1, 4, 9 and 12 in a run, and 2 in the main stage alone: five each there, and four each behind it.
+    fn most_lines(&self) -> usize {
+        3 * self.modules() + self.all_statements() + 20 * self.symbols
+    }
+}

@@ -1,0 +1,329 @@
+//! The run: what the entries of a graph keep, round by round, and what the runtime adds.
+
+use super::drain::{Line, Queue, LINE};
+use super::dynamic_entries::{search, sorted, Sorted, Try};
+use super::entries::{entry_starts, final_entries, parted, user_defined_starts};
+use super::helpers::{runtime_starts, words};
+use super::rows::{bit_row, set, Answer, MarkLayout};
+use super::rules::{reason, Fact, Rules};
+use super::{check, decode::decode, read};
+use crate::listing::{first_records, is_set, Listed};
+use crate::model::Graph;
+use crate::{Refused, RunAnswer, RunRows};
+use std::collections::HashSet;
+
+/// What a run answers, each row as long as it has to be.
+#[derive(Clone, Debug)]
+pub struct Run {
+    pub rounds: u32,
+    /// The facts that were started before the runtime stage, each once, in order.
+    pub starts: Vec<Fact>,
+    /// The lines of the main stage.
+    pub lines: Vec<Line>,
+    /// The lines of the runtime stage; their numbers go on from the main stage's.
+    pub runtime_lines: Vec<Line>,
+    /// The final entries, by graph index.
+    pub entries: Vec<u32>,
+    /// How many entries the graph has.
+    pub all_entries: usize,
+    /// The last verdicts.
+    pub verdicts: Vec<u32>,
+    pub marks: Vec<u8>,
+    pub modules: Vec<u8>,
+    pub statements: Vec<u8>,
+    pub used: Vec<u8>,
+    pub external: Vec<u8>,
+    pub json: Vec<u8>,
+    pub reason: Vec<u8>,
+    pub dead: Vec<u8>,
+    pub helpers: Vec<u32>,
+    pub course: Course,
+}
+
+/// How a run went; none of it is part of the answer.
+#[derive(Clone, Debug)]
+pub struct Course {
+    /// The dynamic entries in the order in which they were tried.
+    pub order: Vec<u32>,
+    /// By module: whether it is on a cycle.
+    pub on_cycle: Vec<bool>,
+    /// By module: whether a dynamic entry of it is live.
+    pub live: Vec<bool>,
+    /// By entry: whether a try found it dead.
+    pub found_dead: Vec<bool>,
+    /// By round: how many lines there were when it took its bailouts.
+    pub begins: Vec<usize>,
+}
+
+/// The main stage while it goes on.
+struct Main<'a> {
+    rules: &'a Rules<'a>,
+    queue: Queue<'a>,
+    starts: Vec<Fact>,
+    started: HashSet<Fact>,
+    /// By round: how many lines there were when it took its bailouts.
+    begins: Vec<usize>,
+    /// By module: whether a dynamic entry of it is live.
+    live: Vec<bool>,
+    /// By entry: whether a try found it dead.
+    found_dead: Vec<bool>,
+    /// By module: its first record in the row over all records.
+    first_records: Vec<usize>,
+    /// By record: whether it is a dead import.
+    dead: Vec<u8>,
+}
+
+impl<'a> Main<'a> {
+    fn new(rules: &'a Rules<'a>) -> Main<'a> {
+        let modules = rules.graph.modules.len();
+        let first_records = first_records(rules.graph);
+        Main {
+            rules,
+            queue: Queue::new(rules),
+            starts: Vec::new(),
+            started: HashSet::new(),
+            begins: Vec::new(),
+            live: vec![false; modules],
+            found_dead: vec![false; rules.graph.entries.len()],
+            dead: bit_row(first_records[modules]),
+            first_records,
+        }
+    }
+
+    fn start(&mut self, facts: Vec<Fact>) {
+        for fact in facts {
+            if self.started.insert(fact) {
+                self.starts.push(fact);
+            }
+            self.queue.start(fact);
+        }
+    }
+
+    /// Rounds until one keeps no further module.
+    fn all_rounds(&mut self, order: &Sorted) {
+        loop {
+            let before = self.queue.lines().len();
+            self.round(order);
+            let new = &self.queue.lines()[before..];
+            if !new.iter().any(|line| matches!(line.fact, Fact::Module(_))) {
+                return;
+            }
+        }
+    }
+
+    /// Uses what was gathered in bailouts, then tries the entries of modules that are not live yet.
+    fn round(&mut self, order: &Sorted) {
+        let taken = self.begins.last().copied().unwrap_or(0);
+        let gathered = self.queue.lines()[taken..].iter().map(|line| line.fact);
+        let bailouts: Vec<Fact> = gathered.filter(|fact| matches!(fact, Fact::Bailout(_))).collect();
+        self.begins.push(self.queue.lines().len());
+        for bailout in bailouts {
+            self.start(bailout_exports(self.rules, bailout));
+        }
+        for &index in &order.entries {
+            let entry = &self.rules.graph.entries[index as usize];
+            if self.live[entry.module as usize] {
+                continue;
+            }
+            if !order.on_cycle[entry.module as usize] {
+                if let Try::Dead(dead) = search(self.rules, entry, |fact| self.queue.has(fact)) {
+                    self.found_dead[index as usize] = true;
+                    self.mark_dead(&dead);
+                    continue;
+                }
+            }
+            self.live[entry.module as usize] = true;
+            self.start(entry_starts(self.rules, entry.module));
+        }
+    }
+
+    fn mark_dead(&mut self, imports: &[[u32; 2]]) {
+        for &[module, record] in imports {
+            set(&mut self.dead, self.first_records[module as usize] + record as usize);
+        }
+    }
+}
+
+/// What a round uses of a module that was bailed out: its exports from CommonJS.
+fn bailout_exports(rules: &Rules, bailout: Fact) -> Vec<Fact> {
+    let Fact::Bailout(module) = bailout else { return Vec::new() };
+    let exports = rules.module(module).resolved_exports.iter().filter(|row| row[2] == 1);
+    exports.map(|&[_, symbol, _]| Fact::CheckedUse(symbol, reason::NORMAL)).collect()
+}
+
+impl Run {
+    /// The run of a graph.
+    pub fn of(graph: &Graph) -> Run {
+        let rules = Rules::new(graph);
+        let mut main = Main::new(&rules);
+        let (user_defined, dynamic) = parted(graph);
+        for &entry in &user_defined {
+            main.start(user_defined_starts(&rules, graph.entries[entry as usize].module));
+        }
+        let order = sorted(graph, &dynamic);
+        main.all_rounds(&order);
+        let entries = final_entries(&rules, &user_defined, &order.entries, &main.live);
+        Run::end(main, order, entries)
+    }
+
+    /// The runtime stage, and the rows of both.
+    fn end(main: Main, order: Sorted, entries: Vec<u32>) -> Run {
+        let Main { rules, queue, starts, dead, live, found_dead, begins, .. } = main;
+        let helpers = words(rules, |fact| queue.has(fact));
+        let runtime_starts = runtime_starts(rules, &helpers, |fact| queue.has(fact));
+        let lines = queue.into_lines();
+        let mut runtime = Queue::after(rules, &lines);
+        for start in runtime_starts {
+            runtime.start(start);
+        }
+        let (first, second) = (Answer::new(rules, lines), Answer::new(rules, runtime.into_lines()));
+        Run {
+            rounds: begins.len() as u32,
+            starts,
+            entries,
+            all_entries: rules.graph.entries.len(),
+            verdicts: rules.verdicts.clone(),
+            marks: marks(rules.graph, &first.marks, &second.marks),
+            modules: union(&first.modules, &second.modules),
+            statements: union(&first.statements, &second.statements),
+            used: union(&first.used, &second.used),
+            external: union(&first.external, &second.external),
+            json: first.json,
+            reason: first.reason,
+            dead,
+            helpers,
+            course: Course { order: order.entries, on_cycle: order.on_cycle, live, found_dead, begins },
+            lines: first.lines,
+            runtime_lines: second.lines,
+        }
+    }
+
+    /// The numbers of the record, both stages.
+    pub fn record(&self) -> Vec<u32> {
+        self.lines.iter().chain(&self.runtime_lines).flat_map(|line| line.numbers()).collect()
+    }
+
+    /// Writes the answer into lent rows: 5 if one of them is too short.
+    pub fn put(&self, rows: &mut RunRows) -> RunAnswer {
+        const TOO_SHORT: RunAnswer = RunAnswer::refused(Refused { number: 5, place: 0 });
+        let answers = [
+            (&mut *rows.modules, &self.modules),
+            (&mut *rows.statements, &self.statements),
+            (&mut *rows.used, &self.used),
+            (&mut *rows.external, &self.external),
+            (&mut *rows.json, &self.json),
+            (&mut *rows.reason, &self.reason),
+            (&mut *rows.dead, &self.dead),
+        ];
+        let short = answers.iter().any(|(row, answer)| row.len() < answer.len());
+        let short_words = rows.helpers.len() < self.helpers.len() || rows.entries.len() < self.all_entries;
+        if short || short_words || rows.marks.len() < self.marks.len() {
+            return TOO_SHORT;
+        }
+        rows.marks.fill(0);
+        rows.record.fill(0);
+        let record = self.record();
+        if rows.record.len() / LINE * LINE < record.len() {
+            return TOO_SHORT;
+        }
+        for (row, answer) in answers {
+            row[..answer.len()].copy_from_slice(answer);
+        }
+        rows.helpers[..self.helpers.len()].copy_from_slice(&self.helpers);
+        rows.entries[..self.entries.len()].copy_from_slice(&self.entries);
+        rows.marks[..self.marks.len()].copy_from_slice(&self.marks);
+        rows.record[..record.len()].copy_from_slice(&record);
+        self.answer()
+    }
+
+    /// The answer if no row is too short.
+    pub fn answer(&self) -> RunAnswer {
+        RunAnswer {
+            number: 0,
+            place: 0,
+            rounds: u64::from(self.rounds),
+            lines: self.lines.len() as u64,
+            runtime_lines: self.runtime_lines.len() as u64,
+            entries: self.entries.len() as u64,
+        }
+    }
+
+    /// What the program `keep` prints for the graph, line by line.
+    pub fn listing(&self, graph: &Graph) -> String {
+        let listed = Listed {
+            rounds: u64::from(self.rounds),
+            entries: &self.entries,
+            verdicts: &self.verdicts,
+            modules: &self.modules,
+            statements: &self.statements,
+            used: &self.used,
+            external: &self.external,
+            json: &self.json,
+            reason: &self.reason,
+            dead: &self.dead,
+            helpers: &self.helpers,
+        };
+        listed.text(graph)
+    }
+}
+
+fn union(first: &[u8], second: &[u8]) -> Vec<u8> {
+    first.iter().zip(second).map(|(first, second)| first | second).collect()
+}
+
+/// Modules and statements of both stages, all other facts of the second alone.
+fn marks(graph: &Graph, first: &[u8], second: &[u8]) -> Vec<u8> {
+    let layout = MarkLayout::new(graph);
+    let mut marks = second.to_vec();
+    for bit in layout.modules().chain(layout.statements()) {
+        if is_set(first, bit) {
+            set(&mut marks, bit);
+        }
+    }
+    marks
+}
+
+/// The whole operation: as check, then 5 for a row that is too short.
+pub fn run(numbers: &[u32], rows: &mut RunRows) -> RunAnswer {
+    match answer(numbers) {
+        Ok(run) => run.put(rows),
+        Err(refused) => RunAnswer::refused(refused),
+    }
+}
+
+/// What a run answers if all rows are long enough, or the refusal of the graph.
+pub fn answer(numbers: &[u32]) -> Result<Run, Refused> {
+    check(numbers)?;
+    Ok(Run::of(&decode(numbers)))
+}
+
+/// The facts that the run of a graph starts before its runtime stage, each once, in order.
+pub fn run_starts(graph: &Graph) -> Vec<Fact> {
+    Run::of(graph).starts
+}
+
+/// What the program `keep` prints for numbers that were read: a listing, or the refusal. Its record has 1,024 lines.
+pub fn listing(numbers: &[u32]) -> String {
+    const RECORD_LINES: usize = 1_024;
+    let answer = answer(numbers).and_then(|run| match run.lines.len() + run.runtime_lines.len() {
+        0..=RECORD_LINES => Ok(run),
+        _ => Err(Refused { number: 5, place: 0 }),
+    });
+    match answer {
+        Ok(run) => run.listing(&decode(numbers)),
+        Err(refused) => format!("refused {}\n", refused.number),
+    }
+}
+
+/// What the program `keep` prints for a file.
+pub fn keep(file: &[u8]) -> String {
+    const LONGEST: usize = 8_192;
+    if file.len() > LONGEST {
+        return "refused 2\n".to_string();
+    }
+    let mut numbers = [0; LONGEST];
+    match read(file, &mut numbers).result() {
+        Ok(count) => listing(&numbers[..count]),
+        Err(refused) => format!("refused {}\n", refused.number),
+    }
+}

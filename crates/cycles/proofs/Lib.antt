@@ -1,0 +1,13 @@
+pub mod Members
+pub mod Paths
+pub mod Walks
+pub mod Ranks
+pub mod Strong
+pub mod Fuel
+pub mod Steps
+pub mod Roots
+pub mod Successors
+pub mod Sources
+pub mod Marks
+pub mod Groups
+pub mod InMemory

@@ -1,0 +1,4 @@
+pub mod Search
+pub mod Cycles
+pub mod Memory
+pub mod Walked

@@ -1,0 +1,4 @@
+pub mod Sorted
+pub mod Alive
+pub mod Tries
+pub mod Parts

@@ -1,0 +1,11 @@
+pub mod Those
+pub mod Filling
+pub mod Numbered
+pub mod Grouped
+pub mod Places
+pub mod Linking
+pub mod Appending
+pub mod Grouping
+pub mod Copying
+pub mod Entered
+pub mod Splitting

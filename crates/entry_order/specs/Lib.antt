@@ -1,0 +1,4 @@
+pub mod Order
+pub mod Kinds
+pub mod Chains
+pub mod Plan

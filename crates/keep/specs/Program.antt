@@ -1,0 +1,62 @@
+-- What the program prints for a file (document 01, "The program `keep`").
+use Prim.Native.Nat.{ℕ}
+use mathlib.Core.Bool.{Bool, true, false}
+use mathlib.Core.List.{List, [], _∷_}
+use lib.ListN.{length, replicate}
+use Rattle.leb128.specs.Read.{Decoded, all, refused, readOf}
+use Rattle.graph.specs.Check.{Graph}
+use Rattle.determine_side_effects.specs.Effects.{lastVerdicts}
+use Rattle.answer_rows.specs.declared.Row.the-variants.{Modules, Statements, Used, External, Json, NamespaceReason}
+use Rattle.tree_shaking.specs.Rounds.{finalEntries}
+use Rattle.run_rows.specs.Run.{Run}
+use Rattle.run_parts.specs.Operation.{Rooms, Outcome, before, short, done, outcomeOf, rowAfter, deadAfter, helpersAfter, entriesAfter}
+use Rattle.listing.specs.Listing.{Shown, listingOf, refusedText}
+
+-- The rows of the program: for the largest counts of a graph, but import records (8,192 numbers hold fewer than 8,192) and record lines
+-- (1,024: "more: refusal 5").
+abbrev pub programRooms : Rooms
+programRooms =
+    record {
+      marks = 131328;
+      lines = 6144;
+      modules = 128;
+      statements = 3072;
+      used = 2048;
+      external = 2048;
+      json = 2048;
+      reason = 1024;
+      dead = 1024;
+      helpers = 1024;
+      entries = 1024;
+    }
+
+-- what is shown of an answer: the rows that were lent cleared
+unfoldable pub shownOf : Graph → Run → Shown
+shownOf g r =
+    record {
+      rounds = r .rounds;
+      count = length (finalEntries g (r .live));
+      verdicts = lastVerdicts g;
+      entries = entriesAfter (done g r) (replicate 1024 0);
+      modules = rowAfter Modules (done g r) (replicate 128 0);
+      statements = rowAfter Statements (done g r) (replicate 3072 0);
+      used = rowAfter Used (done g r) (replicate 2048 0);
+      external = rowAfter External (done g r) (replicate 2048 0);
+      json = rowAfter Json (done g r) (replicate 2048 0);
+      reason = rowAfter NamespaceReason (done g r) (replicate 1024 0);
+      dead = deadAfter (done g r) (replicate 1024 0);
+      helpers = helpersAfter (done g r) (replicate 1024 0);
+    }
+
+unfoldable pub outcomeText : Outcome → List ℕ
+outcomeText (before n p) = refusedText n
+outcomeText short = refusedText 5
+outcomeText (done g r) = listingOf g (shownOf g r)
+
+unfoldable pub decodedText : Decoded → List ℕ
+decodedText (all numbers) = outcomeText (outcomeOf numbers programRooms)
+decodedText (refused n p) = refusedText n
+
+-- "over 8,192 bytes: refusal 2", before anything is read as numbers
+unfoldable pub programText : List ℕ → Bool → List ℕ
+programText file longer = elim longer [ true ↦ refusedText 2 | false ↦ decodedText (readOf file 8192) ]

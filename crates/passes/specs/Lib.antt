@@ -1,0 +1,2 @@
+pub mod Bailouts
+pub mod Helpers

@@ -1,0 +1,33 @@
+-- How many rounds there are: at least one, and no more than the fuel.
+use Prim.Native.Nat.{ℕ, zero, suc, _+_, _<_, _≤_}
+use mathlib.Core.Bool.{Bool, true, false}
+use mathlib.Core.List.{List}
+use native.Mathlib.Omega.{arith}
+use lib.ListN.{length}
+use Rattle.graph.specs.Check.{Graph}
+use Rattle.dynamic_entries.specs.Tries.{Progress}
+use Rattle.tree_shaking.specs.Rounds.{round, keptModule, Ended, endedAt, roundsFrom, begun, mainPart}
+
+-- from `made` rounds on
+record Made (made fuel : ℕ) (e : Ended) : Type 0 where
+  least : made ≤ e .rounds
+  most : e .rounds ≤ made + fuel
+  some : 0 < fuel → made < e .rounds
+
+module _ (g : Graph) (v : List ℕ) where
+  rounds-from : (fuel made taken : ℕ) (p : Progress) → Made made fuel (roundsFrom g v fuel made taken p)
+  unfolding roundsFrom
+  rounds-from zero made taken p = record { least = omega arith; most = omega arith; some = λ h. absurd (omega (arith, h)) }
+  rounds-from (suc fuel) made taken p =
+      go (keptModule (length (p .lines)) (round g v taken p .lines)) (rounds-from fuel (made + 1) (length (p .lines)) (round g v taken p))
+    where
+      go : (b : Bool) → Made (made + 1) fuel (roundsFrom g v fuel (made + 1) (length (p .lines)) (round g v taken p))
+          → Made made (suc fuel) (elim b [ true ↦ roundsFrom g v fuel (made + 1) (length (p .lines)) (round g v taken p) | false ↦ endedAt (made + 1) (round g v taken p) ])
+      go true r = record { least = omega (arith, r .least); most = omega (arith, r .most); some = λ h. omega (arith, r .least) }
+      go false r = record { least = omega arith; most = omega arith; some = λ h. omega arith }
+
+  pub main-rounds : (1 ≤ mainPart g v .rounds) × (mainPart g v .rounds ≤ g .header .modules + 1)
+  unfolding mainPart
+  main-rounds =
+      let r = rounds-from (g .header .modules + 1) 0 0 (begun g v) in
+      (omega (arith, r .some (omega arith)), omega (arith, r .most))

@@ -1,0 +1,5 @@
+pub mod Readying
+pub mod Staging
+pub mod Working
+pub mod Showing
+pub mod Ending

@@ -1,0 +1,3 @@
+pub mod Operation
+pub mod Parts
+pub mod Steps

@@ -1,0 +1,57 @@
+-- The run's own starts, by who brought them: "a run's are all facts started before step 6, worked out from the graph by the steps and this
+-- order" (document 01, "Keep rules").
+use Prim.Native.Nat.{ℕ, zero, suc, _+_}
+use mathlib.Core.Bool.{Bool, true, false}
+use mathlib.Core.List.{List, [], _∷_, _++_, map}
+use lib.ListN.{length, drop}
+use Rattle.graph.specs.Check.{Graph}
+use Rattle.facts.specs.declared.Fact.{Fact}
+use Rattle.entry_order.specs.Order.{moduleOfEntry, userEntries}
+use Rattle.entry_starts.specs.Starts.{moduleStarts, userStarts}
+use Rattle.dynamic_entries.specs.Sorted.{sortedEntries}
+use Rattle.passes.specs.Bailouts.{bailoutsStarts}
+use Rattle.dynamic_entries.specs.Tries.{Progress, lives, tried}
+use Rattle.tree_shaking.specs.Rounds.{bailed, round, keptModule, begun}
+
+-- the parties of a run's main part
+pub data Party : Type 0 where
+  entry : ℕ → Party
+  bailouts : Party
+
+pub record Start : Type 0 where
+  pub party : Party
+  pub fact : Fact
+
+unfoldable pub by : Party → List Fact → List Start
+by party facts = map (λ f. record { party = party; fact = f }) facts
+
+unfoldable pub ofUsers : Graph → List ℕ → List Start
+ofUsers g [] = []
+ofUsers g (e ∷ es) = by (entry e) (userStarts g (moduleOfEntry g e)) ++ ofUsers g es
+
+unfoldable pub ofTry : Graph → List ℕ → ℕ → Progress → List Start
+ofTry g v e p =
+    elim (p .live (moduleOfEntry g e)) [
+      | true ↦ []
+      | false ↦ elim (lives g v p e) [ true ↦ by (entry e) (moduleStarts g (moduleOfEntry g e)) | false ↦ [] ]
+    ]
+
+unfoldable pub ofTries : Graph → List ℕ → List ℕ → Progress → List Start
+ofTries g v [] p = []
+ofTries g v (e ∷ es) p = ofTry g v e p ++ ofTries g v es (tried g v e p)
+
+unfoldable pub ofRound : Graph → List ℕ → ℕ → Progress → List Start
+ofRound g v taken p = by bailouts (bailoutsStarts g (drop taken (p .lines))) ++ ofTries g v (sortedEntries g) (bailed g v taken p)
+
+unfoldable pub ofRounds : Graph → List ℕ → ℕ → ℕ → Progress → List Start
+ofRounds g v zero taken p = []
+ofRounds g v (suc fuel) taken p =
+    ofRound g v taken p
+    ++ elim (keptModule (length (p .lines)) (round g v taken p .lines)) [ true ↦ ofRounds g v fuel (length (p .lines)) (round g v taken p) | false ↦ [] ]
+
+-- all of them in their order, and their facts
+unfoldable pub ownStarts : Graph → List ℕ → List Start
+ownStarts g v = ofUsers g (userEntries g) ++ ofRounds g v (g .header .modules + 1) 0 (begun g v)
+
+unfoldable pub runStarts : Graph → List ℕ → List Fact
+runStarts g v = map (λ s. s .fact) (ownStarts g v)

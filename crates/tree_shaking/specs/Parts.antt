@@ -1,0 +1,40 @@
+-- What the parts of a run leave in the lent rows.
+use Prim.Native.Nat.{ℕ, _+_, _*_, _<_}
+use mathlib.Core.Path.{_≡_}
+use mathlib.Core.List.{List}
+use lib.ListN.{length, getD}
+use Rattle.graph.specs.Check.{Graph}
+use Rattle.determine_side_effects.specs.Effects.{lastVerdicts}
+use Rattle.keep_record.specs.declared.Line.{Line}
+use Rattle.keep_record.specs.declared.Added.{Added}
+use Rattle.keep_record.specs.declared.Added.the-variants.{Lines, Full}
+use Rattle.keep_record.specs.Lines.{has}
+use Rattle.keep_record.specs.Held.{linesOf}
+use Rattle.entry_order.specs.Plan.{wordsAt, planSize, Untouched}
+use Rattle.entry_starts.specs.Working.{Working, Started}
+use Rattle.dynamic_entries.specs.Tries.{Progress, progressIn, Planned}
+use Rattle.passes.specs.Helpers.{helperWord, helperUnion, runtimeStarts}
+use Rattle.tree_shaking.specs.declared.MainEnd.{MainEnd}
+use Rattle.tree_shaking.specs.declared.MainEnd.the-variants.{Ended, TooShort}
+use Rattle.tree_shaking.specs.Rounds.{Ended as EndedRounds}
+
+-- the rows hold this progress, or its lines are too many for the record
+pub record Progressed (g : Graph) (users : ℕ) (p : Progress) (partners marks row plan : List ℕ) (r : Added) : Type 0 where
+  pub working : (c : ℕ) → r ≡ Lines c → Working g 0 partners marks row c
+  pub is : (c : ℕ) → r ≡ Lines c → progressIn (g .header) (linesOf c row) plan ≡ p
+  pub planned : (c : ℕ) → r ≡ Lines c → Planned g plan users
+  pub full : r ≡ Full → length row < 6 * length (p .lines)
+
+-- the same of the whole main part, with its rounds
+pub record MainEnds (g : Graph) (users : ℕ) (e : EndedRounds) (partners marks row plan : List ℕ) (r : MainEnd) : Type 0 where
+  pub working : (n c : ℕ) → r ≡ Ended n c → Working g 0 partners marks row c
+  pub rounds-are : (n c : ℕ) → r ≡ Ended n c → n ≡ e .rounds
+  pub is : (n c : ℕ) → r ≡ Ended n c → progressIn (g .header) (linesOf c row) plan ≡ e .end
+  pub planned : (n c : ℕ) → r ≡ Ended n c → Planned g plan users
+  pub full : r ≡ TooShort → length row < 6 * length (e .end .lines)
+
+-- the runtime stage behind the main part's lines: the words of the helpers are in the plan, and their union was started over these lines
+pub record StageEnds (g : Graph) (main : List Line) (plan₀ partners marks row plan : List ℕ) (r : Added) : Type 0 where
+  pub started : Started g (length main) (runtimeStarts g (lastVerdicts g) (helperUnion g (has g 0 main))) main partners marks row r
+  pub words : (m : ℕ) → m < g .header .modules → (getD plan (wordsAt (g .header) + m) 0 ≡ helperWord g (has g 0 main) m) × (getD plan (wordsAt (g .header) + m) 0 < 4294967296)
+  pub others : Untouched (wordsAt (g .header)) (planSize (g .header)) plan₀ plan

@@ -1,0 +1,72 @@
+-- The run's main part and its runtime stage (document 01, "The run"; 000, `include_statements`).
+use Prim.Native.Nat.{ℕ, zero, suc, _+_}
+use mathlib.Core.Bool.{Bool, true, false}
+use mathlib.Core.List.{List, [], _∷_, _++_}
+use lib.Dec.{eqb}
+use lib.ListN.{length, drop}
+use Rattle.graph.specs.Check.{Graph}
+use Rattle.graph_access.specs.Words.{some, option}
+use Rattle.facts.specs.declared.Fact.{Fact}
+use Rattle.facts.specs.Facts.{kindOf}
+use Rattle.keep_record.specs.declared.Line.{Line}
+use Rattle.worklist.specs.Drain.{drainedAll}
+use Rattle.entry_order.specs.Order.{those, grouped, moduleOfEntry, userEntries}
+use Rattle.entry_starts.specs.Starts.{userStarts}
+use Rattle.dynamic_entries.specs.Sorted.{sortedEntries}
+use Rattle.dynamic_entries.specs.Tries.{Progress, starting, tries}
+use Rattle.passes.specs.Bailouts.{bailoutsStarts}
+use Rattle.passes.specs.Helpers.{helperUnion, runtimeStarts}
+
+-- Step 3. A round over lines of which the first `taken` were there when the round before began: their bailouts were taken then.
+unfoldable pub bailed : Graph → List ℕ → ℕ → Progress → Progress
+bailed g v taken p = starting g v (bailoutsStarts g (drop taken (p .lines))) p
+
+unfoldable pub round : Graph → List ℕ → ℕ → Progress → Progress
+round g v taken p = tries g v (sortedEntries g) (bailed g v taken p)
+
+-- a module is among the lines from number k on
+unfoldable pub keptModule : ℕ → List Line → Bool
+keptModule k lines = some (λ l. eqb (kindOf (l .fact)) 1) (drop k lines)
+
+-- how many rounds were made, and what the run came to
+pub record Ended : Type 0 where
+  pub rounds : ℕ
+  pub end : Progress
+
+abbrev pub endedAt : ℕ → Progress → Ended
+endedAt n p = record { rounds = n; end = p }
+
+-- "Rounds end after one in which no module became kept." Each but the last keeps one more module, so one more than there are modules
+-- suffice (`rounds-settle` in `run_choices`).
+unfoldable pub roundsFrom : Graph → List ℕ → ℕ → ℕ → ℕ → Progress → Ended
+roundsFrom g v zero made taken p = endedAt made p
+roundsFrom g v (suc fuel) made taken p =
+    elim (keptModule (length (p .lines)) (round g v taken p .lines)) [
+      | true ↦ roundsFrom g v fuel (made + 1) (length (p .lines)) (round g v taken p)
+      | false ↦ endedAt (made + 1) (round g v taken p)
+    ]
+
+-- Step 1: the user-defined entries in order
+unfoldable pub usersStarts : Graph → List ℕ → List Fact
+usersStarts g [] = []
+usersStarts g (e ∷ es) = userStarts g (moduleOfEntry g e) ++ usersStarts g es
+
+unfoldable pub noOne : ℕ → Bool
+noOne x = false
+
+unfoldable pub begun : Graph → List ℕ → Progress
+begun g v = starting g v (usersStarts g (userEntries g)) (record { lines = []; live = noOne; dead = noOne })
+
+-- the main part: everything before step 6
+unfoldable pub mainPart : Graph → List ℕ → Ended
+mainPart g v = roundsFrom g v (g .header .modules + 1) 0 0 (begun g v)
+
+-- Step 5. Option 5: splitting is off.
+unfoldable pub finalEntries : Graph → (ℕ → Bool) → List ℕ
+finalEntries g live =
+    grouped (moduleOfEntry g)
+    (userEntries g ++ elim (option g 5) [ true ↦ [] | false ↦ those (λ e. live (moduleOfEntry g e)) (sortedEntries g) ])
+
+-- Step 6: the lines of both stages. The second goes on behind the first, over it as its base.
+unfoldable pub runtimeStage : Graph → List ℕ → List Line → ℕ → List Line
+runtimeStage g v lines word = drainedAll g v (length lines) (runtimeStarts g v word) lines

@@ -1,0 +1,264 @@
+// The run: its main part and its runtime stage (include_statements.rs, `include_statements`).
+ghost use mathlib.Core.Path.{_≡_};
+ghost use Prim.Native.Nat.{ℕ, _+_, _*_, _<_, _≤_};
+ghost use mathlib.Core.List.{[]};
+ghost use lib.ListN.{length, getD, set};
+ghost use Rattle.graph_tables.specs.Tables.{headerIn};
+ghost use Rattle.graph.specs.Check.{graphIn};
+ghost use Rattle.determine_side_effects.specs.Effects.{lastVerdicts};
+ghost use Rattle.keep_rules.specs.Prepared.{Prepared};
+ghost use Rattle.keep_record.specs.Held.{linesOf};
+ghost use Rattle.entry_order.specs.Order.{moduleOfEntry, userEntries};
+ghost use Rattle.entry_order.specs.Chains.{Entries};
+ghost use Rattle.entry_order.specs.Plan.{planSize};
+ghost use Rattle.entry_starts.specs.Starts.{moduleStarts};
+ghost use Rattle.entry_starts.specs.Working.{Working, Started};
+ghost use Rattle.dynamic_entries.specs.Sorted.{sortedEntries};
+ghost use Rattle.dynamic_entries.specs.Tries.{tries, progressIn, Planned, Unlived};
+ghost use Rattle.tree_shaking.specs.Rounds.{usersStarts, round as roundOf, keptModule, roundsFrom, mainPart};
+ghost use Rattle.tree_shaking.specs.Parts.{Progressed, MainEnds, StageEnds};
+use entry_liveness::next_live;
+use graph_access::entries;
+use index::EntryIdx;
+use keep_record::Added;
+use keep_record::Stage;
+
+// How the main part ends: after so many rounds, with so many lines; or the record is too short.
+pub enum MainEnd {
+    Ended(usize, usize),
+    TooShort,
+}
+
+// Starts the user-defined entries in their order.
+fn include_user_entries(
+    numbers: &[u32],
+    tables: &[usize],
+    partners: &mut [usize],
+    marks: &mut [u8],
+    lines: &mut [u32],
+    plan: &[usize],
+    users: usize,
+) -> Added
+    requires { ⌜ Prepared (now numbers) (now tables) ⌝ }
+    requires { ⌜ Working (graphIn (now numbers)) 0 (now partners) (now marks) (now lines) 0 × Planned (graphIn (now numbers)) (now plan) users ⌝ }
+    ensures { λ r. ⌜ Started (graphIn (now (numbers .entry))) 0 (usersStarts (graphIn (now (numbers .entry))) (userEntries (graphIn (now (numbers .entry))))) [] (now (partners .exit)) (now (marks .exit)) (now (lines .exit)) r ⌝ }
+{
+    let mut total: usize = 0;
+    let mut i: usize = 0;
+    while i < users {
+        let m = entries::entry_module(numbers, tables, EntryIdx(plan[i]));
+        match entry_starts::include_user_entry(numbers, tables, partners, marks, lines, total, m) {
+            Added::Full => {
+                return Added::Full;
+            }
+            Added::Lines(n) => {
+                total = n;
+            }
+        }
+        i += 1;
+    }
+    Added::Lines(total)
+}
+
+// The entry at place i of the plan is live: its module is live from now on, and is started.
+fn include_live_entry(
+    numbers: &[u32],
+    tables: &[usize],
+    partners: &mut [usize],
+    marks: &mut [u8],
+    lines: &mut [u32],
+    plan: &mut [usize],
+    count: usize,
+    i: usize,
+) -> Added
+    requires { ⌜ Prepared (now numbers) (now tables) ⌝ }
+    requires { ⌜ Working (graphIn (now numbers)) 0 (now partners) (now marks) (now lines) count × (planSize (headerIn (now numbers)) ≤ length (now plan)) × Entries (graphIn (now numbers)) (now plan) (headerIn (now numbers) .entries) × (i < headerIn (now numbers) .entries) ⌝ }
+    ensures { λ r. ⌜ Started (graphIn (now (numbers .entry))) 0 (moduleStarts (graphIn (now (numbers .entry))) (moduleOfEntry (graphIn (now (numbers .entry))) (getD (now (plan .entry)) i 0))) (linesOf count (now (lines .entry))) (now (partners .exit)) (now (marks .exit)) (now (lines .exit)) r × (now (plan .exit) ≡ set (now (plan .entry)) (headerIn (now (numbers .entry)) .entries + moduleOfEntry (graphIn (now (numbers .entry))) (getD (now (plan .entry)) i 0)) 1) × (moduleOfEntry (graphIn (now (numbers .entry))) (getD (now (plan .entry)) i 0) < headerIn (now (numbers .entry)) .modules) ⌝ }
+{
+    let h = graph::header_of(numbers);
+    let m = entries::entry_module(numbers, tables, EntryIdx(plan[i]));
+    let u = m.0;
+    plan[h.entries + u] = 1;
+    entry_starts::include_entry(numbers, tables, partners, marks, lines, count, m)
+}
+
+// Tries the dynamic entries in their order.
+fn try_dynamic_entries(
+    numbers: &[u32],
+    tables: &[usize],
+    partners: &mut [usize],
+    marks: &mut [u8],
+    lines: &mut [u32],
+    plan: &mut [usize],
+    users: usize,
+    count: usize,
+) -> Added
+    requires { ⌜ Prepared (now numbers) (now tables) ⌝ }
+    requires { ⌜ Working (graphIn (now numbers)) 0 (now partners) (now marks) (now lines) count × Planned (graphIn (now numbers)) (now plan) users ⌝ }
+    ensures { λ r. ⌜ Progressed (graphIn (now (numbers .entry))) users (tries (graphIn (now (numbers .entry))) (lastVerdicts (graphIn (now (numbers .entry)))) (sortedEntries (graphIn (now (numbers .entry)))) (progressIn (headerIn (now (numbers .entry))) (linesOf count (now (lines .entry))) (now (plan .entry)))) (now (partners .exit)) (now (marks .exit)) (now (lines .exit)) (now (plan .exit)) r ⌝ }
+{
+    let h = graph::header_of(numbers);
+    let mut total = count;
+    let mut i = next_live(numbers, tables, marks, plan, users, users);
+    while i < h.entries {
+        match include_live_entry(numbers, tables, partners, marks, lines, plan, total, i) {
+            Added::Full => {
+                return Added::Full;
+            }
+            Added::Lines(n) => {
+                total = n;
+            }
+        }
+        i = next_live(numbers, tables, marks, plan, users, i + 1);
+    }
+    Added::Lines(total)
+}
+
+// A round: the bailouts of the lines from number `taken` on, then the dynamic entries.
+fn round(
+    numbers: &[u32],
+    tables: &[usize],
+    partners: &mut [usize],
+    marks: &mut [u8],
+    lines: &mut [u32],
+    plan: &mut [usize],
+    users: usize,
+    count: usize,
+    taken: usize,
+) -> Added
+    requires { ⌜ Prepared (now numbers) (now tables) ⌝ }
+    requires { ⌜ Working (graphIn (now numbers)) 0 (now partners) (now marks) (now lines) count × Planned (graphIn (now numbers)) (now plan) users × (taken ≤ count) ⌝ }
+    ensures { λ r. ⌜ Progressed (graphIn (now (numbers .entry))) users (roundOf (graphIn (now (numbers .entry))) (lastVerdicts (graphIn (now (numbers .entry)))) taken (progressIn (headerIn (now (numbers .entry))) (linesOf count (now (lines .entry))) (now (plan .entry)))) (now (partners .exit)) (now (marks .exit)) (now (lines .exit)) (now (plan .exit)) r ⌝ }
+{
+    match passes::include_cjs_bailout_exports(
+        numbers,
+        tables,
+        partners,
+        marks,
+        lines,
+        count,
+        taken,
+    ) {
+        Added::Full => Added::Full,
+        Added::Lines(n) => try_dynamic_entries(
+            numbers,
+            tables,
+            partners,
+            marks,
+            lines,
+            plan,
+            users,
+            n,
+        ),
+    }
+}
+
+// Whether a module is among the lines from number `from` up to `to`.
+fn has_module(lines: &[u32], from: usize, to: usize) -> bool
+    requires { ⌜ (from ≤ to) × (6 * to ≤ length (now lines)) ⌝ }
+    ensures { λ r. ⌜ r ≡ keptModule from (linesOf to (now (lines .entry))) ⌝ }
+{
+    let mut k = from;
+    while k < to {
+        if facts::kind_of(keep_record::fact_at(lines, k)) == 1 {
+            return true;
+        }
+        k += 1;
+    }
+    false
+}
+
+// The rounds, up to one in which no module became kept; at most one more than there are modules.
+fn rounds(
+    numbers: &[u32],
+    tables: &[usize],
+    partners: &mut [usize],
+    marks: &mut [u8],
+    lines: &mut [u32],
+    plan: &mut [usize],
+    users: usize,
+    count: usize,
+) -> MainEnd
+    requires { ⌜ Prepared (now numbers) (now tables) ⌝ }
+    requires { ⌜ Working (graphIn (now numbers)) 0 (now partners) (now marks) (now lines) count × Planned (graphIn (now numbers)) (now plan) users ⌝ }
+    ensures { λ r. ⌜ MainEnds (graphIn (now (numbers .entry))) users (roundsFrom (graphIn (now (numbers .entry))) (lastVerdicts (graphIn (now (numbers .entry)))) (headerIn (now (numbers .entry)) .modules + 1) 0 0 (progressIn (headerIn (now (numbers .entry))) (linesOf count (now (lines .entry))) (now (plan .entry)))) (now (partners .exit)) (now (marks .exit)) (now (lines .exit)) (now (plan .exit)) r ⌝ }
+{
+    let h = graph::header_of(numbers);
+    let mut total = count;
+    let mut taken: usize = 0;
+    let mut made: usize = 0;
+    while made <= h.modules {
+        match round(
+            numbers,
+            tables,
+            partners,
+            marks,
+            lines,
+            plan,
+            users,
+            total,
+            taken,
+        ) {
+            Added::Full => {
+                return MainEnd::TooShort;
+            }
+            Added::Lines(n) => {
+                made += 1;
+                if !has_module(lines, total, n) {
+                    return MainEnd::Ended(made, n);
+                }
+                taken = total;
+                total = n;
+            }
+        }
+    }
+    MainEnd::Ended(made, total)
+}
+
+// The main part: the user-defined entries, then the rounds. The rows are cleared.
+pub fn main_part(
+    numbers: &[u32],
+    tables: &[usize],
+    partners: &mut [usize],
+    marks: &mut [u8],
+    lines: &mut [u32],
+    plan: &mut [usize],
+    users: usize,
+) -> MainEnd
+    requires { ⌜ Prepared (now numbers) (now tables) ⌝ }
+    requires { ⌜ Working (graphIn (now numbers)) 0 (now partners) (now marks) (now lines) 0 × Planned (graphIn (now numbers)) (now plan) users × Unlived (graphIn (now numbers)) (now plan) ⌝ }
+    ensures { λ r. ⌜ MainEnds (graphIn (now (numbers .entry))) users (mainPart (graphIn (now (numbers .entry))) (lastVerdicts (graphIn (now (numbers .entry))))) (now (partners .exit)) (now (marks .exit)) (now (lines .exit)) (now (plan .exit)) r ⌝ }
+{
+    match include_user_entries(numbers, tables, partners, marks, lines, plan, users) {
+        Added::Full => MainEnd::TooShort,
+        Added::Lines(n) => rounds(numbers, tables, partners, marks, lines, plan, users, n),
+    }
+}
+
+// The runtime stage: the words of the helpers, and a stage that begins with their union.
+pub fn runtime_stage(
+    numbers: &[u32],
+    tables: &[usize],
+    partners: &mut [usize],
+    marks: &mut [u8],
+    lines: &mut [u32],
+    plan: &mut [usize],
+    count: usize,
+) -> Added
+    requires { ⌜ Prepared (now numbers) (now tables) ⌝ }
+    requires { ⌜ Working (graphIn (now numbers)) 0 (now partners) (now marks) (now lines) count × (planSize (headerIn (now numbers)) ≤ length (now plan)) ⌝ }
+    ensures { λ r. ⌜ StageEnds (graphIn (now (numbers .entry))) (linesOf count (now (lines .entry))) (now (plan .entry)) (now (partners .exit)) (now (marks .exit)) (now (lines .exit)) (now (plan .exit)) r ⌝ }
+{
+    passes::collect_helpers(numbers, tables, marks, plan);
+    let word = passes::collect_depended_runtime_helpers(numbers, tables, marks, plan);
+    next_stage::begin(numbers, tables, partners, marks, lines, count);
+    passes::include_runtime_symbol(
+        numbers,
+        tables,
+        partners,
+        marks,
+        lines,
+        Stage { base: count, count },
+        word,
+    )
+}

@@ -1,0 +1,16 @@
+//! The tree shaking of rolldown 1.2.16, compiled unchanged, as a peer that the keep decision is compared with.
+
+pub mod answers;
+pub mod compare;
+mod decide;
+pub mod graphs;
+mod listing;
+mod loops;
+mod shrink;
+pub mod sides;
+mod stage;
+
+pub use decide::{decide, time_decision, time_numbers, Decision, Times, BUDGET};
+pub use loops::Cause;
+pub use rolldown_common::Budget;
+pub use unlinked::{generate, happenings, loads, model, reference, Refused};

@@ -1,0 +1,253 @@
+//! `oracle`: the tree shaking's listing of a graph, of many graphs, its times, comparisons, and a list of answers.
+
+use oracle::answers::{answers, read_answer};
+use oracle::compare::Comparison;
+use oracle::loads::loads;
+use oracle::reference::decode::decode;
+use oracle::reference::{check, leb128};
+use oracle::sides::{self, Side};
+use oracle::{decide, time_decision, Budget, Decision, Refused, BUDGET};
+use std::error::Error;
+use std::fs;
+use std::io::{self, Read, Write};
+use std::process::ExitCode;
+use std::time::Duration;
+
+const USAGE: &str = "\
+oracle [OPTIONS] [FILE]              the listing of a graph file, or of standard input
+oracle --time [OPTIONS] [FILE]       how long its decision takes, the best of some times
+oracle batch [OPTIONS]               graph files from standard input to listings, each behind its length in 4 bytes,
+                                     the lowest first
+oracle compare FIRST COUNT [OPTIONS] compares the graphs of so many seeds with another side
+oracle loads [OPTIONS]               how long the decisions of the bindings' loads take, and whether the other side agrees
+oracle answers COUNT SEED            a list of files in hexadecimal and listings in a line; to standard error, in how
+                                     many of them each thing occurs
+oracle replay FILE [OPTIONS]         compares such a list with the tree shaking and another side
+
+--seed N        order of the hash maps; 0 is the usual one
+--hash-seeds N  in a comparison: so many orders
+--calls N       gives up after resolving so many symbols
+--seconds N     gives up after so long
+--repeat N      times that are taken
+--other WHICH   reference (the usual one), library (if built in), or a program's path
+--differences N ends a comparison after so many differences
+";
+
+struct Options {
+    seed: u64,
+    hash_seeds: u64,
+    budget: Budget,
+    repeat: u32,
+    other: String,
+    differences: usize,
+    time: bool,
+    rest: Vec<String>,
+}
+
+fn main() -> ExitCode {
+    match options().and_then(|options| work(&options)) {
+        Ok(true) => ExitCode::SUCCESS,
+        Ok(false) => ExitCode::FAILURE,
+        Err(error) => {
+            eprintln!("{error}");
+            ExitCode::from(2)
+        }
+    }
+}
+
+fn options() -> Result<Options, Box<dyn Error>> {
+    let mut options = Options {
+        seed: 0,
+        hash_seeds: 4,
+        budget: BUDGET,
+        repeat: 20,
+        other: "reference".to_string(),
+        differences: 3,
+        time: false,
+        rest: Vec::new(),
+    };
+    let mut arguments = std::env::args().skip(1);
+    while let Some(argument) = arguments.next() {
+        let mut value = || arguments.next().ok_or_else(|| format!("{argument} needs a value\n{USAGE}"));
+        match argument.as_str() {
+            "--seed" => options.seed = value()?.parse()?,
+            "--hash-seeds" => options.hash_seeds = value()?.parse::<u64>()?.max(1),
+            "--calls" => options.budget.calls = value()?.parse()?,
+            "--seconds" => options.budget.time = Duration::from_secs(value()?.parse()?),
+            "--repeat" => options.repeat = value()?.parse()?,
+            "--other" => options.other = value()?,
+            "--differences" => options.differences = value()?.parse()?,
+            "--time" => options.time = true,
+            "--help" | "-h" => return Err(USAGE.into()),
+            other if other.starts_with("--") => return Err(format!("{other} is no option\n{USAGE}").into()),
+            _ => options.rest.push(argument),
+        }
+    }
+    Ok(options)
+}
+
+fn work(options: &Options) -> Result<bool, Box<dyn Error>> {
+    let rest: Vec<&str> = options.rest.iter().map(String::as_str).collect();
+    match rest[..] {
+        ["batch"] => batch(options),
+        ["loads"] => time_loads(options),
+        ["compare", first, count] => compare(options, first.parse()?, count.parse()?),
+        ["answers", count, seed] => {
+            let mut out = io::stdout().lock();
+            let answers = answers(count.parse()?, seed.parse()?);
+            for line in answers.lines {
+                writeln!(out, "{line}")?;
+            }
+            for (name, count) in answers.occurred {
+                eprintln!("{count:>5} {name}");
+            }
+            Ok(true)
+        }
+        ["replay", path] => replay(options, &fs::read_to_string(path)?),
+        [] => {
+            let mut file = Vec::new();
+            io::stdin().read_to_end(&mut file)?;
+            one(options, &file)
+        }
+        [path] => one(options, &fs::read(path)?),
+        _ => Err(USAGE.into()),
+    }
+}
+
+/// The numbers of a file that are a graph.
+fn accepted(file: &[u8]) -> Result<Vec<u32>, Refused> {
+    let mut numbers = vec![0; file.len()];
+    let count = leb128::read(file, &mut numbers).result()?;
+    numbers.truncate(count);
+    check(&numbers)?;
+    Ok(numbers)
+}
+
+/// What is printed for a file.
+fn answer(options: &Options, file: &[u8]) -> String {
+    match accepted(file) {
+        Ok(numbers) => match decide(&decode(&numbers), options.seed, options.budget) {
+            Decision::Listed(listing) => listing,
+            Decision::GaveUp(cause) => format!("gave up, {cause}\n"),
+        },
+        Err(refused) => format!("refused {}\n", refused.number),
+    }
+}
+
+fn one(options: &Options, file: &[u8]) -> Result<bool, Box<dyn Error>> {
+    if !options.time {
+        io::stdout().write_all(answer(options, file).as_bytes())?;
+        return Ok(true);
+    }
+    let numbers = accepted(file)?;
+    match time_decision(&decode(&numbers), options.seed, options.repeat) {
+        Some(times) => println!("whole {:?}\ninclude {:?}", times.whole, times.include),
+        None => println!("gave up"),
+    }
+    Ok(true)
+}
+
+fn batch(options: &Options) -> Result<bool, Box<dyn Error>> {
+    let (mut input, mut output) = (io::stdin().lock(), io::stdout().lock());
+    let mut length = [0; 4];
+    loop {
+        match input.read_exact(&mut length) {
+            Err(error) if error.kind() == io::ErrorKind::UnexpectedEof => return Ok(true),
+            other => other?,
+        }
+        let mut file = vec![0; u32::from_le_bytes(length) as usize];
+        input.read_exact(&mut file)?;
+        let answer = answer(options, &file);
+        output.write_all(&(answer.len() as u32).to_le_bytes())?;
+        output.write_all(answer.as_bytes())?;
+        output.flush()?;
+    }
+}
+
+fn time_loads(options: &Options) -> Result<bool, Box<dyn Error>> {
+    let other = other(&options.other)?;
+    let mut all_equal = true;
+    for load in loads() {
+        let Decision::Listed(listing) = decide(&load.graph, options.seed, options.budget) else {
+            println!("{}: gave up", load.name);
+            continue;
+        };
+        let equal = other(&load.graph.numbers()) == Ok(listing);
+        all_equal &= equal;
+        let times = time_decision(&load.graph, options.seed, options.repeat).expect("it does not give up");
+        println!("{}: whole {:?}, include {:?}, equal {equal}", load.name, times.whole, times.include);
+        #[cfg(feature = "library")]
+        time_library(&load.graph.numbers(), options.repeat, times.whole);
+    }
+    Ok(all_equal)
+}
+
+/// The linked library's time for the same decision, with its check and its rows, and its share of the Rust's.
+#[cfg(feature = "library")]
+fn time_library(numbers: &[u32], repetitions: u32, whole: Duration) {
+    let best = lizdakk::with_stack(|| {
+        let mut run = lizdakk::RunBuffers::for_graph(numbers).expect("the graph is accepted");
+        let mut best = Duration::MAX;
+        for _ in 0..repetitions.max(1) {
+            // Short runs are taken together, so that the clock does not count.
+            const TOGETHER: u32 = 16;
+            let begin = std::time::Instant::now();
+            for _ in 0..TOGETHER {
+                assert_eq!(std::hint::black_box(run.again()).number, 0);
+            }
+            best = best.min(begin.elapsed() / TOGETHER);
+        }
+        best
+    });
+    println!("    library {best:?}, {:.3} of the whole", best.as_secs_f64() / whole.as_secs_f64());
+}
+
+fn compare(options: &Options, first: u64, count: u64) -> Result<bool, Box<dyn Error>> {
+    let other = other(&options.other)?;
+    let comparison = Comparison {
+        other: &*other,
+        hash_seeds: (0..options.hash_seeds).map(|order| options.seed + order).collect(),
+        budget: Budget { calls: options.budget.calls.min(200_000), ..options.budget },
+        other_may_refuse: is_program(&options.other),
+    };
+    let counts = comparison.seeds(first..first.saturating_add(count), options.differences);
+    write!(io::stdout(), "{counts}")?;
+    Ok(counts.differences.is_empty())
+}
+
+fn replay(options: &Options, list: &str) -> Result<bool, Box<dyn Error>> {
+    let other = other(&options.other)?;
+    let mut good = 0;
+    for (number, line) in (1..).zip(list.lines()) {
+        let (numbers, listing) = read_answer(line).ok_or_else(|| format!("line {number} is out of form"))?;
+        check(&numbers)?;
+        let real = decide(&decode(&numbers), options.seed, options.budget) == Decision::Listed(listing.clone());
+        let equal = other(&numbers) == Ok(listing);
+        if real && equal {
+            good += 1;
+        } else {
+            println!("line {number}: tree shaking {real}, the other side {equal}");
+        }
+    }
+    let all = list.lines().count();
+    println!("{good} of {all} answers are the same");
+    Ok(good == all)
+}
+
+fn is_program(which: &str) -> bool {
+    !matches!(which, "reference" | "library")
+}
+
+fn other(which: &str) -> Result<Box<Side<'static>>, Box<dyn Error>> {
+    match which {
+        "reference" => Ok(Box::new(sides::reference)),
+        #[cfg(feature = "library")]
+        "library" => Ok(Box::new(sides::library)),
+        #[cfg(not(feature = "library"))]
+        "library" => Err("built without the feature `library`".into()),
+        program => {
+            let path = program.to_string();
+            Ok(Box::new(move |numbers: &[u32]| sides::program(&path, numbers)))
+        }
+    }
+}
