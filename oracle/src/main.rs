@@ -2,7 +2,8 @@
 
 use oracle::answers::{answers, read_answer};
 use oracle::compare::Comparison;
-use oracle::loads::loads;
+use oracle::generate::PRINTED;
+use oracle::loads::{loads, Load};
 use oracle::reference::decode::decode;
 use oracle::reference::{check, leb128};
 use oracle::sides::{self, Side};
@@ -167,7 +168,8 @@ fn batch(options: &Options) -> Result<bool, Box<dyn Error>> {
 fn time_loads(options: &Options) -> Result<bool, Box<dyn Error>> {
     let other = other(&options.other)?;
     let mut all_equal = true;
-    for load in loads() {
+    let printed = Load { name: "printed case", graph: decode(&PRINTED) };
+    for load in loads().into_iter().chain([printed]) {
         let Decision::Listed(listing) = decide(&load.graph, options.seed, options.budget) else {
             println!("{}: gave up", load.name);
             continue;
