@@ -22,6 +22,9 @@ BOUNDARY = "host/src/lib.rt"
 THEOREMS = [
     "closed_choices/specs/*.antt",
     "run_choices/specs/*.antt",
+    "rule_relation/specs/*.antt",
+    "judged_records/specs/*.antt",
+    "judged_starts/specs/*.antt",
     "keep/specs/*.antt",
     "determine_side_effects/specs/Paths.antt",
     "determine_side_effects/specs/Sequence.antt",

@@ -31,7 +31,7 @@ pub enum Consequence {
 }
 
 // How many segments a fact has.
-fn segment_count(numbers: &[u32], tables: &[usize], fact: Fact) -> usize
+pub fn segment_count(numbers: &[u32], tables: &[usize], fact: Fact) -> usize
     requires { ⌜ Prepared (now numbers) (now tables) ⌝ }
     requires { ⌜ Good (graphIn (now numbers)) fact ⌝ }
     ensures { λ r. ⌜ r ≡ length (segmentsIn (now (numbers .entry)) fact) ⌝ }
@@ -57,7 +57,7 @@ fn segment_count(numbers: &[u32], tables: &[usize], fact: Fact) -> usize
 }
 
 // The rule of segment j.
-fn segment_rule(numbers: &[u32], fact: Fact, j: usize) -> usize
+pub fn segment_rule(numbers: &[u32], fact: Fact, j: usize) -> usize
     requires { ⌜ Good (graphIn (now numbers)) fact ⌝ }
     requires { ⌜ j < length (segmentsIn (now numbers) fact) ⌝ }
     ensures { λ r. ⌜ (r ≡ segmentIn (now (numbers .entry)) fact j .rule) × (r < 15) ⌝ }
@@ -78,7 +78,7 @@ fn segment_rule(numbers: &[u32], fact: Fact, j: usize) -> usize
 }
 
 // How many candidates segment j has.
-fn segment_candidates(
+pub fn segment_candidates(
     numbers: &[u32],
     tables: &[usize],
     fact: Fact,
@@ -106,7 +106,7 @@ fn segment_candidates(
 }
 
 // What candidate k of segment j gives.
-fn segment_candidate(
+pub fn segment_candidate(
     numbers: &[u32],
     tables: &[usize],
     fact: Fact,
@@ -135,7 +135,7 @@ fn segment_candidate(
 }
 
 // Where the reference of segment j + 1 stands.
-fn place_behind(numbers: &[u32], tables: &[usize], fact: Fact, j: usize, place: usize) -> usize
+pub fn place_behind(numbers: &[u32], tables: &[usize], fact: Fact, j: usize, place: usize) -> usize
     requires { ⌜ Prepared (now numbers) (now tables) ⌝ }
     requires { ⌜ Good (graphIn (now numbers)) fact ⌝ }
     requires { ⌜ (j < length (segmentsIn (now numbers) fact)) × Placed (now numbers) fact j place ⌝ }

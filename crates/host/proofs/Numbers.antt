@@ -16,11 +16,16 @@ use Rattle.drain_parts.specs.Operation.{Rows, Outcome, answered, Ends}
 use Rattle.run_parts.specs.declared.Ran.{Ran}
 use Rattle.run_parts.specs.declared.Ran.the-variants.{Done, Refused as Ran·Refused}
 use Rattle.run_parts.specs.Operation.{Rows as RunRows, Outcome as RunOutcome, answered as runAnswered, Ends as RunEnds}
+use Rattle.judge_parts.specs.declared.Judged.{Judged}
+use Rattle.judge_parts.specs.declared.Judged.the-variants.{Passed, Refused as Judged·Refused}
+use Rattle.run_starts.specs.declared.StartsRead.{StartsRead}
+use Rattle.run_starts.specs.declared.StartsRead.the-variants.{Numbers as Starts·Numbers, Refused as Starts·Refused}
+use Rattle.run_starts.specs.Operation.{Rows as StartsRows, Outcome as StartsOutcome, answered as startsAnswered, Ends as StartsEnd}
 use Rattle.host.specs.declared.DrainAnswer.{DrainAnswer}
 use Rattle.host.specs.declared.ReadAnswer.{ReadAnswer}
 use Rattle.host.specs.declared.Refusal.{Refusal}
 use Rattle.host.specs.declared.RunAnswer.{RunAnswer}
-use Rattle.host.specs.Answers.{readAnswerOf, refusalOf, passedOf, drainAnswerOf, runAnswerOf}
+use Rattle.host.specs.Answers.{readAnswerOf, refusalOf, passedOf, drainAnswerOf, runAnswerOf, judgedOf, startsAnswerOf}
 
 pub as-count : (d : Decoded) (n : ℕ) → answerOf d ≡ Numbers n → _≡_ {A = ReadAnswer} (record { number = 0; place = 0; count = n }) (readAnswerOf d)
 unfolding answerOf readAnswerOf
@@ -105,3 +110,27 @@ run-same-ends o r lent after e =
       helpers-are = e .helpers-are;
       entries-are = e .entries-are;
     }
+
+pub as-judged : (j : Judged) → j ≡ Passed → _≡_ {A = Refusal} (record { number = 0; place = 0 }) (judgedOf j)
+unfolding judgedOf
+as-judged Passed e = refl
+as-judged (Judged·Refused n p) e = let z : _≡_ {A = ℕ} 0 1 = cc in absurd (omega arith)
+
+pub as-not-judged : (j : Judged) (n p : ℕ) → j ≡ Judged·Refused n p → _≡_ {A = Refusal} (record { number = n; place = p }) (judgedOf j)
+unfolding judgedOf
+as-not-judged Passed n p e = let z : _≡_ {A = ℕ} 0 1 = cc in absurd (omega arith)
+as-not-judged (Judged·Refused m q) n p e = cc
+
+pub as-starts : (d : StartsRead) (n : ℕ) → d ≡ Starts·Numbers n → _≡_ {A = ReadAnswer} (record { number = 0; place = 0; count = n }) (startsAnswerOf d)
+unfolding startsAnswerOf
+as-starts (Starts·Numbers m) n e = cc
+as-starts (Starts·Refused m p) n e = let z : _≡_ {A = ℕ} 0 1 = cc in absurd (omega arith)
+
+pub as-no-starts : (d : StartsRead) (n p : ℕ) → d ≡ Starts·Refused n p → _≡_ {A = ReadAnswer} (record { number = n; place = p; count = 0 }) (startsAnswerOf d)
+unfolding startsAnswerOf
+as-no-starts (Starts·Numbers m) n p e = let z : _≡_ {A = ℕ} 0 1 = cc in absurd (omega arith)
+as-no-starts (Starts·Refused m q) n p e = cc
+
+-- the rows of a run's own starts, whatever the answer is called
+pub starts-same-ends : (o : StartsOutcome) (r : StartsRead) (lent after : StartsRows) → StartsEnd o r lent after → StartsEnd o (startsAnswered o) lent after
+starts-same-ends o r lent after e = record { answer = refl; marks-are = e .marks-are; record-is = e .record-is; starts-are = e .starts-are }

@@ -15,6 +15,11 @@ use Rattle.drain_parts.specs.Operation.{Rows, roomsOf, outcomeOf, answered, End
 use Rattle.run_parts.specs.declared.Ran.{Ran}
 use Rattle.run_parts.specs.declared.Ran.the-variants.{Done, Refused as RunRefused}
 use Rattle.run_parts.specs.Operation.{Rows as RunRows, roomsOf as runRoomsOf, outcomeOf as runOutcomeOf, answered as runAnswered, Ends as RunEnds}
+use Rattle.judge_parts.specs.declared.Judged.{Judged}
+use Rattle.judge_parts.specs.declared.Judged.the-variants.{Passed, Refused as JudgeRefused}
+use Rattle.run_starts.specs.declared.StartsRead.{StartsRead}
+use Rattle.run_starts.specs.declared.StartsRead.the-variants.{Numbers, Refused as StartsRefused}
+use Rattle.run_starts.specs.Operation.{Rows as StartsRows, roomsOf as startsRoomsOf, outcomeOf as startsOutcomeOf, answered as startsAnswered, Ends as StartsEnd}
 use Rattle.host.specs.declared.DrainAnswer.{DrainAnswer}
 use Rattle.host.specs.declared.ReadAnswer.{ReadAnswer}
 use Rattle.host.specs.declared.Refusal.{Refusal}
@@ -45,6 +50,16 @@ unfoldable pub runAnswerOf : Ran → RunAnswer
 runAnswerOf (Done rounds main runtime entries) = record { number = 0; place = 0; rounds = rounds; lines = main; «runtime_lines» = runtime; entries = entries }
 runAnswerOf (RunRefused n p) = record { number = n; place = p; rounds = 0; lines = 0; «runtime_lines» = 0; entries = 0 }
 
+-- of a judge: passed, or the refusal
+unfoldable pub judgedOf : Judged → Refusal
+judgedOf Passed = record { number = 0; place = 0 }
+judgedOf (JudgeRefused n p) = record { number = n; place = p }
+
+-- of a run's own starts: how many numbers they have, or the refusal
+unfoldable pub startsAnswerOf : StartsRead → ReadAnswer
+startsAnswerOf (Numbers n) = record { number = 0; place = 0; count = n }
+startsAnswerOf (StartsRefused n p) = record { number = n; place = p; count = 0 }
+
 pub record KeepRead (file lent : List ℕ) (answer : ReadAnswer) (numbers : List ℕ) : Type 0 where
   pub answers : answer ≡ readAnswerOf (readOf file (length lent))
   pub leaves : numbers ≡ lentOf (readOf file (length lent)) lent
@@ -60,3 +75,7 @@ pub record KeepDrain (numbers starts : List ℕ) (answer : DrainAnswer) (lent af
 pub record KeepRun (numbers : List ℕ) (answer : RunAnswer) (lent after : RunRows) : Type 0 where
   pub answers : answer ≡ runAnswerOf (runAnswered (runOutcomeOf numbers (runRoomsOf lent)))
   pub leaves : RunEnds (runOutcomeOf numbers (runRoomsOf lent)) (runAnswered (runOutcomeOf numbers (runRoomsOf lent))) lent after
+
+pub record KeepStarts (numbers : List ℕ) (answer : ReadAnswer) (lent after : StartsRows) : Type 0 where
+  pub answers : answer ≡ startsAnswerOf (startsAnswered (startsOutcomeOf numbers (startsRoomsOf lent)))
+  pub leaves : StartsEnd (startsOutcomeOf numbers (startsRoomsOf lent)) (startsAnswered (startsOutcomeOf numbers (startsRoomsOf lent))) lent after

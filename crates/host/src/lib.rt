@@ -3,11 +3,15 @@ ghost use mathlib.Core.Path.{_≡_};
 ghost use Rattle.graph.specs.Check.{checkOf};
 ghost use Rattle.drain_parts.specs.Operation.{rows as rowsOf};
 ghost use Rattle.run_parts.specs.Operation.{rows as runRowsOf};
-ghost use Rattle.host.specs.Answers.{KeepRead, KeepEffects, KeepDrain, KeepRun, refusalOf};
+ghost use Rattle.judge_parts.specs.Operation.{judgeOf};
+ghost use Rattle.run_starts.specs.Operation.{rows as startsRowsOf};
+ghost use Rattle.host.specs.Answers.{KeepRead, KeepEffects, KeepDrain, KeepRun, KeepStarts, refusalOf, judgedOf};
 use drain_parts::Drained;
 use graph::Checked;
+use judge_parts::Judged;
 use leb128::Answer;
 use run_parts::Ran;
+use run_starts::StartsRead;
 
 // A refusal's number and its place; number 0: not refused.
 #[repr(C)]
@@ -184,6 +188,47 @@ pub extern "C" fn keep_run(
             lines: 0,
             runtime_lines: 0,
             entries: 0,
+        },
+    }
+}
+
+// Judges a record beside a graph and starts.
+#[no_mangle]
+pub extern "C" fn keep_judge(numbers: &[u32], starts: &[u32], lines: &[u32]) -> Refusal
+    ensures { λ r. ⌜ r ≡ judgedOf (judgeOf (now (numbers .entry)) (now (starts .entry)) (now (lines .entry))) ⌝ }
+{
+    match judge::judge(numbers, starts, lines) {
+        Judged::Passed => Refusal {
+            number: 0,
+            place: 0,
+        },
+        Judged::Refused(n, p) => Refusal {
+            number: n,
+            place: p as u64,
+        },
+    }
+}
+
+// A run's own starts as triples, each once, into the first of the lent starts.
+#[no_mangle]
+pub extern "C" fn keep_starts(
+    numbers: &[u32],
+    marks: &mut [u8],
+    lines: &mut [u32],
+    starts: &mut [u32],
+) -> ReadAnswer
+    ensures { λ r. ⌜ KeepStarts (now (numbers .entry)) r (startsRowsOf (now (marks .entry)) (now (lines .entry)) (now (starts .entry))) (startsRowsOf (now (marks .exit)) (now (lines .exit)) (now (starts .exit))) ⌝ }
+{
+    match run_starts::starts(numbers, marks, lines, starts) {
+        StartsRead::Numbers(n) => ReadAnswer {
+            number: 0,
+            place: 0,
+            count: n as u64,
+        },
+        StartsRead::Refused(n, p) => ReadAnswer {
+            number: n,
+            place: p as u64,
+            count: 0,
         },
     }
 }

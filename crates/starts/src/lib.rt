@@ -66,7 +66,7 @@ fn unused_fault(b: usize) -> usize
 }
 
 // The faulty number of a start, counted from 1, or 0.
-fn start_fault(numbers: &[u32], tables: &[usize], kind: usize, a: usize, b: usize) -> usize
+pub fn start_fault(numbers: &[u32], tables: &[usize], kind: usize, a: usize, b: usize) -> usize
     requires { ⌜ Loaded (now numbers) (now tables) ⌝ }
     ensures { λ r. ⌜ r ≡ startFaultOf (graphIn (now (numbers .entry))) kind a b ⌝ }
 {

@@ -61,7 +61,7 @@ fn include_user_entries(
 }
 
 // The entry at place i of the plan is live: its module is live from now on, and is started.
-fn include_live_entry(
+pub fn include_live_entry(
     numbers: &[u32],
     tables: &[usize],
     partners: &mut [usize],
@@ -154,7 +154,7 @@ fn round(
 }
 
 // Whether a module is among the lines from number `from` up to `to`.
-fn has_module(lines: &[u32], from: usize, to: usize) -> bool
+pub fn has_module(lines: &[u32], from: usize, to: usize) -> bool
     requires { ⌜ (from ≤ to) × (6 * to ≤ length (now lines)) ⌝ }
     ensures { λ r. ⌜ r ≡ keptModule from (linesOf to (now (lines .entry))) ⌝ }
 {

@@ -1,0 +1,33 @@
+use mathlib.Core.Path.{refl}
+use lib.ListN.{length-replicate}
+use native.Mathlib.Omega.{arith}
+use Rattle.tables.specs.declared.Size.the-variants.{Small}
+use Rattle.judge.proofs.Tiers.{tables-long, marks-clear}
+use Prim.Native.Nat.{ℕ}
+use Rattle.judge.proofs.judge_small.Statement.{statement}
+use Rattle.judge.proofs.judge_small.Tie as tie
+
+slice-aggregate-judge-in : tie.Need-slice-aggregate-judge-in
+slice-aggregate-judge-in c = length-replicate {A = ℕ} 363 0
+
+slice-aggregate-judge-in-2 : tie.Need-slice-aggregate-judge-in-2
+slice-aggregate-judge-in-2 c = length-replicate {A = ℕ} 516 0
+
+slice-aggregate-judge-in-3 : tie.Need-slice-aggregate-judge-in-3
+slice-aggregate-judge-in-3 c = length-replicate {A = ℕ} 516 0
+
+judge-in-requires : tie.Need-judge-in-requires
+judge-in-requires c κs = let s = c .before .before .before .before .before .before in (s .pre .0, (tables-long (s .args .h) Small 363 refl (omega arith) (s .pre .1), marks-clear (s .args .h) 16 64 64 516 (omega arith) (s .pre .1 .0) (s .pre .1 .1) (s .pre .1 .2)))
+
+returns : tie.Need-returns
+returns c = c .before .before .before .judge-in .ensures
+
+pub judge-small-spec : {M : Type 1} → statement M
+judge-small-spec =
+    tie.close
+    (tie.spec
+    slice-aggregate-judge-in
+    slice-aggregate-judge-in-2
+    slice-aggregate-judge-in-3
+    judge-in-requires
+    returns)

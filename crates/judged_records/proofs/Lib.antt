@@ -1,0 +1,16 @@
+pub mod Tests
+pub mod Form
+pub mod Follows
+pub mod Facts
+pub mod Lines
+pub mod Closing
+pub mod Reaching
+pub mod Exactly
+pub mod DrainRows
+pub mod DrainLines
+pub mod Drains
+pub mod RunTriples
+pub mod RunStarts
+pub mod RunOnce
+pub mod OfRuns
+pub mod OfOperations

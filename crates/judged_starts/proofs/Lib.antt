@@ -1,0 +1,4 @@
+pub mod Done
+pub mod Repeats
+pub mod Passing
+pub mod OfStarts

@@ -1,0 +1,5 @@
+pub mod ByPart
+pub mod Follow
+pub mod Spans
+pub mod Searches
+pub mod Joining

@@ -1,0 +1,2 @@
+pub mod Justify
+pub mod Search

@@ -1,0 +1,6 @@
+pub mod Ends
+pub mod Together
+pub mod Tried
+pub mod Searching
+pub mod Users
+pub mod Turns

@@ -1,0 +1,5 @@
+pub mod Readying
+pub mod Passing
+pub mod Twice
+pub mod Tiers
+pub mod Ending

@@ -1,0 +1,41 @@
+-- A pass with tables and rows of a size: arrays of zeros are long enough, and hold no mark.
+use Prim.Native.Nat.{ℕ, _+_, _*_, _<_, _≤_}
+use mathlib.Core.Path.{_≡_}
+use mathlib.Core.Bool.{false}
+use native.Mathlib.Decide.{decLt}
+use native.Mathlib.Omega.{arith}
+use lib.ListN.{length, getD, replicate, length-replicate, getD-replicate, List·getD-eq-default}
+use Rattle.bit_row.specs.Row.{bitAt}
+use Rattle.bit_row.proofs.Cleared.{zeros-unset}
+use Rattle.tables.specs.Layout.{startOf, FitsSize}
+use Rattle.tables.specs.declared.Size.{Size}
+use Rattle.tables.proofs.Sections.{wordsIn, fits-all}
+use Rattle.graph_format.specs.declared.Header.{Header}
+use Rattle.entry_order.specs.Plan.{planSize}
+
+zeros-everywhere : (n i : ℕ) → getD (replicate {A = ℕ} n 0) i 0 ≡ 0
+zeros-everywhere n i = go (decLt i n)
+  where
+    go : Dec (i < n) → getD (replicate {A = ℕ} n 0) i 0 ≡ 0
+    go (yes h) = getD-replicate n i 0 0 h
+    go (no h) = let l : length (replicate {A = ℕ} n 0) ≤ i = rw length-replicate (omega arith) in List·getD-eq-default (replicate n 0) 0 l
+
+-- zeros for the tables of a graph
+pub tables-long : (h : Header) (size : Size) (n : ℕ) → wordsIn size ≡ n → n < 4294967296 → FitsSize h size
+    → (startOf h 10 ≤ length (replicate {A = ℕ} n 0)) × (length (replicate {A = ℕ} n 0) < 4294967296)
+tables-long h size n e b f = let l = length-replicate {A = ℕ} n 0 in (omega (arith, l, e, fits-all h size f), omega (arith, l, b))
+
+-- zeros for its partners
+pub partners-long : (h : Header) (m y n : ℕ) → 3 * m + y ≤ n → h .modules ≤ m → h .symbols ≤ y
+    → (3 * h .modules + h .symbols ≤ length (replicate {A = ℕ} n 0)) × ((i : ℕ) → getD (replicate {A = ℕ} n 0) i 0 ≡ 0)
+partners-long h m y n b p q = let l = length-replicate {A = ℕ} n 0 in (omega (arith, l, b, p, q), zeros-everywhere n)
+
+-- zeros for its plan
+pub plan-long : (h : Header) (m n : ℕ) → 5 * m ≤ n → n < 4294967296 → h .modules ≤ m → h .entries ≤ m
+    → (planSize h ≤ length (replicate {A = ℕ} n 0)) × (length (replicate {A = ℕ} n 0) < 4294967296) × ((i : ℕ) → getD (replicate {A = ℕ} n 0) i 0 ≡ 0)
+plan-long h m n b f p r = let l = length-replicate {A = ℕ} n 0 in (omega (arith, l, b, p, r), omega (arith, l, f), zeros-everywhere n)
+
+-- zeros for the marks of its starts
+pub seen-clear : (h : Header) (m y s n : ℕ) → 2 * m + s + 63 * y ≤ 8 * n → h .modules ≤ m → h .symbols ≤ y → h .statements ≤ s
+    → (2 * h .modules + h .statements + 63 * h .symbols ≤ 8 * length (replicate {A = ℕ} n 0)) × ((j : ℕ) → bitAt (replicate n 0) j ≡ false)
+seen-clear h m y s n b p q r = (omega (arith, length-replicate {A = ℕ} n 0, b, p, q, r), zeros-unset n)
