@@ -12,6 +12,7 @@
  *   3  a value or index outside its kind, or against a rule
  *   4  a missing number, or numbers left over
  *   5  a lent row is too short; its place is 0
+ *   6  a record that is no justification, at its first bad line, or at the number of its lines if a fact is absent
  * A refusal leaves the rows for answers as they were lent. Otherwise what is past an answer is as lent.
  *
  * No memory is taken from the heap, nothing is kept between calls, and calls from several threads do not meet. A call
@@ -37,7 +38,7 @@ struct keep_refusal {
 
 struct keep_read_answer {
     uint32_t number; /* 0: not refused */
-    uint64_t place;  /* the byte where the faulty number begins; 0 for a refusal 5 */
+    uint64_t place;  /* where the fault is, for keep_read the byte where the faulty number begins; 0 for a refusal 5 */
     uint64_t count;  /* how many numbers were written; 0 if refused */
 };
 
@@ -132,6 +133,36 @@ struct keep_run_answer keep_run(const uint32_t *numbers, size_t numbers_length, 
                                 uint8_t *external, size_t external_length, uint8_t *json, size_t json_length,
                                 uint8_t *reason, size_t reason_length, uint8_t *dead, size_t dead_length,
                                 uint32_t *helpers, size_t helpers_length, uint32_t *entries, size_t entries_length);
+
+/*
+ * Says whether a record justifies what the starts keep in a graph: each line a fact of its own, which is a start or
+ * follows by the line's rule from the earlier lines that it names, and all of them the smallest set of facts that holds
+ * the starts and is closed under the rules.
+ *
+ * Starts are triples as for keep_drain; their order and repeats do not matter. A line is six numbers: the fact, its
+ * rule (0 for a start), two names, each an earlier line plus 1. Rule 0 names nothing, rule 1 two lines in either order,
+ * any other rule one line, in the first place. The record need not be one that keep_drain or keep_run wrote; of a run's
+ * record it is the lines of the main stage, beside the starts of keep_starts.
+ *
+ * Refused as by keep_check; then 4 at the starts' length unless they come in threes, 3 at the first bad number of a
+ * start; then 4 at the record's length unless it is a multiple of six; then 6 at the first bad line, counted from 0;
+ * then 6 at the number of lines if a start or a consequence is absent. Nothing is written.
+ */
+struct keep_refusal keep_judge(const uint32_t *numbers, size_t numbers_length, const uint32_t *starts,
+                               size_t starts_length, const uint32_t *record, size_t record_length);
+
+/*
+ * Writes the starts that the run of a graph has of itself: triples as keep_drain and keep_judge take them, each fact
+ * that was started before the runtime stage once, in the order of starting. 3 (2M + S + 2Y) numbers are always enough.
+ *
+ * Not refused: `starts` begins with `count` numbers, the rest of it is as lent; marks and record are as keep_run leaves
+ * them. Refused as by keep_check; then 5 for marks that are too short, for a record shorter than the lines of both
+ * stages, and for starts that are too short. A refusal leaves all as lent, except that marks and record are all zero if
+ * record or starts were found short.
+ */
+struct keep_read_answer keep_starts(const uint32_t *numbers, size_t numbers_length, uint8_t *marks,
+                                    size_t marks_length, uint32_t *record, size_t record_length, uint32_t *starts,
+                                    size_t starts_length);
 
 #ifdef __cplusplus
 }

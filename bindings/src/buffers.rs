@@ -1,11 +1,13 @@
-//! Rows for a run that are made from the graph, so that no caller counts bits.
+//! Rows for a run and for its starts that are made from the graph, so that no caller counts bits.
 
 use crate::listing::{is_set, sums, Listed};
 use crate::reference::decode::decode;
-use crate::{check, effects, run, Refused, RunAnswer, RunRows};
+use crate::{check, effects, run, starts, Refused, RunAnswer, RunRows};
 
 /// How many numbers a record line has.
 const LINE: usize = 6;
+/// How many numbers a start has.
+const START: usize = 3;
 
 /// A run of a graph, with the rows that the library wrote.
 ///
@@ -62,7 +64,7 @@ impl<'a> RunBuffers<'a> {
         Ok(RunBuffers {
             numbers,
             answer: RunAnswer { number: 0, place: 0, rounds: 0, lines: 0, runtime_lines: 0, entries: 0 },
-            marks: bytes(2 * modules + counts.all_statements() + 63 * symbols),
+            marks: bytes(counts.marks()),
             record: vec![0; LINE * counts.most_lines()],
             modules: bytes(modules),
             statements: vec![0; counts.first_statement_bytes[modules]],
@@ -167,6 +169,21 @@ impl<'a> RunBuffers<'a> {
         self.all_lines().skip(self.answer.lines as usize).take(self.answer.runtime_lines as usize)
     }
 
+    /// The marks, as the run left them.
+    pub fn marks(&self) -> &[u8] {
+        &self.marks
+    }
+
+    /// The numbers of both stages' lines, and zeros behind them.
+    pub fn record(&self) -> &[u32] {
+        &self.record
+    }
+
+    /// The numbers of the main stage's lines, as a judge takes them.
+    pub fn main_record(&self) -> &[u32] {
+        &self.record[..LINE * self.answer.lines as usize]
+    }
+
     fn all_lines(&self) -> impl Iterator<Item = [u32; LINE]> + '_ {
         self.record.chunks_exact(LINE).map(|line| line.try_into().expect("a line has six numbers"))
     }
@@ -190,6 +207,17 @@ impl<'a> RunBuffers<'a> {
         };
         listed.text(&decode(self.numbers))
     }
+}
+
+/// The starts that the run of a graph has of itself, as triples. The only refusals are those of [`check`].
+pub fn own_starts(numbers: &[u32]) -> Result<Vec<u32>, Refused> {
+    check(numbers).result()?;
+    let counts = Counts::of(numbers);
+    let (mut marks, mut record) = (vec![0; counts.marks().div_ceil(8)], vec![0; LINE * counts.most_lines()]);
+    let mut triples = vec![0; START * counts.most_starts()];
+    let count = starts(numbers, &mut marks, &mut record, &mut triples).result()?;
+    triples.truncate(count);
+    Ok(triples)
 }
 
 /// What lengths follow from.
@@ -236,6 +264,17 @@ impl Counts {
 
     fn all_statements(&self) -> usize {
         self.statements.iter().sum()
+    }
+
+    /// How many facts have a mark.
+    fn marks(&self) -> usize {
+        2 * self.modules() + self.all_statements() + 63 * self.symbols
+    }
+
+    /// So many starts are always enough for a run: it starts modules, bailouts, statements, and checked uses with the
+    /// reasons 1 and 2.
+    fn most_starts(&self) -> usize {
+        2 * self.modules() + self.all_statements() + 2 * self.symbols
     }
 
     /// So many record lines are always enough for a run. A module or a statement has one line in both stages together.

@@ -1,5 +1,6 @@
 //! Random graphs that are accepted, random damage to them, and random files of numbers. All follows from a seed.
 
+pub mod records;
 pub mod runs;
 
 use crate::model::{Encoded, Entry, Graph, Module, Record, Reference, Statement, Symbol};

@@ -1,8 +1,10 @@
 //! The keep decision of a bundler: safe wrappers of the C boundary.
 //!
 //! A graph is a list of numbers. [`read`] takes the numbers of a file (unsigned LEB128, shortest form), [`check`] says
-//! whether numbers are a graph, [`effects`] which of its modules have effects, [`drain`] what some starts keep, `run`
-//! what the graph's entries keep. All answer with a struct of the C boundary; its method `result` makes it a `Result`.
+//! whether numbers are a graph, [`effects`] which of its modules have effects, [`drain`] what some starts keep, [`run`]
+//! what the graph's entries keep. Drain and run write a record of why each thing is kept; [`judge`] says whether a
+//! record, whoever wrote it, justifies what some starts keep, and [`starts`] gives the starts that a run has of itself.
+//! All answer with a struct of the C boundary; its method `result` makes it a `Result`.
 //!
 //! ```no_run
 //! let file = [0x01, 0x80, 0x01];
@@ -28,7 +30,7 @@ pub mod loads;
 pub mod model;
 pub mod reference;
 
-pub use buffers::RunBuffers;
+pub use buffers::{own_starts, RunBuffers};
 use std::fmt;
 
 /// The most stack that a call of the library uses, in bytes.
@@ -44,13 +46,14 @@ pub struct Refusal {
     pub place: u64,
 }
 
-/// The answer of [`read`].
+/// The answer of [`read`] and of [`starts`].
 #[repr(C)]
 #[derive(Clone, Copy, Debug, PartialEq, Eq)]
 pub struct ReadAnswer {
     /// Why it is refused; 0 if it is not.
     pub number: u32,
-    /// The byte where the faulty number begins; 0 if it is not refused, and for a refusal 5.
+    /// Where the fault is, for [`read`] the byte where the faulty number begins; 0 if it is not refused, and for a
+    /// refusal 5.
     pub place: u64,
     /// How many numbers were written; 0 if it is refused.
     pub count: u64,
@@ -143,6 +146,7 @@ pub struct RunRows<'a> {
 /// | 3 | a value or index outside its kind, or against a rule |
 /// | 4 | a missing number, or numbers left over |
 /// | 5 | a lent row is too short |
+/// | 6 | a record that is no justification, at its first bad line, or at the number of its lines if a fact is absent |
 #[derive(Clone, Copy, Debug, PartialEq, Eq)]
 pub struct Refused {
     pub number: u32,
@@ -172,6 +176,11 @@ impl From<Result<(), Refused>> for Refusal {
 }
 
 impl ReadAnswer {
+    /// The answer of an operation that is refused.
+    pub const fn refused(Refused { number, place }: Refused) -> ReadAnswer {
+        ReadAnswer { number, place, count: 0 }
+    }
+
     /// The answer as a `Result`: how many numbers were written, or the refusal.
     pub fn result(self) -> Result<usize, Refused> {
         match self.number {
@@ -279,6 +288,24 @@ mod boundary {
             entries: *mut u32,
             entries_length: usize,
         ) -> super::RunAnswer;
+        pub fn keep_judge(
+            numbers: *const u32,
+            numbers_length: usize,
+            starts: *const u32,
+            starts_length: usize,
+            record: *const u32,
+            record_length: usize,
+        ) -> Refusal;
+        pub fn keep_starts(
+            numbers: *const u32,
+            numbers_length: usize,
+            marks: *mut u8,
+            marks_length: usize,
+            record: *mut u32,
+            record_length: usize,
+            starts: *mut u32,
+            starts_length: usize,
+        ) -> ReadAnswer;
     }
 }
 
@@ -392,6 +419,66 @@ pub fn run(numbers: &[u32], rows: &mut RunRows) -> RunAnswer {
             rows.helpers.len(),
             rows.entries.as_mut_ptr(),
             rows.entries.len(),
+        )
+    }
+}
+
+/// Says whether a record justifies what the starts keep in a graph: each line a fact of its own, which is a start or
+/// follows by the line's rule from the earlier lines that it names, and all of them the smallest set of facts that
+/// holds the starts and is closed under the rules.
+///
+/// Starts are triples as for [`drain`]; their order and repeats don't matter. A line is six numbers: the fact, its
+/// rule, and two names, each an earlier line plus 1. Rule 0 is good for any start and names nothing; rule 1 names a
+/// module and a forward in either order; any other rule names one line, in the first place. A record need not be one
+/// that [`drain`] or [`run`] wrote.
+///
+/// Refused as by [`check`]; then 4 at the starts' length unless they come in threes, 3 at the first bad number of a
+/// start; then 4 at the record's length unless it is a multiple of six; then 6 at the first bad line, counted from 0;
+/// then 6 at the number of lines if a start or a consequence is absent. Nothing is written.
+///
+/// ```no_run
+/// # let numbers = [0];
+/// let run = lizdakk::RunBuffers::for_graph(&numbers)?;
+/// let starts = lizdakk::own_starts(&numbers)?;
+/// lizdakk::judge(&numbers, &starts, run.main_record()).result()?;
+/// # Ok::<(), lizdakk::Refused>(())
+/// ```
+#[must_use]
+pub fn judge(numbers: &[u32], starts: &[u32], record: &[u32]) -> Refusal {
+    // SAFETY: all slices are valid for their lengths and are only read.
+    unsafe {
+        boundary::keep_judge(
+            numbers.as_ptr(),
+            numbers.len(),
+            starts.as_ptr(),
+            starts.len(),
+            record.as_ptr(),
+            record.len(),
+        )
+    }
+}
+
+/// Writes the starts that the run of a graph has of itself into `starts`: triples as [`drain`] and [`judge`] take them,
+/// each fact that was started before the runtime stage once, in the order of starting.
+///
+/// If it is not refused, `count` numbers were written, those past them are as lent, and marks and record are as [`run`]
+/// leaves them. Refused as by [`check`]; then 5 at place 0 for `marks` below 2M + S + 63Y bits (modules, statements,
+/// symbols), for a record shorter than the lines of both stages, and for `starts` that are too short. A refusal leaves
+/// all as lent, except that marks and record are all zero if record or starts were found short. [`own_starts`] makes
+/// the rows.
+#[must_use]
+pub fn starts(numbers: &[u32], marks: &mut [u8], record: &mut [u32], starts: &mut [u32]) -> ReadAnswer {
+    // SAFETY: all slices are valid for their lengths and no two overlap, as Rust's references promise.
+    unsafe {
+        boundary::keep_starts(
+            numbers.as_ptr(),
+            numbers.len(),
+            marks.as_mut_ptr(),
+            marks.len(),
+            record.as_mut_ptr(),
+            record.len(),
+            starts.as_mut_ptr(),
+            starts.len(),
         )
     }
 }

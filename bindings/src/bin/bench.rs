@@ -35,6 +35,7 @@ fn main() {
         bench_decoded("the same, reference with a decoded graph", &graph, &statements);
         bench_drain("drain, printed case from its entry, by lines", &PRINTED, &[1, 1, 0]);
         runs::bench_runs();
+        judgements::bench_judgements(&bundle);
     });
 }
 
@@ -196,24 +197,112 @@ mod runs {
     }
 }
 
-/// Measures both by turns and prints the best of each, in all and for each of so many numbers or lines.
-fn compare<L, R>(name: &str, count: usize, mut library: impl FnMut() -> L, mut reference: impl FnMut() -> R) {
-    let times = repetitions(&mut library).max(repetitions(&mut reference));
-    let (mut best_library, mut best_reference) = (f64::MAX, f64::MAX);
-    let begin = Instant::now();
-    for round in 0..ROUNDS {
-        if round >= 3 && begin.elapsed() > LONGEST {
-            break;
-        }
-        best_library = best_library.min(nanoseconds(times, &mut library));
-        best_reference = best_reference.min(nanoseconds(times, &mut reference));
+/// Judgements of a run's main lines, and the run's own starts; their time is given for each line.
+mod judgements {
+    use super::{best_of_both, compare};
+    use lizdakk::generate::PRINTED;
+    use lizdakk::reference::judge_by_rules::judge_by_rules;
+    use lizdakk::reference::run::{self, Run};
+    use lizdakk::reference::starts::triples;
+    use lizdakk::{own_starts, reference, Refusal, RunBuffers};
+    use std::hint::black_box;
+
+    pub fn bench_judgements(bundle: &[u32]) {
+        bench_judge("judge, main lines of 1,000 modules", bundle);
+        bench_judge("judge, main lines of the printed case", &PRINTED);
+        bench_starts("starts, of the run of 1,000 modules", bundle);
+        bench_starts("starts, of the run of the printed case", &PRINTED);
+        println!("{:<44} {:>8} {:>12} {:>12} {:>7}", "", "lines", "judge ns", "run ns", "share");
+        bench_share("judge beside the run, 1,000 modules", bundle);
+        bench_share("judge beside the run, printed case", &PRINTED);
     }
+
+    fn bench_judge(name: &str, numbers: &[u32]) {
+        let (starts, record) = judged(numbers);
+        assert_eq!(judge_by_rules(numbers, &starts, &record), Ok(()), "{name}");
+        compare(
+            name,
+            record.len() / 6,
+            || lizdakk::judge(black_box(numbers), black_box(&starts), black_box(&record)),
+            || judge_by_rules(black_box(numbers), black_box(&starts), black_box(&record)),
+        );
+    }
+
+    /// The starts and the main lines of a graph's run, which the library's judge passes.
+    fn judged(numbers: &[u32]) -> (Vec<u32>, Vec<u32>) {
+        let run = RunBuffers::for_graph(numbers).expect("a good graph");
+        let (starts, record) = (own_starts(numbers).expect("a good graph"), run.main_record().to_vec());
+        assert_eq!(lizdakk::judge(numbers, &starts, &record), Refusal::PASSED);
+        (starts, record)
+    }
+
+    /// The library's judge beside the library's run whose main lines it judges.
+    fn bench_share(name: &str, numbers: &[u32]) {
+        let (starts, record) = judged(numbers);
+        let mut run = RunBuffers::for_graph(numbers).expect("a good graph");
+        run.again();
+        let judge = || lizdakk::judge(black_box(numbers), black_box(&starts), black_box(&record));
+        let (judge, run) = best_of_both(judge, || run.again());
+        println!("{name:<44} {:>8} {judge:>12.0} {run:>12.0} {:>6.0}%", record.len() / 6, 100.0 * judge / run);
+    }
+
+    fn bench_starts(name: &str, numbers: &[u32]) {
+        let run = run::answer(numbers).expect("a good graph");
+        let (mut row, mut expected_row) = (RowsOfStarts::new(&run), RowsOfStarts::new(&run));
+        assert_eq!(row.library(numbers), expected_row.reference(numbers), "{name}");
+        assert_eq!(row, expected_row, "{name}");
+        let lines = run.lines.len() + run.runtime_lines.len();
+        compare(name, lines, || row.library(black_box(numbers)), || expected_row.reference(black_box(numbers)));
+    }
+
+    /// Rows to lend to a run's own starts, each exactly long enough.
+    #[derive(PartialEq, Debug)]
+    struct RowsOfStarts {
+        marks: Vec<u8>,
+        record: Vec<u32>,
+        starts: Vec<u32>,
+    }
+
+    impl RowsOfStarts {
+        fn new(run: &Run) -> RowsOfStarts {
+            let (record, starts) = (run.record().len(), triples(run).len());
+            RowsOfStarts { marks: vec![0; run.marks.len()], record: vec![0; record], starts: vec![0; starts] }
+        }
+
+        fn library(&mut self, numbers: &[u32]) -> lizdakk::ReadAnswer {
+            lizdakk::starts(numbers, &mut self.marks, &mut self.record, &mut self.starts)
+        }
+
+        fn reference(&mut self, numbers: &[u32]) -> lizdakk::ReadAnswer {
+            reference::starts(numbers, &mut self.marks, &mut self.record, &mut self.starts)
+        }
+    }
+}
+
+/// Measures both by turns and prints the best of each, in all and for each of so many numbers or lines.
+fn compare<L, R>(name: &str, count: usize, library: impl FnMut() -> L, reference: impl FnMut() -> R) {
+    let (best_library, best_reference) = best_of_both(library, reference);
     println!(
         "{name:<44} {count:>8} {best_library:>12.0} {best_reference:>12.0} {:>7.2} {:>7.2} {:>6.2}",
         best_library / count as f64,
         best_reference / count as f64,
         best_library / best_reference
     );
+}
+
+/// Measures both by turns: the best time of each, in nanoseconds.
+fn best_of_both<F, S>(mut first: impl FnMut() -> F, mut second: impl FnMut() -> S) -> (f64, f64) {
+    let times = repetitions(&mut first).max(repetitions(&mut second));
+    let (mut best_first, mut best_second) = (f64::MAX, f64::MAX);
+    let begin = Instant::now();
+    for round in 0..ROUNDS {
+        if round >= 3 && begin.elapsed() > LONGEST {
+            break;
+        }
+        best_first = best_first.min(nanoseconds(times, &mut first));
+        best_second = best_second.min(nanoseconds(times, &mut second));
+    }
+    (best_first, best_second)
 }
 
 /// How often to run so that a turn is long enough to be measured.

@@ -5,14 +5,16 @@
 //! verdict of each module; `cases drain COUNT [SEED]`: lines `n0 n1 ... | starts | record | used symbols | external
 //! symbols | json symbols | REASON of each module`; `cases run COUNT [SEED]`: lines `n0 n1 ... | rounds | main record |
 //! runtime record | final entries | dead | helper words | marks | modules | statements | used | external | json | REASON |
-//! starts`, each row byte by byte.
+//! starts`, each row byte by byte; `cases judge COUNT [SEED]`: lines `n0 n1 ... | starts | record | number place`.
 
+use lizdakk::generate::records::{Answers, Asked, Change, Source, CHANGES};
 use lizdakk::generate::runs::small_run_graph;
 use lizdakk::generate::{self, Random, Size};
 use lizdakk::happenings::{happenings, Happenings};
 use lizdakk::model::{Encoded, Graph};
-use lizdakk::reference::drain::Line;
+use lizdakk::reference::drain::{Line, LINE};
 use lizdakk::reference::run::Run;
+use lizdakk::reference::starts::triples;
 use lizdakk::reference::{drain, effects};
 use lizdakk::{reference, Refusal, Refused};
 use std::collections::{HashMap, HashSet};
@@ -25,6 +27,8 @@ const LONGEST_KEPT: usize = 160;
 const LONGEST_RUN: usize = 250;
 /// The most lines of a printed record.
 const LINES: usize = 60;
+/// The most lines of a record that is printed with the judge's answer.
+const LINES_JUDGED: usize = 19;
 
 fn main() {
     let arguments: Vec<String> = std::env::args().skip(1).collect();
@@ -37,7 +41,8 @@ fn main() {
         Some("effects") => effects_cases(&mut random, count),
         Some("drain") => drain_cases(&mut random, count),
         Some("run") => run_cases(&mut random, count),
-        _ => eprintln!("cases check|read|effects|drain|run COUNT [SEED]"),
+        Some("judge") => judge_cases(&mut random, count),
+        _ => eprintln!("cases check|read|effects|drain|run|judge COUNT [SEED]"),
     }
 }
 
@@ -274,12 +279,73 @@ fn run_case(random: &mut Random) -> RunCase {
 
 fn print_run(RunCase { numbers, run, .. }: &RunCase) {
     let record = |lines: &[Line]| lines.iter().flat_map(|line| line.numbers()).collect::<Vec<u32>>();
-    let starts: Vec<u32> = run.starts.iter().flat_map(|start| start.parts()).collect();
     let rows = [&run.marks, &run.modules, &run.statements, &run.used, &run.external, &run.json, &run.reason];
     let mut parts = vec![words(numbers), run.rounds.to_string()];
     parts.extend([words(&record(&run.lines)), words(&record(&run.runtime_lines))]);
     parts.extend([words(&run.entries), words(&run.dead), words(&run.helpers)]);
     parts.extend(rows.map(|row| words(row)));
-    parts.push(words(&starts));
+    parts.push(words(&triples(run)));
+    println!("{}", parts.join(" | "));
+}
+
+/// A record with the judge's answer, to print.
+struct JudgeCase {
+    asked: Asked,
+    answer: Refusal,
+}
+
+/// By turns each kind of change to a record with each of its answers. Of several each time the one with the rules that
+/// were shown least.
+fn judge_cases(random: &mut Random, count: usize) {
+    const CANDIDATES: usize = 20;
+    let mut shown = [0; 15];
+    for (change, passes) in changes_and_answers().into_iter().cycle().take(count) {
+        let candidates = (0..CANDIDATES).map(|_| judge_case(random, change, passes));
+        let worth = |case: &JudgeCase| judged_rules(case).map(|rule| 1_000_000 / (1 + shown[rule])).sum::<usize>();
+        let best = candidates.max_by_key(worth).expect("there are candidates");
+        for rule in judged_rules(&best) {
+            shown[rule] += 1;
+        }
+        print_judge(&best);
+    }
+}
+
+/// The kinds of changes that leave graph and starts good, each with whether the record passes.
+fn changes_and_answers() -> Vec<(&'static Change, bool)> {
+    let mut found = Vec::new();
+    for change in CHANGES.iter().filter(|change| change.keeps_input_good) {
+        let answers: &[bool] = match change.answers {
+            Answers::Passes => &[true],
+            Answers::Refuses | Answers::Any => &[false],
+            Answers::Both => &[true, false],
+        };
+        found.extend(answers.iter().map(|&passes| (change, passes)));
+    }
+    found
+}
+
+fn judge_case(random: &mut Random, change: &Change, passes: bool) -> JudgeCase {
+    loop {
+        let source = Source::small(random);
+        let Some(asked) = change.make(random, &source) else { continue };
+        let Asked { numbers, starts, record } = &asked;
+        if numbers.len() >= LONGEST_RUN || record.len() > LINE * LINES_JUDGED {
+            continue;
+        }
+        let answer = Refusal::from(reference::judge(numbers, starts, record));
+        if (answer == Refusal::PASSED) == passes {
+            return JudgeCase { asked, answer };
+        }
+    }
+}
+
+/// The rules of a record's lines, each once.
+fn judged_rules(case: &JudgeCase) -> impl Iterator<Item = usize> {
+    let rules = case.asked.record.chunks_exact(LINE).map(|line| line[3] as usize);
+    rules.filter(|&rule| rule < 15).collect::<HashSet<usize>>().into_iter()
+}
+
+fn print_judge(JudgeCase { asked: Asked { numbers, starts, record }, answer }: &JudgeCase) {
+    let parts = [words(numbers), words(starts), words(record), format!("{} {}", answer.number, answer.place)];
     println!("{}", parts.join(" | "));
 }

@@ -24,7 +24,7 @@ pub fn closure(graph: &Graph, starts: &[Fact]) -> (HashSet<Fact>, Shown) {
 /// The same over modules and statements that are kept already: they are not among the facts and give nothing again,
 /// but a forward finds its module among them.
 pub fn closure_over(graph: &Graph, starts: &[Fact], kept: &HashSet<Fact>) -> (HashSet<Fact>, Shown) {
-    let context = Context { graph, verdicts: verdicts_by_paths(graph) };
+    let context = Context::new(graph);
     let mut facts: HashSet<Fact> = starts.iter().copied().filter(|fact| !kept.contains(fact)).collect();
     let mut shown = Shown::default();
     loop {
@@ -108,12 +108,17 @@ fn is_seeded(graph: &Graph, module: &Module, verdict: u32) -> bool {
     module.normal && verdict == 0 && seeds
 }
 
-struct Context<'a> {
-    graph: &'a Graph,
+/// A graph and its last verdicts.
+pub(super) struct Context<'a> {
+    pub(super) graph: &'a Graph,
     verdicts: Vec<u32>,
 }
 
 impl<'a> Context<'a> {
+    pub(super) fn new(graph: &'a Graph) -> Context<'a> {
+        Context { graph, verdicts: verdicts_by_paths(graph) }
+    }
+
     fn handle(&self, fact: Fact, shown: &mut Shown, push: &mut dyn FnMut(Fact)) {
         match fact {
             Fact::Module(module) => self.include_module(module, shown, push),
@@ -137,31 +142,35 @@ impl<'a> Context<'a> {
         }
     }
 
-    fn module(&self, index: u32) -> &'a Module {
+    pub(super) fn module(&self, index: u32) -> &'a Module {
         &self.graph.modules[index as usize]
     }
 
-    fn normal(&self, index: u32) -> Option<&'a Module> {
+    pub(super) fn normal(&self, index: u32) -> Option<&'a Module> {
         Some(self.module(index)).filter(|module| module.normal)
     }
 
-    fn symbol(&self, index: u32) -> &'a Symbol {
+    pub(super) fn symbol(&self, index: u32) -> &'a Symbol {
         &self.graph.symbols[index as usize]
     }
 
-    fn canonical(&self, symbol: u32) -> u32 {
+    pub(super) fn canonical(&self, symbol: u32) -> u32 {
         self.symbol(symbol).root
     }
 
-    fn namespace_object(&self, module: u32) -> Option<u32> {
+    pub(super) fn namespace_object(&self, module: u32) -> Option<u32> {
         self.normal(module).map(|module| module.namespace - 1)
     }
 
-    fn has_side_effects(&self, module: u32) -> bool {
+    pub(super) fn has_side_effects(&self, module: u32) -> bool {
         [1, 3, 4].contains(&self.verdicts[module as usize])
     }
 
-    fn option(&self, bit: u32) -> bool {
+    pub(super) fn is_never_shaken(&self, module: u32) -> bool {
+        self.verdicts[module as usize] == 4
+    }
+
+    pub(super) fn option(&self, bit: u32) -> bool {
         self.graph.options >> bit & 1 == 1
     }
 
@@ -170,7 +179,7 @@ impl<'a> Context<'a> {
         declaring.iter().map(|&index| Fact::Statement(*owner, index)).collect()
     }
 
-    fn import_record_namespace(&self, symbol: u32) -> Option<u32> {
+    pub(super) fn import_record_namespace(&self, symbol: u32) -> Option<u32> {
         let owner = self.module(self.symbol(symbol).owner);
         owner.commonjs_namespaces.iter().find(|row| row[0] == symbol).map(|row| row[1])
     }
@@ -179,7 +188,7 @@ impl<'a> Context<'a> {
         self.graph.entries.iter().any(|entry| entry.module == module && entry.kind != 2)
     }
 
-    fn included_on_demand(&self, index: u32) -> bool {
+    pub(super) fn included_on_demand(&self, index: u32) -> bool {
         let module = self.module(index);
         let declared = self.verdicts[index as usize] == 2;
         declared && module.exports == 0 && module.flags % 2 == 0 && !self.is_user_entry(index)
@@ -190,9 +199,8 @@ impl<'a> Context<'a> {
         if index == self.graph.runtime && !self.has_side_effects(index) {
             return;
         }
-        let forced = self.verdicts[index as usize] == 4;
         for (number, statement) in (0u32..).zip(&module.statements) {
-            let swept = if self.option(0) && !forced {
+            let swept = if self.option(0) && !self.is_never_shaken(index) {
                 self.sweeps(index, statement)
             } else {
                 statement.bits >> 2 & 1 == 0 || statement.bits & 1 == 1
@@ -216,7 +224,7 @@ impl<'a> Context<'a> {
         }
     }
 
-    fn sweeps(&self, index: u32, statement: &Statement) -> bool {
+    pub(super) fn sweeps(&self, index: u32, statement: &Statement) -> bool {
         let module = self.module(index);
         let bail_eval = module.flags & 1 == 1 && statement.bits >> 4 & 1 == 1;
         let has_side_effects = if module.flags >> 1 & 1 == 1 && self.option(2) {
@@ -278,7 +286,7 @@ impl<'a> Context<'a> {
         self.symbol(symbol).chain.iter().for_each(|&link| push(Fact::Forward(link)));
     }
 
-    fn is_inlined_enum_member(&self, reference: &Reference) -> bool {
+    pub(super) fn is_inlined_enum_member(&self, reference: &Reference) -> bool {
         let Reference::Member { object, write: 0, properties: 1, first } = reference else { return false };
         let canonical = self.symbol(self.canonical(*object));
         let Some(owner) = self.normal(canonical.owner) else { return false };
@@ -345,7 +353,7 @@ impl<'a> Context<'a> {
         }
     }
 
-    fn is_bypassed_inlined_constant(&self, canonical: u32, reason: u32) -> bool {
+    pub(super) fn is_bypassed_inlined_constant(&self, canonical: u32, reason: u32) -> bool {
         let constant = self.symbol(canonical).constant;
         let inlined = if self.option(1) { constant & 0b111 == 0b011 } else { constant & 0b101 == 0b001 };
         inlined && reason >> 1 & 1 == 0
@@ -382,6 +390,6 @@ impl<'a> Context<'a> {
     }
 }
 
-fn gated(statement: &Statement) -> bool {
+pub(super) fn gated(statement: &Statement) -> bool {
     statement.bits & 1 == 1 && !statement.references.is_empty() && statement.records.is_empty()
 }
