@@ -25,7 +25,11 @@ THEOREMS = [
     "rule_relation/specs/*.antt",
     "judged_records/specs/*.antt",
     "judged_starts/specs/*.antt",
-    "keep/specs/*.antt",
+    "rust_effects/specs/*.antt",
+    "rust_engine/specs/*.antt",
+    "rust_order/specs/*.antt",
+    "rust_run/specs/*.antt",
+    "answer_text/specs/*.antt",
     "determine_side_effects/specs/Paths.antt",
     "determine_side_effects/specs/Sequence.antt",
     "worked_facts/specs/*.antt",
@@ -78,7 +82,7 @@ class Spec:
         self.definitions, constructors = {}, {}
         name, kind, module = None, None, ""
         for line in USE.sub("", text).splitlines():
-            if not line.strip() or line.startswith(("pub mod ", "unfolding ")):
+            if not line.strip() or line.startswith(("pub mod ", "unfolding ", "infix")):
                 continue
             if module and line.startswith("  "):
                 line = line[2:]

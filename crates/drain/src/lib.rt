@@ -2,161 +2,10 @@
 ghost use mathlib.Core.Path.{_≡_};
 ghost use Prim.Native.Nat.{ℕ, _+_, _*_, _<_, _≤_};
 ghost use mathlib.Core.List.{List, [], _∷_};
-ghost use Rattle.tables.specs.Layout.{FitsSize};
-ghost use Rattle.tables.specs.declared.Size.the-variants.{Small, Middle, Large};
-ghost use Rattle.graph.specs.Check.{HeaderRead};
 ghost use Rattle.drain_parts.specs.Operation.{rows as rowsOf, Drains};
 use drain_parts::Drained;
-use graph_format::Header;
 use rows::Walk;
-use tables::LARGE;
-use tables::MIDDLE;
-use tables::SMALL;
 use tables::Size;
-
-// The drain with tables for a small graph.
-fn drain_small(
-    numbers: &[u32],
-    starts: &[u32],
-    h: Header,
-    marks: &mut [u8],
-    lines: &mut [u32],
-    modules_row: &mut [u8],
-    statements_row: &mut [u8],
-    used: &mut [u8],
-    external: &mut [u8],
-    json: &mut [u8],
-    reason: &mut [u8],
-) -> Drained
-    requires { ⌜ HeaderRead (now numbers) h × FitsSize h Small ⌝ }
-    ensures { λ r. ⌜ Drains (now (numbers .entry)) (now (starts .entry)) r (rowsOf (now (marks .entry)) (now (lines .entry)) (now («modules_row» .entry)) (now («statements_row» .entry)) (now (used .entry)) (now (external .entry)) (now (json .entry)) (now (reason .entry))) (rowsOf (now (marks .exit)) (now (lines .exit)) (now («modules_row» .exit)) (now («statements_row» .exit)) (now (used .exit)) (now (external .exit)) (now (json .exit)) (now (reason .exit))) ⌝ }
-{
-    let mut tables = [0usize; SMALL];
-    let mut partners = [0usize; 112];
-    drain_parts::drain_in(
-        numbers,
-        starts,
-        h,
-        &mut tables,
-        &mut partners,
-        marks,
-        lines,
-        modules_row,
-        statements_row,
-        used,
-        external,
-        json,
-        reason,
-    )
-}
-
-// The drain with tables for a graph of middle size. `again` is 0 (`frames::apart`).
-fn drain_middle(
-    numbers: &[u32],
-    starts: &[u32],
-    h: Header,
-    marks: &mut [u8],
-    lines: &mut [u32],
-    modules_row: &mut [u8],
-    statements_row: &mut [u8],
-    used: &mut [u8],
-    external: &mut [u8],
-    json: &mut [u8],
-    reason: &mut [u8],
-    again: usize,
-) -> Drained
-    requires { ⌜ HeaderRead (now numbers) h × FitsSize h Middle ⌝ }
-    ensures { λ r. ⌜ Drains (now (numbers .entry)) (now (starts .entry)) r (rowsOf (now (marks .entry)) (now (lines .entry)) (now («modules_row» .entry)) (now («statements_row» .entry)) (now (used .entry)) (now (external .entry)) (now (json .entry)) (now (reason .entry))) (rowsOf (now (marks .exit)) (now (lines .exit)) (now («modules_row» .exit)) (now («statements_row» .exit)) (now (used .exit)) (now (external .exit)) (now (json .exit)) (now (reason .exit))) ⌝ }
-{
-    let mut tables = [0usize; MIDDLE];
-    let mut partners = [0usize; 1408];
-    let answer = drain_parts::drain_in(
-        numbers,
-        starts,
-        h,
-        &mut tables,
-        &mut partners,
-        marks,
-        lines,
-        modules_row,
-        statements_row,
-        used,
-        external,
-        json,
-        reason,
-    );
-    if again > 0 {
-        return drain_middle(
-            numbers,
-            starts,
-            h,
-            marks,
-            lines,
-            modules_row,
-            statements_row,
-            used,
-            external,
-            json,
-            reason,
-            again - 1,
-        );
-    }
-    answer
-}
-
-// The drain with tables for the largest graph. `again` is 0 (`frames::apart`).
-fn drain_large(
-    numbers: &[u32],
-    starts: &[u32],
-    h: Header,
-    marks: &mut [u8],
-    lines: &mut [u32],
-    modules_row: &mut [u8],
-    statements_row: &mut [u8],
-    used: &mut [u8],
-    external: &mut [u8],
-    json: &mut [u8],
-    reason: &mut [u8],
-    again: usize,
-) -> Drained
-    requires { ⌜ HeaderRead (now numbers) h × FitsSize h Large ⌝ }
-    ensures { λ r. ⌜ Drains (now (numbers .entry)) (now (starts .entry)) r (rowsOf (now (marks .entry)) (now (lines .entry)) (now («modules_row» .entry)) (now («statements_row» .entry)) (now (used .entry)) (now (external .entry)) (now (json .entry)) (now (reason .entry))) (rowsOf (now (marks .exit)) (now (lines .exit)) (now («modules_row» .exit)) (now («statements_row» .exit)) (now (used .exit)) (now (external .exit)) (now (json .exit)) (now (reason .exit))) ⌝ }
-{
-    let mut tables = [0usize; LARGE];
-    let mut partners = [0usize; 19456];
-    let answer = drain_parts::drain_in(
-        numbers,
-        starts,
-        h,
-        &mut tables,
-        &mut partners,
-        marks,
-        lines,
-        modules_row,
-        statements_row,
-        used,
-        external,
-        json,
-        reason,
-    );
-    if again > 0 {
-        return drain_large(
-            numbers,
-            starts,
-            h,
-            marks,
-            lines,
-            modules_row,
-            statements_row,
-            used,
-            external,
-            json,
-            reason,
-            again - 1,
-        );
-    }
-    answer
-}
 
 // Keeps what the starts keep: marks, the record, and the answer rows; or the first refusal.
 pub fn drain(
@@ -179,7 +28,7 @@ pub fn drain(
             let h = graph::header_of(numbers);
             let size = graph::size_for(numbers, h);
             match size {
-                Size::Small => drain_small(
+                Size::Small => drain_sizes::drain_small(
                     numbers,
                     starts,
                     h,
@@ -192,7 +41,7 @@ pub fn drain(
                     json,
                     reason,
                 ),
-                Size::Middle => drain_middle(
+                Size::Middle => drain_sizes::drain_middle(
                     numbers,
                     starts,
                     h,
@@ -206,7 +55,7 @@ pub fn drain(
                     reason,
                     frames::apart(numbers),
                 ),
-                Size::Large => drain_large(
+                Size::Large => drain_sizes::drain_large(
                     numbers,
                     starts,
                     h,

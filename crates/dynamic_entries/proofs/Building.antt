@@ -11,10 +11,9 @@ use Rattle.entry_graph.specs.Ordering.{Ordering, noOrdering, fromEntries, entry
 use Rattle.entry_graph.specs.Memory.{Stored, Builds}
 use Rattle.entry_graph.specs.declared.Built.{Built}
 use Rattle.entry_graph.specs.declared.Built.the-variants.{Nodes, Full as TooMany}
-use Rattle.dynamic_entries.specs.declared.Ordered.{Ordered}
 use Rattle.dynamic_entries.specs.declared.Ordered.the-variants.{Done, Full}
 use Rattle.dynamic_entries.specs.Tries.{Planned, Unlived}
-use Rattle.dynamic_entries.specs.Parts.{Cleared, Parted, Holds, Orders}
+use Rattle.dynamic_entries.specs.Parts.{Parted, Holds, Orders}
 use Rattle.dynamic_entries.proofs.Parting.{part-is}
 
 pub orders-done : (g : Graph) (cap users : ℕ) (plan₀ plan : List ℕ) → Planned g plan users × Unlived g plan → Orders g cap users plan₀ plan Done
@@ -38,11 +37,3 @@ module _ (numbers plan : List ℕ) (users : ℕ) (p : Parted (graphIn numbers) p
 
   pub built-full : r ≡ TooMany → Orders (graphIn numbers) cap users plan plan Full
   built-full e = orders-full (graphIn numbers) cap users plan (built .too-many e)
-
--- rows that are too small leave the plan as it was, so the ordering may be done once more
-module _ (g : Graph) (cap users : ℕ) (plan₀ plan : List ℕ) (r : Ordered) (o : Orders g cap users plan₀ plan r) (e : r ≡ Full) where
-  pub orders-ready : Parted g plan₀ users × Cleared g plan₀ → Parted g plan users × Cleared g plan
-  orders-ready p = rw (o .full e .1) p
-
-  pub orders-again : (after : List ℕ) (q : Ordered) → Orders g cap users plan after q → Orders g cap users plan₀ after q
-  orders-again after q w = subst (λ (x : List ℕ). Orders g cap users x after q) (o .full e .1) w

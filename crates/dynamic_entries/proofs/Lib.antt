@@ -6,5 +6,3 @@ pub mod Sorting
 pub mod Lengths
 pub mod Searching
 pub mod Building
-pub mod Splitting
-pub mod Tiers

@@ -4,14 +4,14 @@ ghost use Rattle.graph.specs.Check.{checkOf};
 ghost use Rattle.drain_parts.specs.Operation.{rows as rowsOf};
 ghost use Rattle.run_parts.specs.Operation.{rows as runRowsOf};
 ghost use Rattle.judge_parts.specs.Operation.{judgeOf};
-ghost use Rattle.run_starts.specs.Operation.{rows as startsRowsOf};
+ghost use Rattle.run_starts_parts.specs.Operation.{rows as startsRowsOf};
 ghost use Rattle.host.specs.Answers.{KeepRead, KeepEffects, KeepDrain, KeepRun, KeepStarts, refusalOf, judgedOf};
 use drain_parts::Drained;
 use graph::Checked;
 use judge_parts::Judged;
 use leb128::Answer;
 use run_parts::Ran;
-use run_starts::StartsRead;
+use run_starts_parts::StartsRead;
 
 // A refusal's number and its place; number 0: not refused.
 #[repr(C)]

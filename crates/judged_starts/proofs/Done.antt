@@ -14,7 +14,7 @@ use Rattle.graph.proofs.WellFormed.{accepted-is}
 use Rattle.facts.specs.Facts.{markCount}
 use Rattle.run_rows.specs.Run.{runOf}
 use Rattle.noted_stages.specs.Stages.{ownStartsOnce}
-use Rattle.run_starts.specs.Operation.{Rooms, before, short, done, worked, outcomeIn, outcomeOf}
+use Rattle.run_starts_parts.specs.Operation.{Rooms, before, short, done, worked, outcomeIn, outcomeOf}
 
 pub record Done (numbers : List ℕ) (g : Graph) : Type 0 where
   pub accepted : answerOf (checkOf numbers) ≡ Accepted

@@ -20,7 +20,7 @@ use Rattle.run_rows.specs.Run.{runOf, recordCount}
 use Rattle.run_parts.specs.Operation.{Rooms, enough, done as runDone, outcomeOf as runOutcomeOf}
 use Rattle.own_starts.specs.Once.{triples}
 use Rattle.noted_stages.specs.Stages.{ownStartsOnce}
-use Rattle.run_starts.specs.Operation.{done, recordAfter, startsAfter}
+use Rattle.run_starts_parts.specs.Operation.{done, recordAfter, startsAfter}
 use Rattle.judge_parts.specs.declared.Judged.the-variants.{Passed}
 use Rattle.judge_parts.specs.Operation.{judgeOf}
 use Rattle.run_choices.proofs.Done.{run-done}

@@ -11,7 +11,7 @@ use Rattle.facts.specs.Facts.{moduleFact}
 use Rattle.tree_shaking.specs.Own.{runStarts}
 use Rattle.run_rows.specs.Run.{runOf}
 use Rattle.noted_stages.specs.Stages.{ownStartsOnce}
-use Rattle.run_starts.specs.Operation.{Rooms, done, outcomeOf, recordAfter, startsAfter}
+use Rattle.run_starts_parts.specs.Operation.{Rooms, done, outcomeOf, recordAfter, startsAfter}
 use Rattle.judge_parts.specs.declared.Judged.the-variants.{Passed}
 use Rattle.judge_parts.specs.Operation.{judgeOf}
 

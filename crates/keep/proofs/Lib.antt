@@ -1,5 +1,1 @@
-pub mod Finals
-pub mod Outcomes
-pub mod Fitting
-pub mod Texts
 pub mod Printing

@@ -1,5 +1,4 @@
 // The program `keep`: reads a graph from standard input, settles effects, runs, and prints what is kept, or the refusal.
-mod answer;
 
 // The text is printed by parts of so many bytes.
 const WINDOW: usize = 65536;
@@ -13,7 +12,7 @@ fn main() {
     let mut going = true;
     while going {
         let mut out = [0u8; WINDOW];
-        let length = answer::text(&file[..got], further > 0, skip, &mut out);
+        let length = answer_text::text(&file[..got], further > 0, skip, &mut out);
         going = false;
         if length > skip {
             let left = length - skip;

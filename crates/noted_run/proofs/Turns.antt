@@ -21,9 +21,9 @@ use Rattle.tree_shaking.specs.Rounds.{bailed, round, keptModule, Ended as Ended
 use Rattle.tree_shaking.specs.Own.{bailouts, by, ofUsers, ofTries, ofRound, ofRounds, ownStarts, runStarts}
 use Rattle.tree_shaking.specs.Parts.{Progressed, MainEnds}
 use Rattle.tree_shaking.proofs.Turning.{bailed-is, begun-is}
-use Rattle.noted_run.specs.Noted.{factsOfStarts}
-use Rattle.noted_run.proofs.Tried.{facts-by, facts-append, triesStarts}
-use Rattle.noted_run.proofs.Users.{facts-users}
+use Rattle.noted_entries.specs.Noted.{factsOfStarts}
+use Rattle.noted_entries.proofs.Tried.{facts-by, facts-append, triesStarts}
+use Rattle.noted_entries.proofs.Users.{facts-users}
 
 -- the facts that rounds start
 unfoldable pub roundsStarts : Graph → List ℕ → ℕ → ℕ → Progress → List Fact

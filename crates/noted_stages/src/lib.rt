@@ -13,7 +13,7 @@ ghost use Rattle.entry_starts.specs.Working.{Working};
 ghost use Rattle.own_starts.specs.Noting.{Noted};
 ghost use Rattle.noted_stages.specs.Stages.{StagesNoted, PassEnds};
 use keep_record::Added;
-use noted_run::NotedLines;
+use noted_entries::NotedLines;
 
 // How both stages end: how many lines the main part has, how many there are in all, how many starts; or the record is too short.
 pub enum NotedStages {
@@ -43,7 +43,7 @@ fn stages(
     requires { ⌜ (planSize (headerIn (now numbers)) ≤ length (now plan)) × (length (now plan) < 4294967296) × ((i : ℕ) → getD (now plan) i 0 ≡ 0) ⌝ }
     ensures { λ r. ⌜ StagesNoted (graphIn (now (numbers .entry))) (now (seen .entry)) (now (out .entry)) (now (marks .exit)) (now (lines .exit)) (now (seen .exit)) (now (out .exit)) r ⌝ }
 {
-    let users = dynamic_entries::order_entries(numbers, tables, plan);
+    let users = entry_sizes::order_entries(numbers, tables, plan);
     match noted_run::main_part(
         numbers,
         tables,

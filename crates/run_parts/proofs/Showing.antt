@@ -17,7 +17,7 @@ use Rattle.answer_rows.specs.Shown.{shownRow}
 use Rattle.tree_shaking.specs.Rounds.{finalEntries}
 use Rattle.run_rows.specs.Run.{runOf, deadRow, helpersRow, entriesRow}
 use Rattle.run_parts.specs.Operation.{Rows}
-use Rattle.run_parts.specs.Parts.{RowsShown, Holds}
+use Rattle.run_parts.specs.Parts.{RowsShown}
 use Rattle.run_parts.specs.Steps.{Shows}
 
 -- lengths
@@ -26,21 +26,6 @@ first-fits a b n h = omega arith
 
 pub still-fits : {n a b : ℕ} → b ≡ a → n ≤ a → n ≤ b
 still-fits e h = omega arith
-
--- what both stages leave shows the run
-pub shows-held : {g : Graph} {marks row plan : List ℕ} {users main total : ℕ} → Holds g marks row plan users main total → Shows g row plan users main total
-shows-held h =
-    record {
-      main-lines = h .main-lines;
-      all-lines = h .all-lines;
-      inside = h .held .base-inside;
-      room = h .held .room;
-      good = h .held .good;
-      planned = h .planned;
-      live-are = h .live-are;
-      dead-are = h .dead-are;
-      words = h .words;
-    }
 
 module _ (g : Graph) (row plan : List ℕ) (users main total : ℕ) (s : Shows g row plan users main total) where
   -- the main part's lines are there

@@ -1,4 +1,4 @@
-// The run's parts: getting ready, working and showing what was kept, and all in their order.
+// The run's parts: getting ready, working and showing what was kept.
 ghost use mathlib.Core.Path.{_≡_};
 ghost use Prim.Native.Nat.{ℕ, _+_, _*_, _-_, _<_, _≤_};
 ghost use mathlib.Core.Bool.{Bool, true, false};
@@ -16,7 +16,7 @@ ghost use Rattle.entry_order.specs.Plan.{planSize};
 ghost use Rattle.entry_starts.specs.Working.{Working};
 ghost use Rattle.tree_shaking.specs.Rounds.{finalEntries};
 ghost use Rattle.run_rows.specs.Run.{runOf};
-ghost use Rattle.run_parts.specs.Operation.{rows as rowsOf, enough, Runs};
+ghost use Rattle.run_parts.specs.Operation.{rows as rowsOf, enough};
 ghost use Rattle.run_parts.specs.Parts.{roomFor, Readied, WorkEnds, RowsShown};
 ghost use Rattle.run_parts.specs.Steps.{StagesEnd, Shows, RowsFit};
 use answer_rows::Row;
@@ -54,7 +54,7 @@ pub enum Readiness {
 
 // How the work ends: how many user-defined entries there are, how many rounds were made, how many lines the main part has, and how many there are
 // in all; or the record is too short.
-enum BothStages {
+pub enum BothStages {
     Worked(usize, usize, usize, usize),
     TooShort,
 }
@@ -89,7 +89,7 @@ fn are_enough(numbers: &[u32], tables: &[usize], l: Lengths) -> bool
 }
 
 // Gets ready: loads and checks the graph, fills the tables, and compares the lengths of marks and answer rows.
-fn ready(numbers: &[u32], h: Header, lengths: Lengths, tables: &mut [usize]) -> Readiness
+pub fn ready(numbers: &[u32], h: Header, lengths: Lengths, tables: &mut [usize]) -> Readiness
     requires { ⌜ HeaderRead (now numbers) h ⌝ }
     requires { ⌜ (startOf h 10 ≤ length (now tables)) × (length (now tables) < 4294967296) ⌝ }
     ensures { λ r. ⌜ Readied (now (numbers .entry)) lengths (now (tables .exit)) r ⌝ }
@@ -120,7 +120,7 @@ fn stages(
     requires { ⌜ (planSize (headerIn (now numbers)) ≤ length (now plan)) × (length (now plan) < 4294967296) × ((i : ℕ) → getD (now plan) i 0 ≡ 0) ⌝ }
     ensures { λ r. ⌜ StagesEnd (graphIn (now (numbers .entry))) (now (marks .exit)) (now (lines .exit)) (now (plan .exit)) r ⌝ }
 {
-    let users = dynamic_entries::order_entries(numbers, tables, plan);
+    let users = entry_sizes::order_entries(numbers, tables, plan);
     match tree_shaking::main_part(numbers, tables, partners, marks, lines, plan, users) {
         MainEnd::TooShort => BothStages::TooShort,
         MainEnd::Ended(rounds, main) => {
@@ -133,7 +133,7 @@ fn stages(
 }
 
 // The work: marks and record are cleared, and hold the lines of both stages afterwards, or are cleared again where the record is short.
-fn work(
+pub fn work(
     numbers: &[u32],
     tables: &[usize],
     partners: &mut [usize],
@@ -162,7 +162,7 @@ fn work(
 }
 
 // Writes the nine answer rows. The table of partners and the plan's order are used up. Gives how many final entries there are.
-fn show_all(
+pub fn show_all(
     numbers: &[u32],
     tables: &[usize],
     partners: &mut [usize],
@@ -202,71 +202,4 @@ fn show_all(
     run_rows::show_dead(numbers, tables, plan, partners, dead);
     run_rows::show_helpers(numbers, plan, helpers);
     run_rows::show_entries(numbers, tables, plan, users, partners, entries)
-}
-
-// The run with tables, partners and a plan that hold the graph. Partners and plan are cleared.
-pub fn run_in(
-    numbers: &[u32],
-    h: Header,
-    tables: &mut [usize],
-    partners: &mut [usize],
-    plan: &mut [usize],
-    marks: &mut [u8],
-    lines: &mut [u32],
-    modules_row: &mut [u8],
-    statements_row: &mut [u8],
-    used: &mut [u8],
-    external: &mut [u8],
-    json: &mut [u8],
-    reason: &mut [u8],
-    dead: &mut [u8],
-    helpers: &mut [u32],
-    entries: &mut [u32],
-) -> Ran
-    requires { ⌜ HeaderRead (now numbers) h ⌝ }
-    requires { ⌜ (startOf h 10 ≤ length (now tables)) × (length (now tables) < 4294967296) ⌝ }
-    requires { ⌜ (3 * h .modules + h .symbols ≤ length (now partners)) × (h .modules + h .entries ≤ length (now partners)) × ((i : ℕ) → getD (now partners) i 0 ≡ 0) ⌝ }
-    requires { ⌜ (planSize h ≤ length (now plan)) × (length (now plan) < 4294967296) × ((i : ℕ) → getD (now plan) i 0 ≡ 0) ⌝ }
-    ensures { λ r. ⌜ Runs (now (numbers .entry)) r (rowsOf (now (marks .entry)) (now (lines .entry)) (now («modules_row» .entry)) (now («statements_row» .entry)) (now (used .entry)) (now (external .entry)) (now (json .entry)) (now (reason .entry)) (now (dead .entry)) (now (helpers .entry)) (now (entries .entry))) (rowsOf (now (marks .exit)) (now (lines .exit)) (now («modules_row» .exit)) (now («statements_row» .exit)) (now (used .exit)) (now (external .exit)) (now (json .exit)) (now (reason .exit)) (now (dead .exit)) (now (helpers .exit)) (now (entries .exit))) ⌝ }
-{
-    let lengths = Lengths {
-        marks: marks.len(),
-        modules: modules_row.len(),
-        statements: statements_row.len(),
-        used: used.len(),
-        external: external.len(),
-        json: json.len(),
-        reason: reason.len(),
-        dead: dead.len(),
-        helpers: helpers.len(),
-        entries: entries.len(),
-    };
-    match ready(numbers, h, lengths, tables) {
-        Readiness::Refused(n, p) => Ran::Refused(n, p),
-        Readiness::Good => match work(numbers, tables, partners, marks, lines, plan) {
-            BothStages::TooShort => Ran::Refused(5, 0),
-            BothStages::Worked(users, rounds, main, total) => {
-                let count = show_all(
-                    numbers,
-                    tables,
-                    partners,
-                    plan,
-                    lines,
-                    users,
-                    main,
-                    total,
-                    modules_row,
-                    statements_row,
-                    used,
-                    external,
-                    json,
-                    reason,
-                    dead,
-                    helpers,
-                    entries,
-                );
-                Ran::Done(rounds, main, total - main, count)
-            }
-        },
-    }
 }

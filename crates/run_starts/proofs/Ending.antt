@@ -13,14 +13,14 @@ use Rattle.run_rows.specs.Run.{runOf}
 use Rattle.run_parts.specs.Operation.{done as runDone, marksAfter as runMarksAfter, recordAfter as runRecordAfter}
 use Rattle.own_starts.specs.Once.{triples}
 use Rattle.noted_stages.specs.Stages.{ownStartsOnce}
-use Rattle.run_starts.specs.declared.StartsRead.{StartsRead}
-use Rattle.run_starts.specs.declared.StartsRead.the-variants.{Numbers, Refused}
-use Rattle.run_starts.specs.declared.Counting.{Counting}
-use Rattle.run_starts.specs.declared.Counting.the-variants.{Counted, Short, Refused as Stopped}
-use Rattle.run_starts.specs.Operation.{Rows, rows, roomsOf, Outcome, before, short, done, worked, outcomeOf, answered, marksAfter, recordAfter, startsAfter, Ends, IsDone}
-use Rattle.run_starts.specs.Passes.{Passes}
-use Rattle.run_starts.proofs.Readying.{roomFor, outcome-refused}
-use Rattle.run_starts.proofs.Twice.{marks-same, record-same}
+use Rattle.run_starts_parts.specs.declared.StartsRead.{StartsRead}
+use Rattle.run_starts_parts.specs.declared.StartsRead.the-variants.{Numbers, Refused}
+use Rattle.run_starts_parts.specs.declared.Counting.{Counting}
+use Rattle.run_starts_parts.specs.declared.Counting.the-variants.{Counted, Short, Refused as Stopped}
+use Rattle.run_starts_parts.specs.Operation.{Rows, rows, roomsOf, Outcome, before, short, done, worked, outcomeOf, answered, marksAfter, recordAfter, startsAfter, Ends, IsDone}
+use Rattle.run_starts_parts.specs.Passes.{Passes}
+use Rattle.run_starts_parts.proofs.Readying.{roomFor, outcome-refused}
+use Rattle.run_starts_parts.proofs.Twice.{marks-same, record-same}
 
 -- the work by the lengths of record and starts
 module _ (g : Graph) (lines starts : ℕ) where

@@ -1,5 +1,1 @@
-pub mod Readying
-pub mod Passing
-pub mod Twice
-pub mod Tiers
 pub mod Ending

@@ -5,7 +5,7 @@ use native.Mathlib.Omega.{arith}
 use lib.Dec.{ltb}
 use lib.ListN.{length, take, length-replicate}
 use lib.Seq.{length-take-le}
-use Rattle.keep.specs.Program.{programText}
+use Rattle.answer_text.specs.Program.{programText}
 use Rattle.keep.proofs.Printing.{left, left-less, left-none}
 use Rattle.keep.proofs.main.Statement.{statement}
 use Rattle.keep.proofs.main.Tie as tie

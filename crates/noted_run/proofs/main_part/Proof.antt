@@ -3,7 +3,7 @@ use Rattle.tree_shaking.proofs.Trying.{progressed-same}
 use Rattle.entry_starts.proofs.Together.{working-after}
 use Rattle.own_starts.proofs.Noting.{noted-on}
 use Rattle.noted_run.proofs.Turns.{roundsStarts, main-starts, ended-short}
-use Rattle.noted_run.proofs.Ends.{notes-short, notes-behind, notes-same}
+use Rattle.noted_entries.proofs.Ends.{notes-short, notes-behind, notes-same}
 use Rattle.tree_shaking.specs.Rounds.{Ended}
 use Rattle.graph.specs.Check.{graphIn}
 use mathlib.Core.Path.{refl, ap, _∙_}

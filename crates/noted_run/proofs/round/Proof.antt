@@ -2,9 +2,9 @@ use Rattle.tree_shaking.proofs.Turning.{round-is, round-full}
 use Rattle.tree_shaking.proofs.Trying.{progressed-same}
 use Rattle.entry_starts.proofs.Together.{working-after}
 use Rattle.own_starts.proofs.Noting.{noted-on}
-use Rattle.noted_run.proofs.Tried.{triesStarts}
+use Rattle.noted_entries.proofs.Tried.{triesStarts}
 use Rattle.noted_run.proofs.Turns.{round-left}
-use Rattle.noted_run.proofs.Ends.{notes-short, notes-behind, notes-same}
+use Rattle.noted_entries.proofs.Ends.{notes-short, notes-behind, notes-same}
 use Rattle.graph.specs.Check.{graphIn}
 use mathlib.Core.Path.{_∙_}
 use Rattle.noted_run.proofs.round.Statement.{statement}

@@ -1,7 +1,7 @@
 use Rattle.tree_shaking.proofs.Turning.{Turning, turning-start, turning-end, turn-short, turn-more, turn-last, turn-next}
 use Rattle.own_starts.proofs.Noting.{Along, along-start, along-step, along-done, along-last}
 use Rattle.noted_run.proofs.Turns.{roundsStarts, roundsLeft, left-all, left-none, left-last, left-next, ended-short, ended-lines}
-use Rattle.noted_run.proofs.Ends.{notes-short, notes-known}
+use Rattle.noted_entries.proofs.Ends.{notes-short, notes-known}
 use Rattle.tree_shaking.specs.Rounds.{roundsFrom}
 use Rattle.dynamic_entries.specs.Tries.{progressIn}
 use Rattle.keep_record.specs.Held.{linesOf}

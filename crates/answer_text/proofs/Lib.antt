@@ -1,0 +1,5 @@
+pub mod Finals
+pub mod Outcomes
+pub mod Fitting
+pub mod Texts
+pub mod Answered

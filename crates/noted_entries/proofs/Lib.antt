@@ -1,0 +1,5 @@
+pub mod Ends
+pub mod Together
+pub mod Tried
+pub mod Searching
+pub mod Users

@@ -1,0 +1,4 @@
+pub mod Readying
+pub mod Passing
+pub mod Twice
+pub mod Tiers

@@ -1,0 +1,5 @@
+pub mod Filtered
+pub mod Spreading
+pub mod Gathering
+pub mod SameVerdicts
+pub mod Returns

@@ -1,0 +1,13 @@
+pub mod Edges
+pub mod Walking
+pub mod Entries
+pub mod Completing
+pub mod Earlier
+pub mod Numbers
+pub mod Components
+pub mod Sorting
+pub mod SameOrder
+pub mod Derivations
+pub mod Grouping
+pub mod Parts
+pub mod Exists

@@ -1,0 +1,22 @@
+-- The smallest graph on which the Rust does not return: one module, which is the runtime, with one statement and one symbol, its namespace. The
+-- symbol is an alias of export 1 of itself: a CommonJS namespace of its own module, whose export 1 it is. So a use of it leads back to it by K11.
+-- An entry refers to it.
+use Prim.Native.Nat.{ℕ}
+use mathlib.Core.Path.{_≡_}
+use mathlib.Core.List.{List, [], _∷_}
+use Rattle.graph.specs.declared.Checked.the-variants.{Accepted}
+use Rattle.graph.specs.Check.{graphIn, checkOf, answerOf}
+use Rattle.rust_run.specs.IncludeStatements.{Outcome, Returns}
+
+abbrev pub circle : List ℕ
+circle =
+    0 ∷ 0 ∷ 1 ∷ 1 ∷ 1 ∷ 1 ∷ 0
+    ∷ 1 ∷ 0 ∷ 0 ∷ 0 ∷ 0 ∷ 0 ∷ 0 ∷ 1 ∷ 0 ∷ 1 ∷ 0 ∷ 1 ∷ 0 ∷ 0 ∷ 0 ∷ 0 ∷ 1 ∷ 0 ∷ 0 ∷ 1 ∷ 1 ∷ 0 ∷ 0 ∷ 1 ∷ 0 ∷ 0 ∷ 0 ∷ 0
+    ∷ 0 ∷ 0 ∷ 0 ∷ 1 ∷ 1 ∷ 0 ∷ 0 ∷ 0 ∷ 0
+    ∷ 0 ∷ 0 ∷ 0
+    ∷ 0 ∷ 0 ∷ 0 ∷ []
+
+-- it is accepted, and the relation leads to no outcome
+pub record NeverReturns (numbers : List ℕ) : Type 0 where
+  pub accepted : answerOf (checkOf numbers) ≡ Accepted
+  pub no-outcome : (o : Outcome) → Returns (graphIn numbers) o → ⊥
