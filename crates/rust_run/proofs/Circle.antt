@@ -1,4 +1,4 @@
--- On the smallest circle the Rust has no outcome: the use of the entry's reference is on its queue for ever.
+-- On the circle the Rust has no outcome: the use of the entry's reference is on its queue for ever.
 use Prim.Native.Nat.{ℕ}
 use mathlib.Core.Path.{_≡_, refl, ap, _∙_, sym, subst}
 use mathlib.Core.Logic.{_⊎_, inl, inr}

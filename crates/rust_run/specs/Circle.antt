@@ -1,4 +1,4 @@
--- The smallest graph on which the Rust does not return: one module, which is the runtime, with one statement and one symbol, its namespace. The
+-- A small graph on which the Rust does not return: one module, which is the runtime, with one statement and one symbol, its namespace. The
 -- symbol is an alias of export 1 of itself: a CommonJS namespace of its own module, whose export 1 it is. So a use of it leads back to it by K11.
 -- An entry refers to it.
 use Prim.Native.Nat.{ℕ}
