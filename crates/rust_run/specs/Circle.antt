@@ -1,6 +1,6 @@
--- A small graph on which the Rust does not return: one module, which is the runtime, with one statement and one symbol, its namespace. The
--- symbol is an alias of export 1 of itself: a CommonJS namespace of its own module, whose export 1 it is. So a use of it leads back to it by K11.
--- An entry refers to it.
+-- A graph on which the Rust does not return, with each count at its least: one module, which is the runtime and has effects, one statement and one
+-- symbol, its namespace; no entry. The symbol is an alias of export 1 of itself: a CommonJS namespace of its own module, whose export 1 it is. So a
+-- use of it leads back to it by K11. The runtime stage includes the module, and K5 uses the symbol.
 use Prim.Native.Nat.{ℕ}
 use mathlib.Core.Path.{_≡_}
 use mathlib.Core.List.{List, [], _∷_}
@@ -10,10 +10,9 @@ use Rattle.rust_run.specs.IncludeStatements.{Outcome, Returns}
 
 abbrev pub circle : List ℕ
 circle =
-    0 ∷ 0 ∷ 1 ∷ 1 ∷ 1 ∷ 1 ∷ 0
-    ∷ 1 ∷ 0 ∷ 0 ∷ 0 ∷ 0 ∷ 0 ∷ 0 ∷ 1 ∷ 0 ∷ 1 ∷ 0 ∷ 1 ∷ 0 ∷ 0 ∷ 0 ∷ 0 ∷ 1 ∷ 0 ∷ 0 ∷ 1 ∷ 1 ∷ 0 ∷ 0 ∷ 1 ∷ 0 ∷ 0 ∷ 0 ∷ 0
+    0 ∷ 0 ∷ 1 ∷ 1 ∷ 1 ∷ 0 ∷ 0
+    ∷ 1 ∷ 1 ∷ 0 ∷ 0 ∷ 0 ∷ 0 ∷ 0 ∷ 1 ∷ 0 ∷ 1 ∷ 1 ∷ 1 ∷ 0 ∷ 0 ∷ 0 ∷ 0 ∷ 0 ∷ 1 ∷ 0 ∷ 1 ∷ 1 ∷ 0 ∷ 0 ∷ 1 ∷ 0 ∷ 0 ∷ 0 ∷ 0
     ∷ 0 ∷ 0 ∷ 0 ∷ 1 ∷ 1 ∷ 0 ∷ 0 ∷ 0 ∷ 0
-    ∷ 0 ∷ 0 ∷ 0
     ∷ 0 ∷ 0 ∷ 0 ∷ []
 
 -- it is accepted, and the relation leads to no outcome
