@@ -1,5 +1,5 @@
--- The answer rows: what the facts of the lines show, and nothing else (document 01, "Used, external, json and REASON follow from the
--- facts as in `handle_include_symbol`, K6").
+-- The answer rows: what the facts of the lines show, and nothing else (docs/RULES.md, What the rows show; 000, `handle_include_symbol`, and
+-- K6).
 use Prim.Native.Nat.{ℕ, zero, suc, _+_, _*_, _^_}
 use mathlib.Core.Bool.{Bool, true, false, _&&_, _||_, not}
 use mathlib.Core.List.{List, [], _∷_, _++_}
@@ -30,7 +30,7 @@ bytesBefore statements zero = 0
 bytesBefore [] (suc m) = 0
 bytesBefore (s ∷ statements) (suc m) = bytesFor (length s) + bytesBefore statements m
 
--- a use that is not bypassed: the symbol itself and its target are used (000:707-735)
+-- a use that is not bypassed: the symbol itself and its target are used (000:708-712, 725-727)
 unfoldable pub usedBy : Graph → ℕ → ℕ → List ℕ
 usedBy g s x = elim (bypassed g s x) [ true ↦ [] | false ↦ s ∷ targetOf g s ∷ [] ]
 
@@ -51,7 +51,7 @@ jsonBy g s x =
           onlyIf (normal g (owner (symbolOf g (targetOf g s))) && (eqb (moduleType (moduleOf g (owner (symbolOf g (targetOf g s))))) 2 && not (flag 3 x))) (targetOf g s)
     ]
 
--- `note_namespace_inclusion_reason` (000:932-947): in the byte of the target's owner, where the target is its namespace, bit 0 (Unknown)
+-- `note_namespace_inclusion_reason` (000:932-951): in the byte of the target's owner, where the target is its namespace, bit 0 (Unknown)
 -- for the reasons 1 and 2, else bit 1 (ReExportDynamicExports) for the reason 4
 unfoldable pub reasonBy : Graph → ℕ → ℕ → List ℕ
 reasonBy g s x =
@@ -102,7 +102,7 @@ shows g NamespaceReason (CheckedUse s x) = []
 shows g NamespaceReason (Forward s) = []
 shows g NamespaceReason (Bailout m) = []
 
--- how many bytes a row's answer has (document 01, "Drain and run": an answer row)
+-- how many bytes a row's answer has (docs/OPERATIONS.md, Rows)
 unfoldable pub rowBytes : Graph → Row → ℕ
 rowBytes g Modules = bytesFor (g .header .modules)
 rowBytes g Statements = bytesBefore (g .statements) (g .header .modules)
@@ -131,7 +131,7 @@ bytesOf p n = tabulate (byteOf p) 0 n
 unfoldable pub shownRow : Graph → Row → List Line → List ℕ → List ℕ
 shownRow g row lines lent = bytesOf (shown g row lines) (rowBytes g row) ++ drop (rowBytes g row) lent
 
--- six answer rows of these lengths are long enough (document 01, "an answer row too short")
+-- six answer rows of these lengths are long enough (docs/OPERATIONS.md, Rows)
 unfoldable pub rowsEnough : Graph → Lengths → Bool
 rowsEnough g l =
     leb (rowBytes g Modules) (l .modules) && (leb (rowBytes g Statements) (l .statements) && (leb (rowBytes g Used) (l .used)

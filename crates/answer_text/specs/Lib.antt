@@ -1,1 +1,2 @@
+-- The main definitions of `Program`: `programText`.
 pub mod Program

@@ -1,4 +1,4 @@
--- What the program prints for a file (document 01, "The program `keep`").
+-- What the program prints for a file (docs/OPERATIONS.md, Program keep).
 use Prim.Native.Nat.{ℕ}
 use mathlib.Core.Bool.{Bool, true, false}
 use mathlib.Core.List.{List, [], _∷_}
@@ -13,7 +13,7 @@ use Rattle.run_parts.specs.Operation.{Rooms, Outcome, before, short, done, outc
 use Rattle.listing.specs.Listing.{Shown, listingOf, refusedText}
 
 -- The rows of the program: for the largest counts of a graph, but import records (8,192 numbers hold fewer than 8,192) and record lines
--- (1,024: "more: refusal 5").
+-- (1,024; a run with more is refused 5).
 abbrev pub programRooms : Rooms
 programRooms =
     record {
@@ -57,6 +57,6 @@ unfoldable pub decodedText : Decoded → List ℕ
 decodedText (all numbers) = outcomeText (outcomeOf numbers programRooms)
 decodedText (refused n p) = refusedText n
 
--- "over 8,192 bytes: refusal 2", before anything is read as numbers
+-- a file longer than 8,192 bytes is refused 2, before anything is read as numbers
 unfoldable pub programText : List ℕ → Bool → List ℕ
 programText file longer = elim longer [ true ↦ refusedText 2 | false ↦ decodedText (readOf file 8192) ]

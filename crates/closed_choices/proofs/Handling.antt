@@ -1,4 +1,5 @@
 -- A drain handles every line: all that follows from its lines is there.
+-- So the fuel by which a drain is defined never decides.
 use Prim.Native.Nat.{ℕ, zero, suc, _+_, _<_, _≤_}
 use mathlib.Core.Path.{_≡_, refl, ap, _∙_, sym, subst}
 use mathlib.Core.Bool.{Bool, true, false}

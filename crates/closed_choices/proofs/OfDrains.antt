@@ -1,4 +1,5 @@
 -- T5 and T6 over every accepted graph and all starts that are not refused.
+-- A drain has no more lines than there are marks (`lines-few`).
 use Prim.Native.Nat.{ℕ, _/_, _≤_}
 use mathlib.Core.Path.{_≡_}
 use mathlib.Core.List.{List}

@@ -1,4 +1,5 @@
--- Document 01: "A choice is any set of facts; it is closed if it has all that K1 to K14 give from its own, under the last verdicts."
+-- A choice is a set of facts. It is closed if every fact that a rule gives from its facts, by the last verdicts, is in it (docs/RULES.md,
+-- Keep rules).
 use Prim.Native.Nat.{ℕ, _*_, _<_}
 use mathlib.Core.Path.{_≡_}
 use mathlib.Core.Bool.{true}

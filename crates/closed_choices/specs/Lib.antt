@@ -1,2 +1,5 @@
+-- The main definitions of each file.
+-- `Choice`: `Closed`, `Smallest`, `HasLine`.
+-- `Operation`: `EveryDrainShows`, `DrainShows`.
 pub mod Choice
 pub mod Operation

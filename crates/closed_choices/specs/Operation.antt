@@ -23,7 +23,7 @@ use Rattle.answer_rows.specs.Shown.{bytesBefore, rowBytes}
 use Rattle.drain_parts.specs.Operation.{Rooms, done, outcomeOf, marksAfter, rowAfter, enough}
 use Rattle.closed_choices.specs.Choice.{Smallest, HasLine, RowShows}
 
--- a bit of a row that stands for no module, statement, symbol or reason (document 01, "spare bits 0")
+-- a bit of a row that stands for no module, statement, symbol or reason (docs/OPERATIONS.md, Rows)
 abbrev pub Spare : Graph → Row → ℕ → Type 0
 Spare g Modules j = g .header .modules ≤ j
 Spare g Statements j = (m i : ℕ) → m < g .header .modules → i < length (statementList g m) → j ≡ 8 * bytesBefore (g .statements) m + i → ⊥
@@ -57,6 +57,6 @@ EnoughDrains =
     → startsFault (graphIn numbers) starts 0 (length starts / 3) ≡ 0 → enough (graphIn numbers) room ≡ true
     → 6 * markCount (graphIn numbers) ≤ room .lines → (lines : List Line) × (outcomeOf numbers starts room ≡ done (graphIn numbers) lines)
 
--- "No starts: no facts", for every graph
+-- without a start there is no fact, for every graph
 abbrev pub NoStartsNoFacts : Type 0
 NoStartsNoFacts = (numbers : List ℕ) (room : Rooms) (g : Graph) (lines : List Line) → outcomeOf numbers [] room ≡ done g lines → lines ≡ []

@@ -1,5 +1,5 @@
--- Whether anything is absent from a record: a start, or what follows from its lines (document 01, "Operations: Judge": "6 after the last if a
--- start or consequence is absent"). `kept` says which facts have a line.
+-- Whether anything is absent from a record: a start, or what follows from its lines (docs/OPERATIONS.md, Judge). `kept` says which facts have
+-- a line.
 use Prim.Native.Nat.{ℕ}
 use mathlib.Core.Bool.{Bool, true, false, _&&_}
 use mathlib.Core.List.{List, [], _∷_}

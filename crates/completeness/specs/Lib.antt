@@ -1,1 +1,2 @@
+-- The main definitions of `Complete`: `isComplete`.
 pub mod Complete

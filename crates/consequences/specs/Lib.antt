@@ -1,1 +1,2 @@
+-- The main definitions of `Cursors`: `left`, `Nexts`.
 pub mod Cursors

@@ -1,4 +1,5 @@
 -- The groups of more than one are the strongly connected components of more than one.
+-- `cycled-cycles` and `cycles-cycled`: T12, for every graph whose edges join its roots. Each root is completed once.
 use Prim.Native.Nat.{ℕ, _<_, _≤_}
 use mathlib.Core.Path.{_≡_, refl, ap, _∙_, sym, subst}
 use mathlib.Core.Logic.{_⊎_, inl, inr, ⊎-elim}

@@ -1,3 +1,6 @@
+-- The main definitions of each file.
+-- `Search`: `walk`, `finished`.
+-- `Cycles`: `OnCycle`, `cycled`.
 pub mod Search
 pub mod Cycles
 pub mod Memory

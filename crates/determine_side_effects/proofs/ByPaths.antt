@@ -1,5 +1,5 @@
--- Document 01, "Effects": a normal Analyzed(false) module becomes Analyzed(true) exactly if a path of resolved imports leads from it to
--- effects; no other verdict changes. The order in which the passes take the modules plays no part in it.
+-- Effects by paths (docs/RULES.md, Effects): a normal Analyzed(false) module ends as Analyzed(true) exactly if a path of resolved imports
+-- leads from it to effects; the others keep their verdict. The order in which the passes take the modules plays no part in it.
 use Prim.Native.Nat.{ℕ, zero, suc, _-_, _<_, _≤_}
 use mathlib.Core.Path.{_≡_, refl, ap, _∙_, sym}
 use mathlib.Core.Logic.{_⊎_, inl, inr}
@@ -166,7 +166,7 @@ module _ (g : Graph) (v : List ℕ) where
         go (kept i) = i
         go (turned q o l) = absurd (n q)
 
--- settling gives the verdicts that document 01 tells of
+-- settling gives the verdicts by paths
 pub by-paths : (g : Graph) (v : List ℕ) → length v ≡ g .header .modules → ByPaths g v (settle g v)
 by-paths g v long =
     record {

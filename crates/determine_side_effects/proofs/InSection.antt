@@ -1,4 +1,5 @@
 -- Words written into a section of the tables, and the section of the verdicts.
+-- What is written behind that section leaves it (`settled-kept`).
 use Prim.Native.Nat.{ℕ, _+_, _<_, _≤_}
 use mathlib.Core.Path.{_≡_, ap, _∙_, sym}
 use mathlib.Core.List.{List}

@@ -1,4 +1,5 @@
 -- Passes over the modules: they keep the row's length, and after as many as there are modules nothing moves.
+-- A pass in which nothing moves ends the settling (`pass-none`).
 use Prim.Native.Nat.{ℕ, zero, suc, _<_, _≤_}
 use mathlib.Core.Path.{_≡_, refl, ap, _∙_, sym}
 use mathlib.Core.Bool.{Bool, true, false, _&&_, _||_}

@@ -10,7 +10,7 @@ use Rattle.graph.specs.declared.Checked.the-variants.{Accepted, Refused}
 use Rattle.graph.specs.Check.{Graph, checkOf}
 use Rattle.determine_side_effects.specs.Effects.{lastVerdicts}
 
--- the answer: as check, then 5 if the row is below one number a module (document 01, "Effects")
+-- the answer: that of the check; 5 if the graph is accepted and the row has fewer numbers than modules (docs/OPERATIONS.md, Effects)
 unfoldable pub effectsAnswer : List ℕ → ℕ → Checked
 effectsAnswer numbers room =
     elim (checkOf numbers) [

@@ -1,4 +1,4 @@
--- Document 01, "Effects": the modules from which a path of resolved imports leads to effects.
+-- The modules from which a path of resolved imports leads to effects (docs/RULES.md, Effects).
 use Prim.Native.Nat.{ℕ, suc, _<_}
 use mathlib.Core.Path.{_≡_}
 use mathlib.Core.Logic.{_↔_}
@@ -28,8 +28,8 @@ pub data Leads (g : Graph) (v : List ℕ) : ℕ → Type 0 where
   seeded : (m k : ℕ) → Quiet g v m → k < length (importRecords (moduleOf g m)) → seeds g (getD (importRecords (moduleOf g m)) k []) ≡ true → Leads g v m
   imports : (m k t : ℕ) → Quiet g v m → Imports g m k t → Leads g v t → Leads g v m
 
--- The document's sentence of verdicts `w` that were settled from `v`: a normal Analyzed(false) module becomes Analyzed(true) exactly if a path
--- leads from it, and no other verdict changes.
+-- What is said by paths of verdicts `w` that were settled from `v`: a normal Analyzed(false) module ends as Analyzed(true) exactly if a path
+-- leads from it, and the others keep their verdict.
 pub record ByPaths (g : Graph) (v w : List ℕ) : Type 0 where
   pub long : length w ≡ length v
   pub becomes : (m : ℕ) → Quiet g v m → (getD w m 0 ≡ 1) ↔ Leads g v m

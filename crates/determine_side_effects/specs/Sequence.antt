@@ -33,7 +33,7 @@ rustVerdicts g =
       | false ↦ settle g (givenVerdicts g)
     ]
 
--- T3: the Rust's sequence gives the last verdicts, and they are document 01's, by paths, from the verdicts before the last settling
+-- T3: the Rust's sequence gives the last verdicts, and they are those by paths, from the verdicts before the last settling
 abbrev pub RustSequence : Type 0
 RustSequence = (g : Graph) → rustVerdicts g ≡ lastVerdicts g
 

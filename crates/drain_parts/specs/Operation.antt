@@ -1,4 +1,4 @@
--- What a drain answers, and every lent row afterwards (document 01, "Operations").
+-- What a drain answers, and every lent row afterwards (docs/OPERATIONS.md, Drain).
 use Prim.Native.Nat.{ℕ, _+_, _*_, _-_, _/_, _%_}
 use mathlib.Core.Path.{_≡_}
 use mathlib.Core.Bool.{Bool, true, false, _&&_}

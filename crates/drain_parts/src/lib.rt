@@ -1,4 +1,5 @@
 // The drain's parts: getting ready, working and showing what was kept, and both in their order.
+// Getting ready is handed the lengths of the lent rows, not the rows. No answer row is written before the last refusal is excluded.
 ghost use mathlib.Core.Path.{_≡_};
 ghost use Prim.Native.Nat.{ℕ, _+_, _*_, _-_, _/_, _%_, _<_, _≤_};
 ghost use mathlib.Core.Bool.{Bool, true, false};

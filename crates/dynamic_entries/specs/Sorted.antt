@@ -1,4 +1,4 @@
--- The order of the dynamic entries (document 01, "The run", step 2; 003:88-126, `sort_dynamic_entries_by_topological_order`).
+-- The order of the dynamic entries (docs/RULES.md, Step 2; 003:92-128, `sort_dynamic_entries_by_topological_order`).
 use Prim.Native.Nat.{ℕ, zero, suc}
 use mathlib.Core.Bool.{Bool, true, false, not, _||_}
 use mathlib.Core.List.{List, [], _∷_, _++_}
@@ -17,12 +17,12 @@ completion g = finished (entryGraph g .succs) (g .header .modules) (entryGraph g
 unfoldable pub onCycle : Graph → ℕ → Bool
 onCycle g m = elem m (cycled (entryGraph g .succs) (g .header .modules) (entryGraph g .nodes))
 
--- "cycle members and those outside the graph first": these have no place among the components of one node
+-- entries that go first: of modules on a cycle or outside the graph, which have no place among the components of one node
 unfoldable pub goesFirst : Graph → ℕ → Bool
 goesFirst g m = onCycle g m || not (elem m (entryGraph g .nodes))
 
--- "then descending component number, stable": a component of one is numbered when its node completes, so from the node that was completed
--- last down, the entries of each that is on no cycle
+-- the others by the number of their component, from the highest down; one of a single node gets its number when the node is completed. So from
+-- the node that was completed last down, the entries of each that is on no cycle
 unfoldable pub byCompletion : Graph → List ℕ → List ℕ → List ℕ
 byCompletion g entries [] = []
 byCompletion g entries (m ∷ ms) =

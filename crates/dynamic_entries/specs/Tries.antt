@@ -1,4 +1,4 @@
--- The tries of dynamic entries (document 01, "The run", step 4; 003:24-66, `process_and_retain_dynamic_entry`).
+-- The tries of dynamic entries (docs/RULES.md, Step 4; 003:25-63, `process_and_retain_dynamic_entry`).
 use Prim.Native.Nat.{ℕ, zero, suc, _+_, _<_, _≤_}
 use mathlib.Core.Path.{_≡_}
 use mathlib.Core.Bool.{Bool, true, false, _||_}
@@ -40,7 +40,7 @@ nowLive g e p = record { lines = p .lines; live = λ m. eqb m (moduleOfEntry g e
 unfoldable pub nowDead : ℕ → Progress → Progress
 nowDead e p = record { lines = p .lines; live = p .live; dead = λ x. eqb x e || p .dead x }
 
--- a try of a dynamic entry whose module is not yet live (003:24-66)
+-- a try of a dynamic entry whose module is not yet live (003:25-63)
 unfoldable pub tried : Graph → List ℕ → ℕ → Progress → Progress
 tried g v e p =
     elim (p .live (moduleOfEntry g e)) [

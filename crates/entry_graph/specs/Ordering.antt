@@ -1,4 +1,4 @@
--- The graph by which dynamic entries are ordered (003:128-165, `construct_dynamic_entry_graph`, written over).
+-- The graph by which dynamic entries are ordered (003:130-165, `construct_dynamic_entry_graph`, written over).
 use Prim.Native.Nat.{ℕ, zero, suc, _-_}
 use mathlib.Core.Bool.{Bool, true, false, _||_}
 use mathlib.Core.List.{List, [], _∷_, _++_}
@@ -40,7 +40,7 @@ unfoldable pub visit : ℕ → Ordering → Ordering
 visit m s = record { visited = λ x. eqb x m || s .visited x; nodes = s .nodes; succs = s .succs }
 
 -- A dynamic import of t by the present root: an import of the root itself adds no edge but is walked; an edge to a node seen before is
--- added but not walked (003:144-158). `go` walks on from a module, with a root.
+-- added but not walked (003:146-159). `go` walks on from a module, with a root.
 unfoldable pub dynamicImport : (ℕ → ℕ → Ordering → Ordering) → ℕ → ℕ → Ordering → Ordering
 dynamicImport go root t s =
     elim (eqb root t) [
@@ -76,7 +76,7 @@ construct g (suc fuel) root m s =
       ]
     ]
 
--- a dynamic entry: nothing is visited at first, the graph is shared (003:97-102)
+-- a dynamic entry: nothing is visited at first, the graph is shared (003:101-106)
 unfoldable pub fromEntry : Graph → ℕ → Ordering → Ordering
 fromEntry g m s = construct g (g .header .modules) m m (record { visited = nothing; nodes = s .nodes; succs = s .succs })
 

@@ -1,6 +1,9 @@
 -- The plan of a run: one slice of words beside the tables. With E entries and M modules it holds the entries in the order in which they are
 -- taken, from word 0 on; then for each module whether it is live as a dynamic entry; for each entry whether a try of it was found dead; for
 -- each module whether it is on a cycle of dynamic entries, and its word of helpers.
+-- The entries are written by `entry_sizes::order_entries`, live modules by `tree_shaking`, dead entries by `entry_liveness::next_live`, modules
+-- on a cycle by `cycles::find_cycles`, helpers by `passes::collect_helpers` before the runtime stage. A try that finds an entry dead marks the same
+-- import records whenever it happens, so one word an entry is enough.
 use Prim.Native.Nat.{ℕ, _+_, _*_, _<_, _≤_}
 use mathlib.Core.Path.{_≡_}
 use mathlib.Core.Bool.{Bool, true, false, _&&_}

@@ -1,4 +1,5 @@
 // Parting and sorting the entries of a graph, with rows by its size.
+// There is room for 16 successors of each module at first; where a module has more, the ordering graph is built again with room for 1,024.
 ghost use mathlib.Core.Path.{_≡_};
 ghost use Prim.Native.Nat.{ℕ, _<_, _≤_};
 ghost use mathlib.Core.Bool.{_&&_};

@@ -1,4 +1,4 @@
--- What an entry starts (document 01, "The run", steps 1 and 4; 000, `include_statements`; 003:48-62).
+-- What an entry starts (docs/RULES.md, Steps 1 and 4; 000:316-339; 003:43-62).
 use Prim.Native.Nat.{ℕ, zero, suc}
 use mathlib.Core.Bool.{Bool, true, false}
 use mathlib.Core.List.{List, [], _∷_, _++_, map}

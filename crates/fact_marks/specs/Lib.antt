@@ -1,1 +1,2 @@
+-- The main definitions of `Marks`: `Marks`.
 pub mod Marks

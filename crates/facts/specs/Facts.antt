@@ -1,4 +1,4 @@
--- Facts and their numbers (document 01, "Keep rules").
+-- Facts and their numbers (docs/RULES.md, Facts).
 use Prim.Native.Nat.{ℕ, _+_, _*_, _-_, _<_}
 use mathlib.Core.Path.{_≡_}
 use mathlib.Core.Bool.{Bool, true, false}
@@ -34,7 +34,7 @@ forwardFact s = Forward (record { 0 = s })
 abbrev pub bailoutFact : ℕ → Fact
 bailoutFact m = Bailout (record { 0 = m })
 
--- a fact as document 01's three numbers: its kind and its two parts, 0 for an unused one
+-- a fact as three numbers: its kind and its two parts, 0 for an unused one
 abbrev pub kindOf : Fact → ℕ
 kindOf (Module m) = 1
 kindOf (Statement m i) = 2
@@ -82,7 +82,7 @@ Good g (CheckedUse s x) = (s .0 < g .header .symbols) × (0 < x .bits) × (x .bi
 Good g (Forward s) = s .0 < g .header .symbols
 Good g (Bailout m) = m .0 < g .header .modules
 
--- the number of a fact's mark (document 01, "Marks"), and how many there are
+-- the number of a fact's mark (docs/OPERATIONS.md, Marks), and how many there are
 unfoldable pub markOf : Graph → Fact → ℕ
 markOf g (Module m) = m .0
 markOf g (Bailout m) = g .header .modules + m .0

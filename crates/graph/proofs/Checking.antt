@@ -1,4 +1,5 @@
 -- The answer of the check, by its parts.
+-- Accepted numbers stand for `graphIn numbers` (`check-graph`).
 use Prim.Native.Nat.{ℕ, zero, suc, _+_, _-_, _*_, _<_, _≤_}
 use mathlib.Core.Path.{_≡_, refl, ap, _∙_, sym}
 use mathlib.Core.List.{List, [], _∷_, _++_, map}

@@ -1,4 +1,5 @@
 -- Within which limits the numbers of an entry that was read are, and those of its related statements.
+-- A related module is normal, a related import record resolved (`related-good`).
 use Prim.Native.Nat.{ℕ, _<_}
 use mathlib.Core.Path.{_≡_, refl, ap, _∙_, sym}
 use mathlib.Core.Bool.{Bool, true, false}

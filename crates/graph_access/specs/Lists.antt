@@ -25,7 +25,7 @@ moduleWidths = 3 ∷ 1 ∷ 1 ∷ 1 ∷ 1 ∷ 1 ∷ 3 ∷ 2 ∷ 2 ∷ 2 ∷ []
 unfoldable pub symbolWidths : List ℕ
 symbolWidths = 1 ∷ 1 ∷ 1 ∷ []
 
--- The limits of the columns of a module's lists, where it has n statements; of a symbol's, where its owner has. Document 01, "The graph".
+-- The limits of the columns of a module's lists, where it has n statements; of a symbol's, where its owner has. docs/GRAPH.md.
 unfoldable pub moduleLimits : Header → ℕ → List (List ℕ)
 moduleLimits h n =
     ((h .modules + 1) ∷ 3 ∷ 4 ∷ [])

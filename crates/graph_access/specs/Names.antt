@@ -1,4 +1,4 @@
--- The numbers and lists of the decoded graph by name, in the order of document 01, "The graph". "+1" is as there: 0 stands for none.
+-- The numbers and lists of the decoded graph by name, in the order of the file (docs/GRAPH.md). "+1" is as there: 0 stands for none.
 use Prim.Native.Nat.{ℕ}
 use mathlib.Core.List.{List, [], _∷_}
 use lib.ListN.{getD, drop}

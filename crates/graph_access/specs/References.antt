@@ -1,4 +1,4 @@
--- How references stand in the numbers: a kind, then its parts (document 01, "Statement").
+-- How references stand in the numbers: a kind, then its parts (docs/GRAPH.md, Statement).
 use Prim.Native.Nat.{ℕ, zero, suc, _+_, _<_, _≤_}
 use mathlib.Core.Path.{_≡_}
 use mathlib.Core.List.{List, [], _∷_}

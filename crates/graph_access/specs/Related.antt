@@ -1,4 +1,4 @@
--- A related statement of an entry, in an accepted graph (document 01: "Runtime and related modules are normal, related records resolved").
+-- A related statement of an entry, in an accepted graph (docs/GRAPH.md: its module is normal, its import record resolved).
 use Prim.Native.Nat.{ℕ, _<_}
 use mathlib.Core.Path.{_≡_}
 use mathlib.Core.Bool.{true}

@@ -1,4 +1,5 @@
 // Where the lists of modules and symbols stand, by number.
+// A list is reached from the first one on, at most nine steps; a stage that often reads one list of a module should keep the list's place.
 ghost use mathlib.Core.Path.{_≡_};
 ghost use Prim.Native.Nat.{ℕ, _+_, _*_, _<_, _≤_};
 ghost use mathlib.Core.List.{List, [], _∷_};

@@ -1,4 +1,5 @@
 -- A module: its numbers, then its lists, by the count of its statements.
+-- A statement in the same way.
 use Prim.Native.Nat.{ℕ, zero, suc, _+_, _<_, _≤_}
 use mathlib.Core.Path.{_≡_, refl, ap, _∙_, sym}
 use mathlib.Core.Bool.{Bool, true, false}

@@ -1,4 +1,4 @@
--- The graph file of document 01, "The graph": what stands where, and within which limits.
+-- The graph file (docs/GRAPH.md): what stands where, and within which limits.
 use Prim.Native.Nat.{ℕ, zero, suc, _+_, _-_}
 use mathlib.Core.Bool.{Bool, true, false}
 use mathlib.Core.List.{List, [], _∷_, _++_, map}

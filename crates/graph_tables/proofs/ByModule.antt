@@ -1,4 +1,5 @@
 -- The loop over the statements of all modules.
+-- The modules' statements are no more than the header's count (`first-fits`).
 use Prim.Native.Nat.{ℕ, zero, suc, _+_, _<_, _≤_}
 use mathlib.Core.Path.{_≡_, refl, ap, _∙_, sym}
 use mathlib.Core.List.{List, [], _∷_, _++_}

@@ -1,4 +1,5 @@
 -- What is known of a module that was read, and where its numbers stand.
+-- The same of a symbol.
 use Prim.Native.Nat.{ℕ, zero, suc, _+_, _-_, _*_, _<_, _≤_}
 use mathlib.Core.Path.{_≡_, refl, ap, _∙_, sym}
 use mathlib.Core.List.{List, [], _∷_, _++_, map}

@@ -1,1 +1,2 @@
+-- The main definitions of `Here`: `Here`.
 pub mod Here

@@ -1,2 +1,3 @@
+-- The main definitions of `Operation`: `judgeOf`.
 pub mod Operation
 pub mod Parts

@@ -1,5 +1,5 @@
--- What the judge answers (document 01, "Operations: Judge"): the steps in their order. That a record is passed exactly if it is what document 01
--- asks of one is `judge-exactly` in `judged_records`.
+-- What the judge answers (docs/OPERATIONS.md, Judge): the steps in their order. That exactly the keep records are passed is `judge-exactly` in
+-- `judged_records`.
 use Prim.Native.Nat.{ℕ, _/_, _%_}
 use mathlib.Core.Bool.{Bool, true, false}
 use mathlib.Core.List.{List}
@@ -19,11 +19,11 @@ use Rattle.completeness.specs.Complete.{isComplete}
 use Rattle.judge_parts.specs.declared.Judged.{Judged}
 use Rattle.judge_parts.specs.declared.Judged.the-variants.{Passed, Refused}
 
--- "6 after the last if a start or consequence is absent"
+-- a start or a consequence that has no line: 6 at the number of lines
 unfoldable pub judgedWhole : Graph → List Fact → List Line → Judged
 judgedWhole g starts lines = elim (isComplete g (lastVerdicts g) (has g 0 lines) starts lines) [ true ↦ Passed | false ↦ Refused 6 (length lines) ]
 
--- "6 at the first line that is out of form, repeats a fact", or is not justified; `bad` is the first such line of n
+-- a line that is not in form, has a fact once more or is not justified: 6 there; `bad` is the first such line of n
 unfoldable pub judgedAt : Graph → List Fact → List ℕ → ℕ → ℕ → Judged
 judgedAt g starts row n bad = elim (eqb bad n) [ true ↦ judgedWhole g starts (linesOf n row) | false ↦ Refused 6 bad ]
 
@@ -31,7 +31,7 @@ unfoldable pub judgedLines : Graph → List Fact → List ℕ → Judged
 judgedLines g starts row =
     judgedAt g starts row (length row / 6) (firstBad (stands g (lastVerdicts g) starts row) 0 (length row / 6))
 
--- "4 and 3 for starts as in a drain, 4 at the record's length unless that is a multiple of six"
+-- the starts are refused as in a drain, by 4 or 3; then a record whose length is not in sixes, by 4 at that length
 unfoldable pub judgedIn : Graph → List ℕ → List ℕ → Judged
 judgedIn g starts row =
     elim (startsWalk g starts) [
@@ -39,6 +39,6 @@ judgedIn g starts row =
       | Fault n p ↦ Refused n p
     ]
 
--- "Judge: as check"
+-- the refusals of the check come first
 unfoldable pub judgeOf : List ℕ → List ℕ → List ℕ → Judged
 judgeOf numbers starts row = elim (checkOf numbers) [ got g q ↦ judgedIn g starts row | fault n p ↦ Refused n p ]

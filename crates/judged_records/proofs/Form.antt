@@ -1,4 +1,4 @@
--- The test of a line's form is what document 01 says of the form.
+-- The test of a line's form is what Sentence.antt says of the form.
 use Prim.Native.Nat.{ℕ, zero, suc, _+_, _<_, _≤_}
 use mathlib.Core.Path.{_≡_, refl, ap, _∙_, sym}
 use mathlib.Core.Logic.{_⊎_, inl, inr}

@@ -1,4 +1,4 @@
--- What document 01 asks of a record, over any numbers ("A record line is six numbers", "Operations: Judge"): its lines are of the form, no fact has
+-- What is asked of a record, over any numbers (docs/OPERATIONS.md, Record and Judge): its lines are of the form, no fact has
 -- two, each is a start or follows by its rule from the earlier lines it names, and their facts are the smallest closed choice that holds the
 -- starts. The rules are those of the relation in `rule_relation`.
 use Prim.Native.Nat.{ℕ, _+_, _*_, _-_, _/_, _%_, _<_, _≤_}

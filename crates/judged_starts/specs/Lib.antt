@@ -1,1 +1,2 @@
+-- The main definitions of `Operation`: `StartsGiven`.
 pub mod Operation

@@ -1,4 +1,4 @@
--- Whether a fact follows from others by a rule, as one line of a record says (document 01, "Operations: Judge").
+-- Whether a fact follows from others by a rule, as one line of a record says (docs/OPERATIONS.md, Judge).
 use Prim.Native.Nat.{ℕ}
 use mathlib.Core.Bool.{Bool, true, false, _&&_, _||_}
 use mathlib.Core.List.{List}
@@ -30,6 +30,6 @@ declares g s f = some (λ row. sameFact (statementFact (owner (symbolOf g s)) (o
 unfoldable pub joinedBy : Graph → Fact → Fact → Fact → Bool
 joinedBy g a b f = eqb (kindOf a) 1 && (isForwardOf g (firstPart a) b && declares g (firstPart b) f)
 
--- "the judge takes either order"
+-- in either order
 unfoldable pub joinedByEither : Graph → Fact → Fact → Fact → Bool
 joinedByEither g a b f = joinedBy g a b f || joinedBy g b a f

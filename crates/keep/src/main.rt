@@ -1,4 +1,5 @@
 // The program `keep`: reads a graph from standard input, settles effects, runs, and prints what is kept, or the refusal.
+// At most 8,192 bytes are read, and one more to tell a longer file. A text longer than WINDOW is formed again for each further part.
 
 // The text is printed by parts of so many bytes.
 const WINDOW: usize = 65536;

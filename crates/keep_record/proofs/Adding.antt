@@ -1,4 +1,5 @@
 -- Lines added in turn.
+-- Over a base of lines of an earlier stage: a fact gets one line in a stage, and no line is changed.
 use Prim.Native.Nat.{ℕ, zero, suc, _-_, _<_, _≤_}
 use mathlib.Core.Path.{_≡_, refl, ap, _∙_, sym}
 use mathlib.Core.Bool.{Bool, true, false, _||_, or-true, or-assoc}

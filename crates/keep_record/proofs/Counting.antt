@@ -1,4 +1,5 @@
 -- How many lines there can be: their marks differ.
+-- So beyond the base there are no more lines than marks (`lines-few`).
 use Prim.Native.Nat.{ℕ, zero, suc, _+_, _<_, _≤_}
 use mathlib.Core.Path.{_≡_, refl, ap, _∙_, sym}
 use mathlib.Core.Bool.{Bool, true, false, _||_, or-true, true≢false}

@@ -1,4 +1,4 @@
--- The keep record: lines, how numbers hold them, and how a new fact gets its line (document 01, "A record line is six numbers").
+-- The keep record: lines, how numbers hold them, and how a new fact gets its line (docs/OPERATIONS.md, Record).
 use Prim.Native.Nat.{ℕ, zero, suc}
 use mathlib.Core.Bool.{Bool, true, false, _||_}
 use mathlib.Core.List.{List, [], _∷_, _++_, map}
@@ -26,8 +26,8 @@ elem x (y ∷ ys) = eqb x y || elem x ys
 unfoldable pub marksOf : Graph → List Line → List ℕ
 marksOf g lines = map (λ l. markOf g (l .fact)) lines
 
--- A record may go on behind the lines of an earlier stage, its base (document 01, step 6: the runtime stage begins with module and
--- statement bits, but no use, forward or bailout facts). Of the base's facts the modules and the statements stay.
+-- A record may go on behind the lines of an earlier stage, its base (docs/RULES.md, Step 6). Of the base's facts the modules and the
+-- statements stay.
 abbrev pub stays : Fact → Bool
 stays (Module m) = true
 stays (Statement m i) = true
@@ -47,8 +47,8 @@ marksFrom g (suc base) (l ∷ ls) = elim (stays (l .fact)) [ true ↦ markOf g (
 unfoldable pub has : Graph → ℕ → List Line → Fact → Bool
 has g base lines f = elem (markOf g f) (marksFrom g base lines)
 
--- "a fact has one line a stage, a module or statement kept before none there": a further line, unless its fact is there; several lines
--- in turn
+-- a further line, unless its fact is there, so that no fact has two lines in a stage, and a module or statement of the base has none; several
+-- lines in turn
 unfoldable pub added : Graph → ℕ → List Line → Line → List Line
 added g base lines l = elim (has g base lines (l .fact)) [ true ↦ lines | false ↦ lines ++ (l ∷ []) ]
 

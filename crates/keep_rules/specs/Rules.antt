@@ -1,4 +1,4 @@
--- The keep rules K2 to K14 (document 01, "Keep rules"; 000, include_statements.rs; 001, on_demand.rs). K1, which has two premises, is
+-- The keep rules K2 to K14 (docs/RULES.md, Keep rules; 000, include_statements.rs; 001, on_demand.rs). K1, which has two premises, is
 -- in `worklist`. Each rule has a number of candidates in the graph, in their order, and each candidate gives a fact or nothing.
 use Prim.Native.Nat.{ℕ, zero, suc, _+_, _-_}
 use mathlib.Core.Bool.{Bool, true, false, _&&_, _||_, not}
@@ -43,7 +43,7 @@ quietRuntime g v m = eqb m (g .header .runtime) && not (hasEffects v m)
 unfoldable pub hasEval : Graph → ℕ → Bool
 hasEval g m = flag 0 (flags (moduleOf g m))
 
--- the bit that counts as a statement's effect (000:608-615)
+-- the bit that counts as a statement's effect (000:609-615)
 unfoldable pub effectBit : Graph → ℕ → ℕ
 effectBit g m = elim (flag 1 (flags (moduleOf g m)) && option g 2) [ true ↦ 1 | false ↦ 0 ]
 
@@ -134,7 +134,7 @@ inlined g row =
     && some (λ e. eqb (enumName e) (symbolName (symbolOf g (rootOf (g .symbols) (referenceSymbol row)))) && eqb (enumMember e) (firstProperty row))
     (enumMembers (moduleOf g (owner (symbolOf g (rootOf (g .symbols) (referenceSymbol row))))))))
 
--- the forwards of a symbol, itself and its chain (`forward_candidate`, 000:523-530): how many, and each
+-- the forwards of a symbol, itself and its chain (`forward_candidate`, 000:521-528): how many, and each
 unfoldable pub forwards : Graph → ℕ → ℕ
 forwards g s = 1 + length (exportChain (symbolOf g s))
 
@@ -154,7 +154,7 @@ resolvedCandidate row x k =
       | false ↦ elim (eqb (referenceFlag row) 1) [ true ↦ Gives (useFact (referenceSymbol row) x) | false ↦ Gives (checkedFact (referenceSymbol row) x) ]
     ]
 
--- K8 by the kind of the reference (000:1052-1088): how many candidates it has, and what each gives
+-- K8 by the kind of the reference (000:1052-1089): how many candidates it has, and what each gives
 unfoldable pub referenceCandidates : Graph → List ℕ → ℕ
 referenceCandidates g row =
     elim (eqb (referenceKind row) 0) [
@@ -175,7 +175,7 @@ referenceCandidate g x row k =
 unfoldable pub referenceSegment : Graph → ℕ → List ℕ → Segment
 referenceSegment g x row = segment 8 (referenceCandidates g row) (referenceCandidate g x row)
 
--- K7, then K8 for each reference in turn (000:1037-1088)
+-- K7, then K8 for each reference in turn (000:1038-1089)
 unfoldable pub statementSegments : Graph → List ℕ → ℕ → ℕ → List Segment
 statementSegments g v m i =
     segment 7 (length (statementImportRecords (statementOf g m i))) (importRecordCandidate g v m i)

@@ -1,4 +1,5 @@
 -- The loop of `count`: what is left, with the numbers that were counted, is the whole answer.
+-- An accepted count allows the pass that writes (`counted`); a refusal leaves the lent numbers (`kept`).
 use Prim.Native.Nat.{ℕ, _+_, _<_, _≤_}
 use mathlib.Core.Path.{_≡_, refl, ap, _∙_, sym}
 use mathlib.Core.Bool.{true}

@@ -1,4 +1,5 @@
 -- The loop of `longer_at`: what is left of the groups, from what stands before them, is the whole number.
+-- Weights and terms are small enough for the sums to fit in 64 bits.
 use Prim.Native.Nat.{ℕ, zero, suc, _+_, _*_, _%_, _^_, _<_, _≤_}
 use mathlib.Core.Path.{_≡_, refl, ap, sym}
 use mathlib.Core.Bool.{Bool, true, false, _&&_}

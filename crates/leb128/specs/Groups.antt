@@ -29,6 +29,6 @@ shortest (b ∷ []) = true
 shortest (b ∷ c ∷ []) = ltb 0 (c % 128)
 shortest (b ∷ c ∷ d ∷ bs) = shortest (c ∷ d ∷ bs)
 
--- document 01, "Read": refusal 1 is for over five groups, 2^32 or more, a padded form, a file that ends within the number
+-- refusal 1 (docs/OPERATIONS.md, Read): a number of more than five groups, or not below 2^32, or not in shortest form, or cut off by the file's end
 unfoldable pub good : List ℕ → Bool
 good gs = ended gs && (leb (length gs) 5 && (ltb (value gs) (2 ^ 32) && shortest gs))

@@ -19,8 +19,9 @@ unfoldable pub before : ℕ → Decoded → Decoded
 before x (all xs) = all (x ∷ xs)
 before x (refused n p) = refused n p
 
--- The numbers of the bytes xs, the first of which stands at `at`, where there is room for `room` more. Document 01, "Read": per
--- number 1, at its first byte, and then 5, at 0. Every number takes a byte, so `fuel`, at first the file's length, does not run out.
+-- The numbers of the bytes xs, the first of which stands at `at`, where there is room for `room` more. For each number
+-- first 1, at its first byte, then 5, at 0 (docs/OPERATIONS.md, Read). Every number takes a byte, so `fuel`, at first the file's length, does
+-- not run out.
 unfoldable pub numbersFrom : ℕ → List ℕ → ℕ → ℕ → Decoded
 numbersFrom zero xs at room = all []
 numbersFrom (suc fuel) [] at room = all []

@@ -1,5 +1,5 @@
--- Whether a line of a record stands (document 01, "Operations: Judge": "6 at the first line that is out of form, repeats a fact, or by its rule
--- neither is a start nor follows from the earlier lines it names").
+-- Whether a line of a record stands: it is in form, its fact has no earlier line, and it is a start or follows by its rule from the earlier
+-- lines that it names (docs/OPERATIONS.md, Judge).
 use Prim.Native.Nat.{ℕ, zero, suc, _+_, _-_}
 use mathlib.Core.Bool.{Bool, true, false, _&&_, not}
 use mathlib.Core.List.{List, map}

@@ -1,4 +1,6 @@
 // The lines of a record, one after another: whether each is in form, has a new fact, and is justified.
+// A drain writes the consequences of a line together and in order, so the lines of drains and runs are judged in one walk (`Trail`). Any other line
+// costs at most two searches of one rule's candidates of the line that it names.
 ghost use mathlib.Core.Path.{_≡_};
 ghost use Prim.Native.Nat.{ℕ, _+_, _*_, _/_, _<_, _≤_};
 ghost use mathlib.Core.Bool.{Bool, true, false};

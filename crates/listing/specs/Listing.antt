@@ -1,4 +1,4 @@
--- What the program `keep` prints of an answer (document 01, "The program `keep`").
+-- What the program `keep` prints of an answer (docs/OPERATIONS.md, Program keep).
 use Prim.Native.Nat.{ℕ, zero, suc, _+_, _*_, _<_, _≤_}
 use mathlib.Core.Bool.{Bool, true, false, _&&_}
 use mathlib.Core.List.{List, [], _∷_, _++_}

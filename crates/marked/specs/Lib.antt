@@ -1,1 +1,2 @@
+-- The main definitions of `Marked`: `marked`.
 pub mod Marked

@@ -1,1 +1,2 @@
+-- The main definitions of `Stages`: `ownStartsOnce`, `PassEnds`.
 pub mod Stages

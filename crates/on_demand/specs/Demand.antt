@@ -12,7 +12,7 @@ use Rattle.graph_access.specs.Words.{rootOf}
 use Rattle.graph_access.specs.Words.{flag, tabulate, some, moduleOf, statementList, statementOf, normal, option}
 use Rattle.determine_side_effects.specs.Effects.{lastVerdicts}
 
--- module m is the module of a user-defined entry, kind 0 or 1 (001:122-136)
+-- module m is the module of a user-defined entry, kind 0 or 1 (001:128-136)
 unfoldable pub userEntry : Graph → ℕ → Bool
 userEntry g m = some (λ e. eqb (entryModule e) m && ltb (entryKind e) 2) (g .entries)
 
@@ -35,7 +35,7 @@ hasGated g m = some (gated g m) (tabulate (λ i. i) 0 (length (statementList g m
 unfoldable pub hasBody : Graph → List ℕ → ℕ → Bool
 hasBody g v m = normal g m && (onDemand g v m && hasGated g m)
 
--- symbol s is a key of the body of module m: a root of its own exports, or its namespace as it stands (001:92-98)
+-- symbol s is a key of the body of module m: a root of its own exports, or its namespace as it stands (001:93-98)
 unfoldable pub claims : Graph → List ℕ → ℕ → ℕ → Bool
 claims g v m s =
     hasBody g v m && (some (λ row. eqb (rootOf (g .symbols) (only row)) s) (ownExports (moduleOf g m)) || eqb (namespace (moduleOf g m)) (s + 1))

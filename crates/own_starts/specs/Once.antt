@@ -19,7 +19,7 @@ notes g facts (f ∷ fs) = notes g (noted g facts f) fs
 unfoldable pub once : Graph → List Fact → List Fact
 once g facts = notes g [] facts
 
--- document 01, "Starts are triples: kind and its two parts"
+-- starts as triples: each one's kind and two parts (docs/OPERATIONS.md, Starts)
 unfoldable pub triples : List Fact → List ℕ
 triples [] = []
 triples (f ∷ fs) = kindOf f ∷ firstPart f ∷ secondPart f ∷ triples fs

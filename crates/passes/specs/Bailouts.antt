@@ -1,4 +1,4 @@
--- The exports of CommonJS modules that were bailed out (004:27-45, `include_cjs_bailout_exports`).
+-- The exports of CommonJS modules that were bailed out (004:26-42, `include_cjs_bailout_exports`).
 use Prim.Native.Nat.{ℕ, zero, suc}
 use mathlib.Core.Bool.{Bool, true, false}
 use mathlib.Core.List.{List, [], _∷_, _++_}
@@ -11,7 +11,7 @@ use Rattle.facts.specs.declared.Fact.the-variants.{Module, Statement, Use, Chec
 use Rattle.facts.specs.Facts.{checkedFact}
 use Rattle.keep_record.specs.declared.Line.{Line}
 
--- "uses (checked, Normal) each resolved export from CommonJS"
+-- a checked use, with Normal, for each resolved export that is from CommonJS (docs/RULES.md, Step 3)
 unfoldable pub exportStarts : List (List ℕ) → List Fact
 exportStarts [] = []
 exportStarts (row ∷ rows) =
@@ -25,7 +25,7 @@ bailoutStarts g (CheckedUse s x) = []
 bailoutStarts g (Forward s) = []
 bailoutStarts g (Bailout m) = exportStarts (resolvedExports (moduleOf g (m .0)))
 
--- "the bailouts gathered so far, in record order": of these lines
+-- of these lines, in their order
 unfoldable pub bailoutsStarts : Graph → List Line → List Fact
 bailoutsStarts g [] = []
 bailoutsStarts g (l ∷ ls) = bailoutStarts g (l .fact) ++ bailoutsStarts g ls

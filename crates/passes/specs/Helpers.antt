@@ -1,4 +1,4 @@
--- Runtime helpers: which a module needs, their union, and what it starts (document 01, "The run", step 6; 000, `include_statements`; 004).
+-- Runtime helpers: which a module needs, their union, and what it starts (docs/RULES.md, Step 6; 000:410-445; 004).
 use Prim.Native.Nat.{ℕ, zero, suc, _+_}
 use mathlib.Core.Bool.{Bool, true, false, not, _||_, _&&_}
 use mathlib.Core.List.{List, [], _∷_, _++_, map}
@@ -13,7 +13,7 @@ use Rattle.determine_side_effects.specs.Effects.{hasEffects}
 use Rattle.answer_rows.specs.Shown.{bitValue}
 use Rattle.entry_order.specs.Order.{those}
 
--- `kept` says which facts there are. "A module that isn't kept, other than the runtime, has all its listed helpers"
+-- `kept` says which facts there are. A module that is not kept has all helpers of its list, unless it is the runtime.
 unfoldable pub hasAll : Graph → (Fact → Bool) → ℕ → Bool
 hasAll g kept m = not (eqb m (g .header .runtime)) && not (kept (moduleFact m))
 
@@ -27,16 +27,16 @@ unfoldable pub wordOf : (ℕ → Bool) → ℕ → ℕ
 wordOf p zero = 0
 wordOf p (suc k) = wordOf p k + bitValue (p k) k
 
--- "bit h for helper h"; an external module lists no helper
+-- a bit for each helper; an external module lists none
 unfoldable pub helperWord : Graph → (Fact → Bool) → ℕ → ℕ
 helperWord g kept m = wordOf (needsHelper g kept m) (g .header .helpers)
 
--- "Helpers of kept modules are united" (004:51-70)
+-- the union of the helpers of all kept modules (004:47-65)
 unfoldable pub helperUnion : Graph → (Fact → Bool) → ℕ
 helperUnion g kept =
     wordOf (λ h. some (λ m. kept (moduleFact m) && flag h (helperWord g kept m)) (tabulate (λ m. m) 0 (g .header .modules))) (g .header .helpers)
 
--- what the runtime stage starts (004:72-94): the helpers of a word, ascending, used with Normal; with no helper the runtime, if it has
+-- what the runtime stage starts (004:67-88): the helpers of a word, ascending, used with Normal; with no helper the runtime, if it has
 -- effects
 unfoldable pub runtimeStarts : Graph → List ℕ → ℕ → List Fact
 runtimeStarts g v word =

@@ -1,5 +1,5 @@
--- Whether the six numbers of a line are of document 01's form: "fact kind, two parts, rule (0 for a start), two earlier line numbers plus 1;
--- unused ones are 0".
+-- Whether the six numbers of a line are in form (docs/OPERATIONS.md, Record): a fact's kind and parts, a rule, two names of earlier lines, and 0
+-- where one is not used.
 use Prim.Native.Nat.{ℕ, _+_, _*_}
 use mathlib.Core.Bool.{Bool, true, false, _&&_}
 use mathlib.Core.List.{List}

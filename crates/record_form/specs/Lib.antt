@@ -1,1 +1,2 @@
+-- The main definitions of `Form`: `partsFit`, `namesFit`, `inForm`.
 pub mod Form

@@ -1,4 +1,5 @@
 -- Rows in chains: what the tables hold when a row is put in, and where going back along a chain leads.
+-- Long lists are searched so: going back along a chain finds exactly the repeats.
 use Prim.Native.Nat.{ℕ, zero, suc, _+_, _-_, _*_, _%_, _<_, _≤_}
 use mathlib.Core.Path.{_≡_, refl, ap, _∙_, sym}
 use mathlib.Core.Logic.{_≢_}

@@ -1,4 +1,5 @@
 -- The search for a first number that an earlier row has.
+-- Short lists are searched so, each number against all earlier ones.
 use Prim.Native.Nat.{ℕ, zero, suc, _+_, _-_, _*_, _<_, _≤_}
 use mathlib.Core.Path.{_≡_, refl, ap, _∙_, sym}
 use mathlib.Core.Logic.{_≢_}

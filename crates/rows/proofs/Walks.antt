@@ -1,4 +1,5 @@
 -- Where a walk ends, by the walks that it is made of.
+-- One number by its rule, a list by its count.
 use Prim.Native.Nat.{ℕ, zero, suc, _+_, _-_, _<_, _≤_}
 use mathlib.Core.Path.{_≡_, refl, ap, _∙_, sym}
 use mathlib.Core.Logic.{_≢_}

@@ -18,7 +18,7 @@ andThen (got a q) f = f a q
 andThen (fault n p) f = fault n p
 
 -- What may stand at one place. A value is from `low` on and below `limit`, else the refusal is 3; a count that is over
--- `most` is refused 2 before that (document 01, "Check").
+-- `most` is refused 2 before that (docs/OPERATIONS.md, Check).
 pub data Rule : Type 0 where
   value : ℕ → ℕ → Rule
   count : ℕ → ℕ → ℕ → Rule

@@ -1,4 +1,4 @@
--- The keep rules a second time, as a relation: one case for each way in which a rule of document 01 ("Keep rules") gives a fact, each with
+-- The keep rules a second time, as a relation: one case for each way in which a rule (docs/RULES.md) gives a fact, each with
 -- its place in the Rust (000, include_statements.rs; 001, on_demand.rs). Nothing is said of an order. `gives` of `keep_rules` lists exactly
 -- this (`GivesExactly` in Same.antt).
 use Prim.Native.Nat.{ℕ, suc, _+_, _<_, _≤_}
@@ -33,7 +33,7 @@ pub record Body (g : Graph) (m i : ℕ) : Type 0 where
 abbrev pub bitsAt : Graph → ℕ → ℕ → ℕ
 bitsAt g m i = statementBits (statementOf g m i)
 
--- flag 1, SafelyTreeshakeCommonjs, with option 2: UnknownSideEffect is the effect that counts; else bit 0 (000:608-615)
+-- flag 1, SafelyTreeshakeCommonjs, with option 2: UnknownSideEffect is the effect that counts; else bit 0 (000:609-615)
 pub record ByUnknown (g : Graph) (m : ℕ) : Type 0 where
   pub safely : flag 1 (flags (moduleOf g m)) ≡ true
   pub shakes : option g 2 ≡ true
@@ -94,7 +94,7 @@ pub data Plain (g : Graph) (row : List ℕ) : Type 0 where
   symbol : referenceKind row ≡ 0 → Plain g row
   object : 3 ≤ referenceKind row → (Inlined g row → ⊥) → Plain g row
 
--- s itself, or a symbol of its export chain (000:523-530)
+-- s itself, or a symbol of its export chain (000:521-528)
 pub data Along (g : Graph) (s : ℕ) : ℕ → Type 0 where
   itself : Along g s s
   chained : (k : ℕ) → k < length (exportChain (symbolOf g s)) → Along g s (only (getD (exportChain (symbolOf g s)) k []))
@@ -188,7 +188,7 @@ pub data Gives (g : Graph) (v : List ℕ) : ℕ → Fact → Fact → Type 0 whe
       → k < length (writtenPropertyStatements (symbolOf g s))
       → Gives g v 14 (useFact s x) (statementFact (owner (symbolOf g s)) (only (getD (writtenPropertyStatements (symbolOf g s)) k [])))
 
--- K1 (000:523-531, 553-557): a module and a forward that it owns give the statements that declare the forward
+-- K1 (000:530-536, 553-557): a module and a forward that it owns give the statements that declare the forward
 pub data Joins (g : Graph) : Fact → Fact → Fact → Type 0 where
   K1 : (m s k : ℕ) → owner (symbolOf g s) ≡ m → k < length (declaringStatements (symbolOf g s))
       → Joins g (moduleFact m) (forwardFact s) (statementFact m (only (getD (declaringStatements (symbolOf g s)) k [])))

@@ -1,4 +1,5 @@
 -- How many rounds there are: at least one, and no more than the fuel.
+-- The fuel is one more than there are modules (`main-rounds`).
 use Prim.Native.Nat.{ℕ, zero, suc, _+_, _<_, _≤_}
 use mathlib.Core.Bool.{Bool, true, false}
 use mathlib.Core.List.{List}

@@ -1,1 +1,2 @@
+-- The main definitions of `Operation`: `EveryRunKeeps`, `EnoughRuns`.
 pub mod Operation

@@ -1,4 +1,4 @@
--- What a run answers, and every lent row afterwards (document 01, "Operations", and "The program `keep`" on what is as before the runtime
+-- What a run answers, and every lent row afterwards (docs/OPERATIONS.md, Run; docs/RULES.md, Step 6, says what is as before the runtime
 -- stage).
 use Prim.Native.Nat.{ℕ, _+_, _*_, _-_}
 use mathlib.Core.Path.{_≡_}
@@ -80,7 +80,7 @@ roomsOf r =
       entries = length (r .entries);
     }
 
--- "for a run also dead bits by record, helper words, entry indexes"
+-- the rows that only a run has: dead bits, helper words, entries
 unfoldable pub enough : Graph → Rooms → Bool
 enough g room =
     leb (bytesFor (markCount g)) (room .marks)

@@ -1,1 +1,2 @@
+-- The main definitions of `Run`: `runOf`, `deadRow`, `helpersRow`, `entriesRow`.
 pub mod Run

@@ -1,4 +1,5 @@
 -- A run done once more changes nothing.
+-- Needed by the functions that take `again` (`frames::apart`).
 use Prim.Native.Nat.{ℕ, _+_, _*_, _-_, _≤_}
 use mathlib.Core.Path.{_≡_, refl, ap, _∙_, sym}
 use mathlib.Core.List.{List, _++_}

@@ -1,4 +1,5 @@
 // A run's own starts: a graph and lent rows in; the starts as triples, each once, out. Here is which tables it takes, and its two passes.
+// The starts cannot be read from the record: a start that was a fact already has no line of its own.
 ghost use mathlib.Core.Path.{_≡_};
 ghost use Prim.Native.Nat.{ℕ, _+_, _*_, _<_, _≤_};
 ghost use Rattle.graph.specs.Check.{HeaderRead};

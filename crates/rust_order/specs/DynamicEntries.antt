@@ -90,8 +90,8 @@ pub data FromEntries (g : Graph) : List ℕ → DiGraphMap → DiGraphMap → Ty
       → FromEntries g es (w .graph) z → FromEntries g (e ∷ es) d z
 
 -- petgraph's tarjan_scc ------------------------------------------------------------------------------------------------------------------
--- Its code is not among the sources. Said of it here: its components are the strongly connected ones by the published definition, and document 01's
--- "a component is numbered when its depth-first walk completes".
+-- Its code is not among the sources. Said of it here: its components are the strongly connected ones by the published definition, and they stand in
+-- the order in which the depth-first walk completes them (docs/RULES.md, Step 2).
 
 -- one node reaches another by edges; a path may be empty
 pub data Path (succs : ℕ → List ℕ) : ℕ → ℕ → Type 0 where

@@ -1,1 +1,2 @@
+-- The main definitions of `DynamicEntries`: `Constructs`, `FromEntries`, `TarjanScc`, `SortDynamicEntriesByTopologicalOrder`.
 pub mod DynamicEntries

@@ -1,4 +1,5 @@
--- The Rust returns: on the printed case of document 01, and on a graph that takes three rounds (examples/two_rounds), with the outcomes that the Rust has.
+-- The Rust returns: on the printed case (examples/printed), and on a graph that takes three rounds (examples/two_rounds), with the outcomes that
+-- the Rust has.
 use Prim.Native.Nat.{ℕ, _<_}
 use mathlib.Core.Path.{_≡_, refl, sym, _∙_, subst}
 use mathlib.Core.Bool.{true, false}

@@ -1,3 +1,7 @@
+-- The main definitions of each file.
+-- `IncludeStatements`: `IncludeStatements`, `Returns`, `Outcome`.
+-- `Agreement`: `Agrees`.
+-- `Boundary`: `RunShowsRust`, `RowsAgree`.
 pub mod DynamicEntries
 pub mod Passes
 pub mod IncludeStatements

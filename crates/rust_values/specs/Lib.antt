@@ -1,1 +1,2 @@
+-- The main definitions of `Values`: `Pair`, `Found`, `optional`, `get`, `In`, `SameMembers`.
 pub mod Values

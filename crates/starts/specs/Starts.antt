@@ -1,4 +1,4 @@
--- The starts of a drain (document 01, "Starts are triples", and the order of refusals of "Drain and run").
+-- The starts of a drain (docs/OPERATIONS.md, Starts, and the order of refusals under Drain).
 use Prim.Native.Nat.{ℕ, zero, suc, _+_, _*_, _-_, _/_, _%_, _<_}
 use mathlib.Core.Bool.{Bool, true, false, _&&_, _||_}
 use mathlib.Core.List.{List, [], _∷_}

@@ -1,4 +1,5 @@
 -- Sections of a slice that is laid out, and what a write leaves of those in front of it.
+-- Which size of slice holds a graph (`fits-places`, `fits-all`).
 use Prim.Native.Nat.{ℕ, zero, suc, _+_, _-_, _<_, _≤_}
 use mathlib.Core.Path.{_≡_, refl, ap, _∙_, sym}
 use mathlib.Core.List.{List, [], _∷_}

@@ -6,7 +6,10 @@ ghost use lib.ListN.{length, getD};
 ghost use Rattle.tables.specs.Layout.{startOf, section as sectionOf, Inside, Kept, Counts, FitsSize};
 use graph_format::Header;
 
-// The sections, in the order in which they are filled.
+// The sections, in the order in which they are filled, and by which function.
+// MODULES to ENTRIES: `graph::load`. VERDICTS: `determine_side_effects::last_verdicts`. ON_DEMAND: `on_demand::fill_on_demand`.
+// BODY_OF_KEY: `on_demand::compute_body_demand_keys`. NAMESPACES: `linking_metadata::fill_namespaces`.
+// FIRST_BYTE_OF: `answer_rows::fill_first_bytes`.
 pub const MODULES: usize = 0;
 
 pub const SYMBOLS: usize = 1;

@@ -1,5 +1,4 @@
--- The run's own starts, by who brought them: "a run's are all facts started before step 6, worked out from the graph by the steps and this
--- order" (document 01, "Keep rules").
+-- The run's own starts, by who brought them: what steps 1, 3 and 4 start, in their order (docs/RULES.md, A run's own starts).
 use Prim.Native.Nat.{ℕ, zero, suc, _+_}
 use mathlib.Core.Bool.{Bool, true, false}
 use mathlib.Core.List.{List, [], _∷_, _++_, map}

@@ -1,4 +1,4 @@
--- The run's main part and its runtime stage (document 01, "The run"; 000, `include_statements`).
+-- The run's main part and its runtime stage (docs/RULES.md, The run; 000, `include_statements`).
 use Prim.Native.Nat.{ℕ, zero, suc, _+_}
 use mathlib.Core.Bool.{Bool, true, false}
 use mathlib.Core.List.{List, [], _∷_, _++_}
@@ -36,7 +36,7 @@ pub record Ended : Type 0 where
 abbrev pub endedAt : ℕ → Progress → Ended
 endedAt n p = record { rounds = n; end = p }
 
--- "Rounds end after one in which no module became kept." Each but the last keeps one more module, so one more than there are modules
+-- A round that keeps no further module is the last. Each round but the last keeps one more, so one round more than there are modules
 -- suffice (`rounds-settle` in `run_choices`).
 unfoldable pub roundsFrom : Graph → List ℕ → ℕ → ℕ → ℕ → Progress → Ended
 roundsFrom g v zero made taken p = endedAt made p

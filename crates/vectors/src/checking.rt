@@ -34,7 +34,7 @@ fn wide(x: u8) -> u32 {
     x as u32
 }
 
-// The printed case of document 01, line by line.
+// The printed case (examples/printed), line by line.
 fn printed_case(row: &mut Row) -> usize {
     let mut at = bytes(row, 0, b"\x01\x00\x02\x02\x03\x01\x00");
     at = bytes(row, at, b"\x01\x00\x00\x00\x00\x00\x00\x01\x00\x01\x00\x01");

@@ -1,4 +1,5 @@
 -- The walk through a module's forwards by the table of links.
+-- It meets exactly `joinsAll`, the forwards on earlier lines in their order.
 use Prim.Native.Nat.{ℕ, suc, _+_, _*_, _-_, _<_, _≤_}
 use mathlib.Core.Path.{_≡_, refl, ap, _∙_, sym, subst}
 use mathlib.Core.Logic.{_≢_}

@@ -1,5 +1,5 @@
--- The drain: lines handled in order, each one's consequences added behind the last (document 01, "Our drain handles a start's lines in
--- order before the next start").
+-- The drain: lines handled in order, each one's consequences added behind the last; a start waits until all lines of the one before it are
+-- handled (docs/OPERATIONS.md, Record).
 use Prim.Native.Nat.{ℕ, zero, suc, _+_}
 use mathlib.Core.Path.{_≡_}
 use mathlib.Core.Bool.{Bool, true, false}
@@ -27,7 +27,7 @@ factAt lines k = getD lines k (line (moduleFact 0) 0 0 0) .fact
 unfoldable pub followed : Graph → List ℕ → ℕ → Fact → List Line
 followed g v k f = map (λ x. line (x .fact) (x .rule) (k + 1) 0) (gives g v f)
 
--- K1 (000:523-531, 553-557): the statements that declare forward s, which name these two lines
+-- K1 (000:530-536, 553-557): the statements that declare forward s, which name these two lines
 unfoldable pub joined : Graph → ℕ → ℕ → ℕ → List Line
 joined g s a b =
     tabulate (λ i. line (statementFact (owner (symbolOf g s)) (only (getD (declaringStatements (symbolOf g s)) i []))) 1 a b) 0
@@ -67,7 +67,7 @@ unfoldable pub moduleLine : ℕ → ℕ → List Line → ℕ
 moduleLine m i [] = 0
 moduleLine m i (l ∷ ls) = elim (isModule m l) [ true ↦ i + 1 | false ↦ moduleLine m (i + 1) ls ]
 
--- the name of a line by 1 more than its number: 0 for one of an earlier stage ("K1 with a module kept before is named 0", step 6)
+-- the name of a line by 1 more than its number: 0 for one of an earlier stage (docs/RULES.md, Step 6)
 unfoldable pub nameOf : ℕ → ℕ → ℕ
 nameOf base n = elim (leb n base) [ true ↦ 0 | false ↦ n ]
 
@@ -104,6 +104,6 @@ unfoldable pub drainedAll : Graph → List ℕ → ℕ → List Fact → List Li
 drainedAll g v base [] lines = lines
 drainedAll g v base (f ∷ fs) lines = drainedAll g v base fs (started g v base lines f)
 
--- the drain of a list of starts, over no base: "a drain's own starts are those it is given"
+-- the drain of a list of starts, over no base
 unfoldable pub drainOf : Graph → List ℕ → List Fact → List Line
 drainOf g v starts = drainedAll g v 0 starts []
