@@ -1,495 +1,109 @@
-//! The keep decision of a bundler: safe wrappers of the C boundary.
+//! What a bundle keeps, and why: tree shaking for bundlers, by a verified engine.
 //!
-//! A graph is a list of numbers. [`read`] takes the numbers of a file (unsigned LEB128, shortest form), [`check`] says
-//! whether numbers are a graph, [`effects`] which of its modules have effects, [`drain`] what some starts keep, [`run`]
-//! what the graph's entries keep. Drain and run write a record of why each thing is kept; [`judge`] says whether a
-//! record, whoever wrote it, justifies what some starts keep, and [`starts`] gives the starts that a run has of itself.
-//! All answer with a struct of the C boundary; its method `result` makes it a `Result`.
+//! The engine is a port of rolldown 1.2.16's `tree_shaking` in which every function is proved. This crate builds its
+//! graphs, calls it, and tells its answers:
 //!
-//! ```no_run
-//! let file = [0x01, 0x80, 0x01];
-//! let mut numbers = [0; 8];
-//! let count = lizdakk::read(&file, &mut numbers).result()?;
-//! assert_eq!(numbers[..count], [1, 128]);
-//! lizdakk::check(&numbers[..count]).result()?;
+//! - [`Graph`]: modules, symbols, statements, imports and entries, with typed ids. [`constructs`] shows how JavaScript is
+//!   told to it. [`Graph::read`] and [`Graph::write`] take and make graph files.
+//! - [`decide`]: what the entries keep. [`Kept`] has the kept modules and statements, the used symbols, dead imports,
+//!   helpers. [`decide_from`]: what starts of your own keep.
+//! - [`Kept::why`]: the chain from an entry to a kept thing. [`Kept::why_not`]: why a dynamic entry is dead.
+//! - [`judge`]: whether a [`Record`], whoever wrote it, justifies what is kept, and nothing else.
+//! - [`Refused`]: a graph that is not in order is refused, with the field in the words above; so are starts and records.
+//!
+//! ```
+//! use lizdakk::{decide, Graph};
+//!
+//! // tools.js:  export function hammer() { .. }
+//! //            export function saw() { .. }
+//! // main.js:   import { hammer } from './tools.js';
+//! //            hammer();
+//! let mut graph = Graph::new();
+//! let tools = graph.module("tools.js");
+//! let (hammer, saw) = (graph.symbol(tools, "hammer"), graph.symbol(tools, "saw"));
+//! for (name, symbol) in [("hammer", hammer), ("saw", saw)] {
+//!     let function = graph.statement(tools);
+//!     graph.declare(function, symbol);
+//!     graph.export(tools, name, symbol);
+//! }
+//! let main = graph.module("main.js");
+//! let import = graph.statement(main);
+//! let imported = graph.import_symbol(import, hammer);
+//! let call = graph.statement(main);
+//! graph[call].has_side_effect = true;
+//! graph.refer(call, imported);
+//! graph.entry(main);
+//!
+//! let kept = decide(&graph)?;
+//! assert!(kept.is_used(hammer) && !kept.is_used(saw));
+//! assert_eq!(
+//!     kept.why(tools).expect("it is kept").to_string(),
+//!     "module 1 (tools.js) is kept because it owns symbol 2 (hammer of tools.js), \
+//!      meant by symbol 5 (hammer of main.js) (K13), \
+//!      which is used because it is referred to by statement 2 of module 2 (main.js) (K8, K9), \
+//!      which is kept because it has a side effect in module 2 (main.js) (K2), \
+//!      which is kept because it is user-defined entry 0 (start)."
+//! );
 //! # Ok::<(), lizdakk::Refused>(())
 //! ```
 //!
-//! # Stack
-//! The library takes no memory from the heap. A call uses at most [`STACK`] bytes (4 MiB) of the caller's stack. Rust
-//! gives a spawned thread 2 MiB unless told otherwise, so call from the main thread or through [`with_stack`].
+//! The numbers K1 to K14 are the keep rules, [`Rule`]; docs/RULES.md says what each gives, and docs/GRAPH.md what each
+//! field means.
 //!
-//! The modules [`mod@reference`], [`model`], [`generate`], [`loads`] and [`happenings`] are not wrappers: they are an
-//! independent implementation and sources of graphs, for the tests and the benchmark.
+//! # Stack
+//! The engine takes no memory from the heap. A call uses at most [`STACK`] bytes (4 MiB) of stack. [`decide`],
+//! [`decide_from`], [`judge`], [`effects`], [`own_starts`], [`Graph::read`] and [`Graph::check`] run on a thread of their
+//! own that has enough. Their twins whose names end in `_here`, and the functions of [`boundary`], run on the caller's stack.
+//!
+//! # Features
+//! `std`, on by default: the functions that start a thread. Without it the crate is `no_std`, with `alloc`.
+//!
+//! # Linking
+//! The crate links the static library `libhost.a`, for x86-64 Linux: from the folder that `KEEP_LIB_DIR` names, else from
+//! `target/staticlib` of the repository, where `rt staticlib host` leaves it, else the built one in the crate's folder
+//! `lib`.
+#![no_std]
+#![warn(missing_docs)]
 
-mod buffers;
-pub mod generate;
-pub mod happenings;
-pub mod listing;
-pub mod loads;
-pub mod model;
-pub mod reference;
+extern crate alloc;
+#[cfg(feature = "std")]
+extern crate std;
 
-pub use buffers::{own_starts, RunBuffers};
-use std::fmt;
+pub mod boundary;
+pub mod constructs;
+mod cycle;
+mod decode;
+mod encode;
+mod engine;
+mod fact;
+mod graph;
+mod ids;
+mod index;
+mod kept;
+mod layout;
+mod leb128;
+mod record;
+mod refused;
+mod rows;
+mod stack;
+mod why;
+mod why_not;
 
-/// The most stack that a call of the library uses, in bytes.
-pub const STACK: usize = 4 << 20;
-
-/// The answer of an operation that only refuses or passes.
-#[repr(C)]
-#[derive(Clone, Copy, Debug, PartialEq, Eq)]
-pub struct Refusal {
-    /// Why it is refused; 0 if it is not.
-    pub number: u32,
-    /// Where the fault is; 0 if it is not refused.
-    pub place: u64,
-}
-
-/// The answer of [`read`] and of [`starts`].
-#[repr(C)]
-#[derive(Clone, Copy, Debug, PartialEq, Eq)]
-pub struct ReadAnswer {
-    /// Why it is refused; 0 if it is not.
-    pub number: u32,
-    /// Where the fault is, for [`read`] the byte where the faulty number begins; 0 if it is not refused, and for a
-    /// refusal 5.
-    pub place: u64,
-    /// How many numbers were written; 0 if it is refused.
-    pub count: u64,
-}
-
-/// The answer of [`drain`].
-#[repr(C)]
-#[derive(Clone, Copy, Debug, PartialEq, Eq)]
-pub struct DrainAnswer {
-    /// Why it is refused; 0 if it is not.
-    pub number: u32,
-    /// Where the fault is; 0 if it is not refused, and for a refusal 5.
-    pub place: u64,
-    /// How many record lines were written; 0 if it is refused.
-    pub lines: u64,
-}
-
-/// The answer of a run.
-#[repr(C)]
-#[derive(Clone, Copy, Debug, PartialEq, Eq)]
-pub struct RunAnswer {
-    /// Why it is refused; 0 if it is not.
-    pub number: u32,
-    /// Where the fault is; 0 if it is not refused, and for a refusal 5.
-    pub place: u64,
-    /// How many rounds were made; 0 if it is refused.
-    pub rounds: u64,
-    /// How many record lines the main stage wrote; 0 if it is refused.
-    pub lines: u64,
-    /// How many record lines the runtime stage wrote behind them; 0 if it is refused.
-    pub runtime_lines: u64,
-    /// How many final entries were written; 0 if it is refused.
-    pub entries: u64,
-}
-
-/// The rows that [`drain`] is lent, with M modules, S statements and Y symbols.
-#[derive(Debug)]
-pub struct Rows<'a> {
-    /// Working row, a bit for each fact: 2M + S + 63Y bits.
-    pub marks: &'a mut [u8],
-    /// Working row, six numbers a line: the fact, its rule (0 for a start), two earlier lines plus 1.
-    pub record: &'a mut [u32],
-    /// A bit for each module that is kept.
-    pub modules: &'a mut [u8],
-    /// A bit for each statement that is kept; each module's begin at a whole byte.
-    pub statements: &'a mut [u8],
-    /// A bit for each symbol that is used.
-    pub used: &'a mut [u8],
-    /// A bit for each symbol of an external module that is used.
-    pub external: &'a mut [u8],
-    /// A bit for each symbol of a Json module that is used from elsewhere.
-    pub json: &'a mut [u8],
-    /// A byte for each module: why its namespace is kept, 1 Unknown, 2 ReExportDynamicExports, 3 both.
-    pub reason: &'a mut [u8],
-}
-
-/// The rows that a run is lent, with M modules, S statements, Y symbols, R import records and E entries.
-#[derive(Debug)]
-pub struct RunRows<'a> {
-    /// Working row, a bit for each fact: 2M + S + 63Y bits.
-    pub marks: &'a mut [u8],
-    /// Working row, six numbers a line: the fact, its rule (0 for a start), two earlier lines plus 1.
-    pub record: &'a mut [u32],
-    /// A bit for each module that is kept.
-    pub modules: &'a mut [u8],
-    /// A bit for each statement that is kept; each module's begin at a whole byte.
-    pub statements: &'a mut [u8],
-    /// A bit for each symbol that is used.
-    pub used: &'a mut [u8],
-    /// A bit for each symbol of an external module that is used.
-    pub external: &'a mut [u8],
-    /// A bit for each symbol of a Json module that is used from elsewhere, before the runtime stage.
-    pub json: &'a mut [u8],
-    /// A byte for each module: why its namespace is kept, before the runtime stage.
-    pub reason: &'a mut [u8],
-    /// A bit for each import record, those of all modules in one row: a dynamic import that is dead.
-    pub dead: &'a mut [u8],
-    /// A number for each module: bit h for each runtime helper h that it needs.
-    pub helpers: &'a mut [u32],
-    /// Room for a number an entry: the final entries, by graph index.
-    pub entries: &'a mut [u32],
-}
-
-/// A refusal as an error: its number and its place.
-///
-/// | number | meaning |
-/// |---|---|
-/// | 1 | a number that is not one: over five groups, 2^32 or more, padded, or the file ends within it |
-/// | 2 | a count over its limit |
-/// | 3 | a value or index outside its kind, or against a rule |
-/// | 4 | a missing number, or numbers left over |
-/// | 5 | a lent row is too short |
-/// | 6 | a record that is no justification, at its first bad line, or at the number of its lines if a fact is absent |
-#[derive(Clone, Copy, Debug, PartialEq, Eq)]
-pub struct Refused {
-    pub number: u32,
-    pub place: u64,
-}
-
-impl Refusal {
-    /// The answer of an operation that is not refused.
-    pub const PASSED: Refusal = Refusal { number: 0, place: 0 };
-
-    /// The answer as a `Result`.
-    pub fn result(self) -> Result<(), Refused> {
-        match self.number {
-            0 => Ok(()),
-            number => Err(Refused { number, place: self.place }),
-        }
-    }
-}
-
-impl From<Result<(), Refused>> for Refusal {
-    fn from(result: Result<(), Refused>) -> Refusal {
-        match result {
-            Ok(()) => Refusal::PASSED,
-            Err(Refused { number, place }) => Refusal { number, place },
-        }
-    }
-}
-
-impl ReadAnswer {
-    /// The answer of an operation that is refused.
-    pub const fn refused(Refused { number, place }: Refused) -> ReadAnswer {
-        ReadAnswer { number, place, count: 0 }
-    }
-
-    /// The answer as a `Result`: how many numbers were written, or the refusal.
-    pub fn result(self) -> Result<usize, Refused> {
-        match self.number {
-            0 => Ok(self.count as usize),
-            number => Err(Refused { number, place: self.place }),
-        }
-    }
-}
-
-impl DrainAnswer {
-    /// The answer of a drain that is refused.
-    pub fn refused(Refused { number, place }: Refused) -> DrainAnswer {
-        DrainAnswer { number, place, lines: 0 }
-    }
-
-    /// The answer as a `Result`: how many lines were written, or the refusal.
-    pub fn result(self) -> Result<usize, Refused> {
-        match self.number {
-            0 => Ok(self.lines as usize),
-            number => Err(Refused { number, place: self.place }),
-        }
-    }
-}
-
-impl RunAnswer {
-    /// The answer of a run that is refused.
-    pub const fn refused(Refused { number, place }: Refused) -> RunAnswer {
-        RunAnswer { number, place, rounds: 0, lines: 0, runtime_lines: 0, entries: 0 }
-    }
-
-    /// The answer as a `Result`: itself, or the refusal.
-    pub fn result(self) -> Result<RunAnswer, Refused> {
-        match self.number {
-            0 => Ok(self),
-            number => Err(Refused { number, place: self.place }),
-        }
-    }
-}
-
-impl fmt::Display for Refused {
-    fn fmt(&self, f: &mut fmt::Formatter) -> fmt::Result {
-        write!(f, "refused {} at {}", self.number, self.place)
-    }
-}
-
-impl std::error::Error for Refused {}
-
-mod boundary {
-    use super::{DrainAnswer, ReadAnswer, Refusal};
-
-    extern "C" {
-        pub fn keep_read(file: *const u8, file_length: usize, numbers: *mut u32, numbers_length: usize) -> ReadAnswer;
-        pub fn keep_check(numbers: *const u32, numbers_length: usize) -> Refusal;
-        pub fn keep_effects(
-            numbers: *const u32,
-            numbers_length: usize,
-            verdicts: *mut u32,
-            verdicts_length: usize,
-        ) -> Refusal;
-        pub fn keep_drain(
-            numbers: *const u32,
-            numbers_length: usize,
-            starts: *const u32,
-            starts_length: usize,
-            marks: *mut u8,
-            marks_length: usize,
-            record: *mut u32,
-            record_length: usize,
-            modules: *mut u8,
-            modules_length: usize,
-            statements: *mut u8,
-            statements_length: usize,
-            used: *mut u8,
-            used_length: usize,
-            external: *mut u8,
-            external_length: usize,
-            json: *mut u8,
-            json_length: usize,
-            reason: *mut u8,
-            reason_length: usize,
-        ) -> DrainAnswer;
-        pub fn keep_run(
-            numbers: *const u32,
-            numbers_length: usize,
-            marks: *mut u8,
-            marks_length: usize,
-            record: *mut u32,
-            record_length: usize,
-            modules: *mut u8,
-            modules_length: usize,
-            statements: *mut u8,
-            statements_length: usize,
-            used: *mut u8,
-            used_length: usize,
-            external: *mut u8,
-            external_length: usize,
-            json: *mut u8,
-            json_length: usize,
-            reason: *mut u8,
-            reason_length: usize,
-            dead: *mut u8,
-            dead_length: usize,
-            helpers: *mut u32,
-            helpers_length: usize,
-            entries: *mut u32,
-            entries_length: usize,
-        ) -> super::RunAnswer;
-        pub fn keep_judge(
-            numbers: *const u32,
-            numbers_length: usize,
-            starts: *const u32,
-            starts_length: usize,
-            record: *const u32,
-            record_length: usize,
-        ) -> Refusal;
-        pub fn keep_starts(
-            numbers: *const u32,
-            numbers_length: usize,
-            marks: *mut u8,
-            marks_length: usize,
-            record: *mut u32,
-            record_length: usize,
-            starts: *mut u32,
-            starts_length: usize,
-        ) -> ReadAnswer;
-    }
-}
-
-/// Reads the numbers of a file into `numbers`: unsigned LEB128, each in its shortest form and below 2^32.
-///
-/// If it is not refused, `count` numbers were written and those past them are as lent. For each number from the left,
-/// refusal 1 at its first byte if it is faulty, else 5 at place 0 if `numbers` is full. A refusal leaves all of
-/// `numbers` as lent. No file has more numbers than bytes, so a row as long as the file is always enough.
-#[must_use]
-pub fn read(file: &[u8], numbers: &mut [u32]) -> ReadAnswer {
-    // SAFETY: both slices are valid for their lengths and do not overlap, as Rust's references promise.
-    unsafe { boundary::keep_read(file.as_ptr(), file.len(), numbers.as_mut_ptr(), numbers.len()) }
-}
-
-/// Says whether `numbers` are a graph.
-///
-/// The first fault from the left, placed by number: 4 a missing number, 2 a count over its limit, 3 a value or index
-/// outside its kind. Then 3 for the rules that read a later number (runtime, namespace owner, root), and last 4 at the
-/// first number left over.
-#[must_use]
-pub fn check(numbers: &[u32]) -> Refusal {
-    // SAFETY: the slice is valid for its length and is only read.
-    unsafe { boundary::keep_check(numbers.as_ptr(), numbers.len()) }
-}
-
-/// Writes the last verdict of each module of a graph into `verdicts`: which modules have effects.
-///
-/// 0 Analyzed(false), 1 Analyzed(true), 2 UserDefined(false), 3 UserDefined(true), 4 NoTreeshake. Refused as by
-/// [`check`], then 5 at place 0 if `verdicts` is below one number a module. A refusal leaves `verdicts` as lent; what
-/// is past the answer is as lent too.
-#[must_use]
-pub fn effects(numbers: &[u32], verdicts: &mut [u32]) -> Refusal {
-    // SAFETY: both slices are valid for their lengths and do not overlap, as Rust's references promise.
-    unsafe { boundary::keep_effects(numbers.as_ptr(), numbers.len(), verdicts.as_mut_ptr(), verdicts.len()) }
-}
-
-/// Works out what the starts keep in a graph: the smallest set of facts that holds them and is closed under the rules.
-///
-/// Starts are triples, a fact's kind and its two parts: 1 module, 0; 2 module, statement; 3 use: symbol, reason; 4
-/// checked use: symbol, reason; 6 bailout: module, 0. A reason is 1 to 31.
-///
-/// Refused as by [`check`]; then 4 at the starts' length unless they come in threes, 3 at the first bad number of a
-/// start; then 5 at place 0 for a row that is too short, the record last. A refusal leaves the answer rows as lent;
-/// marks and record too, except that both are all zero if the record was found short during the work. Otherwise marks
-/// and record were cleared whole and written from the front, and what is past the other answers is as lent.
-#[must_use]
-pub fn drain(numbers: &[u32], starts: &[u32], rows: &mut Rows) -> DrainAnswer {
-    // SAFETY: all slices are valid for their lengths and no two overlap, as Rust's references promise.
-    unsafe {
-        boundary::keep_drain(
-            numbers.as_ptr(),
-            numbers.len(),
-            starts.as_ptr(),
-            starts.len(),
-            rows.marks.as_mut_ptr(),
-            rows.marks.len(),
-            rows.record.as_mut_ptr(),
-            rows.record.len(),
-            rows.modules.as_mut_ptr(),
-            rows.modules.len(),
-            rows.statements.as_mut_ptr(),
-            rows.statements.len(),
-            rows.used.as_mut_ptr(),
-            rows.used.len(),
-            rows.external.as_mut_ptr(),
-            rows.external.len(),
-            rows.json.as_mut_ptr(),
-            rows.json.len(),
-            rows.reason.as_mut_ptr(),
-            rows.reason.len(),
-        )
-    }
-}
-
-/// Works out what the entries of a graph keep, which of the dynamic ones are live, and what the runtime adds.
-///
-/// Refused as by [`check`]; then 5 at place 0 for a row that is too short, the record last. A refusal leaves the answer
-/// rows as lent; marks and record too, except that both are all zero if the record was found short during the work.
-/// Otherwise marks and record were cleared whole and written from the front, and what is past the other answers is as
-/// lent: of `entries` only as many are written as are final.
-///
-/// The record has the lines of the main stage, then those of the runtime stage. Modules, statements, used and external
-/// are as after both; json, reason, dead and helpers as before the runtime stage; marks have the modules and statements
-/// of both and the other facts of the runtime stage alone. [`RunBuffers`] makes rows of the right length.
-#[must_use]
-pub fn run(numbers: &[u32], rows: &mut RunRows) -> RunAnswer {
-    // SAFETY: all slices are valid for their lengths and no two overlap, as Rust's references promise.
-    unsafe {
-        boundary::keep_run(
-            numbers.as_ptr(),
-            numbers.len(),
-            rows.marks.as_mut_ptr(),
-            rows.marks.len(),
-            rows.record.as_mut_ptr(),
-            rows.record.len(),
-            rows.modules.as_mut_ptr(),
-            rows.modules.len(),
-            rows.statements.as_mut_ptr(),
-            rows.statements.len(),
-            rows.used.as_mut_ptr(),
-            rows.used.len(),
-            rows.external.as_mut_ptr(),
-            rows.external.len(),
-            rows.json.as_mut_ptr(),
-            rows.json.len(),
-            rows.reason.as_mut_ptr(),
-            rows.reason.len(),
-            rows.dead.as_mut_ptr(),
-            rows.dead.len(),
-            rows.helpers.as_mut_ptr(),
-            rows.helpers.len(),
-            rows.entries.as_mut_ptr(),
-            rows.entries.len(),
-        )
-    }
-}
-
-/// Says whether a record justifies what the starts keep in a graph: each line a fact of its own, which is a start or
-/// follows by the line's rule from the earlier lines that it names, and all of them the smallest set of facts that
-/// holds the starts and is closed under the rules.
-///
-/// Starts are triples as for [`drain`]; their order and repeats don't matter. A line is six numbers: the fact, its
-/// rule, and two names, each an earlier line plus 1. Rule 0 is good for any start and names nothing; rule 1 names a
-/// module and a forward in either order; any other rule names one line, in the first place. A record need not be one
-/// that [`drain`] or [`run`] wrote.
-///
-/// Refused as by [`check`]; then 4 at the starts' length unless they come in threes, 3 at the first bad number of a
-/// start; then 4 at the record's length unless it is a multiple of six; then 6 at the first bad line, counted from 0;
-/// then 6 at the number of lines if a start or a consequence is absent. Nothing is written.
-///
-/// ```no_run
-/// # let numbers = [0];
-/// let run = lizdakk::RunBuffers::for_graph(&numbers)?;
-/// let starts = lizdakk::own_starts(&numbers)?;
-/// lizdakk::judge(&numbers, &starts, run.main_record()).result()?;
-/// # Ok::<(), lizdakk::Refused>(())
-/// ```
-#[must_use]
-pub fn judge(numbers: &[u32], starts: &[u32], record: &[u32]) -> Refusal {
-    // SAFETY: all slices are valid for their lengths and are only read.
-    unsafe {
-        boundary::keep_judge(
-            numbers.as_ptr(),
-            numbers.len(),
-            starts.as_ptr(),
-            starts.len(),
-            record.as_ptr(),
-            record.len(),
-        )
-    }
-}
-
-/// Writes the starts that the run of a graph has of itself into `starts`: triples as [`drain`] and [`judge`] take them,
-/// each fact that was started before the runtime stage once, in the order of starting.
-///
-/// If it is not refused, `count` numbers were written, those past them are as lent, and marks and record are as [`run`]
-/// leaves them. Refused as by [`check`]; then 5 at place 0 for `marks` below 2M + S + 63Y bits (modules, statements,
-/// symbols), for a record shorter than the lines of both stages, and for `starts` that are too short. A refusal leaves
-/// all as lent, except that marks and record are all zero if record or starts were found short. [`own_starts`] makes
-/// the rows.
-#[must_use]
-pub fn starts(numbers: &[u32], marks: &mut [u8], record: &mut [u32], starts: &mut [u32]) -> ReadAnswer {
-    // SAFETY: all slices are valid for their lengths and no two overlap, as Rust's references promise.
-    unsafe {
-        boundary::keep_starts(
-            numbers.as_ptr(),
-            numbers.len(),
-            marks.as_mut_ptr(),
-            marks.len(),
-            record.as_mut_ptr(),
-            record.len(),
-            starts.as_mut_ptr(),
-            starts.len(),
-        )
-    }
-}
-
-/// Runs `work` on a thread with stack enough for the library and as much again for the caller.
-pub fn with_stack<T: Send>(work: impl FnOnce() -> T + Send) -> T {
-    std::thread::scope(|scope| {
-        let thread = std::thread::Builder::new().stack_size(2 * STACK).spawn_scoped(scope, work);
-        match thread.expect("a thread can be started").join() {
-            Ok(answer) => answer,
-            Err(panic) => std::panic::resume_unwind(panic),
-        }
-    })
-}
+#[cfg(feature = "std")]
+pub use engine::{decide, decide_from, effects, judge, own_starts};
+pub use engine::{decide_from_here, decide_here, effects_here, judge_here, own_starts_here};
+pub use fact::{Fact, Reason, Rule};
+pub use graph::{
+    CommonJsNamespace, Constant, DynamicImport, Entry, EntryKind, EnumMember, ExportsKind, Graph, HelperUse,
+    ImportKind, ImportRecord, Module, ModuleType, Options, Part, Reference, RelatedStatement, ResolvedExport, Scan,
+    SideEffects, Statement, Symbol, WrapKind,
+};
+pub use ids::{EntryId, HelperId, ImportRecordId, ModuleId, Name, StatementId, SymbolId};
+pub use kept::{Kept, NamespaceReason};
+pub use record::{Line, Record};
+pub use refused::{Field, Refused};
+#[cfg(feature = "std")]
+pub use stack::with_stack;
+pub use stack::STACK;
+pub use why::{Asked, Cause, Origin, Step, Why};
+pub use why_not::{Lacks, WhyNot};

@@ -1,4 +1,4 @@
-//! The tree shaking of rolldown 1.2.16, compiled unchanged, as a peer that the keep decision is compared with.
+//! The tree shaking of rolldown 1.2.16, compiled unchanged, to compare the keep decision with.
 
 pub mod answers;
 pub mod compare;
@@ -12,5 +12,5 @@ mod stage;
 
 pub use decide::{decide, time_decision, time_numbers, Decision, Times, BUDGET};
 pub use loops::Cause;
+pub use peer::{generate, happenings, loads, model, reference, Refused};
 pub use rolldown_common::Budget;
-pub use unlinked::{generate, happenings, loads, model, reference, Refused};

@@ -20,7 +20,7 @@ oracle --time [OPTIONS] [FILE]       how long its decision takes, the best of so
 oracle batch [OPTIONS]               graph files from standard input to listings, each behind its length in 4 bytes,
                                      the lowest first
 oracle compare FIRST COUNT [OPTIONS] compares the graphs of so many seeds with another side
-oracle loads [OPTIONS]               how long the decisions of the bindings' loads take, and whether the other side agrees
+oracle loads [OPTIONS]               how long the decisions of the peer's loads take, and whether the other side agrees
 oracle answers COUNT SEED            a list of files in hexadecimal and listings in a line; to standard error, in how
                                      many of them each thing occurs
 oracle replay FILE [OPTIONS]         compares such a list with the tree shaking and another side
@@ -188,7 +188,7 @@ fn time_loads(options: &Options) -> Result<bool, Box<dyn Error>> {
 #[cfg(feature = "library")]
 fn time_library(numbers: &[u32], repetitions: u32, whole: Duration) {
     let best = lizdakk::with_stack(|| {
-        let mut run = lizdakk::RunBuffers::for_graph(numbers).expect("the graph is accepted");
+        let mut run = ::compare::RunBuffers::for_graph(numbers).expect("the graph is accepted");
         let mut best = Duration::MAX;
         for _ in 0..repetitions.max(1) {
             // Short runs are taken together, so that the clock does not count.

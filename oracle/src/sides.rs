@@ -19,8 +19,7 @@ pub fn reference(numbers: &[u32]) -> Result<String, Refused> {
 /// The linked library.
 #[cfg(feature = "library")]
 pub fn library(numbers: &[u32]) -> Result<String, Refused> {
-    let listing = || lizdakk::RunBuffers::for_graph(numbers).map(|run| run.listing());
-    lizdakk::with_stack(listing).map_err(|refused| Refused { number: refused.number, place: refused.place })
+    lizdakk::with_stack(|| ::compare::RunBuffers::for_graph(numbers).map(|run| run.listing()))
 }
 
 /// Files that the program `keep` takes are at most so long.
