@@ -77,19 +77,55 @@ fn of_lists() {
     assert_eq!(words, "module 1 (main.js): `dependencies` has to be at most 16,384 long");
 }
 
-/// A statement or an import record of another module is not taken for one of the same index.
+/// Gives each module so many statements and import records that an index of one is good in the other.
+fn filled(built: &mut Built) -> [StatementId; 2] {
+    let Built { graph, main, tools, .. } = built;
+    let others = [*tools, *main].map(|target| {
+        let module = if target == *tools { *main } else { *tools };
+        let statements = [graph.statement(module), graph.statement(module), graph.statement(module)];
+        for statement in statements {
+            graph.import_record(statement, ImportKind::Import, Some(target));
+        }
+        statements[1]
+    });
+    assert!(graph.check().is_ok(), "that alone is no fault");
+    others
+}
+
+/// A statement or an import record of another module is not taken for the one of the same index.
 #[test]
 fn of_other_modules_parts() {
-    let words = refused(|built| built.graph.declare(built.statement, built.hammer));
+    let words = refused(|built| {
+        let [of_main, of_tools] = filled(built);
+        assert!(built.graph.statements(built.tools).any(|own| own.index() == of_main.index()), "{of_tools}");
+        built.graph.declare(of_main, built.hammer);
+    });
     assert_eq!(words, "symbol 3 (hammer of tools.js): `declared_by[0]` has to be a statement of the symbol's owner");
     let words = refused(|built| {
-        let (other, target) = (built.graph.statement(built.tools), built.main);
-        let record = built.graph.import_record(other, ImportKind::Import, Some(target));
+        let [_, of_tools] = filled(built);
+        let record = built.graph[of_tools].import_records[0];
+        assert!(built.graph.import_records(built.main).any(|own| own.index() == record.index()));
         built.graph[built.statement].import_records.push(record);
     });
     assert_eq!(
         words,
         "statement 1 of module 1 (main.js): `import_records[0]` has to be an import record of that module"
+    );
+    let words = refused(|built| {
+        let [_, of_tools] = filled(built);
+        let helper = built.graph.helper(built.hammer);
+        built.graph[built.main].helpers.push(HelperUse { helper, statement: of_tools });
+    });
+    assert_eq!(words, "module 1 (main.js): `helpers[0].statement` has to be a statement of that module");
+    let words = refused(|built| {
+        let [_, of_tools] = filled(built);
+        let record = built.graph[of_tools].import_records[0];
+        let import = built.graph.dynamic_import(built.statement, built.tools);
+        built.graph[import.entry].related[0].record = record;
+    });
+    assert_eq!(
+        words,
+        "entry 1, module 2 (tools.js): `related[0].record` has to be a resolved import record of that module"
     );
     let words = refused(|built| {
         let hook = built.graph.symbol(built.react, "useState");
