@@ -29,6 +29,7 @@ THEOREMS = [
     "rust_engine/specs/*.antt",
     "rust_order/specs/*.antt",
     "rust_run/specs/*.antt",
+    "rust_returns/specs/*.antt",
     "answer_text/specs/*.antt",
     "determine_side_effects/specs/Paths.antt",
     "determine_side_effects/specs/Sequence.antt",

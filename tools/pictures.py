@@ -26,7 +26,7 @@ PICTURES = ROOT / "docs" / "pictures"
 
 # Groups of crates, from those at the top to those that all others use: title, row from the top, left edge, width, kind, crates.
 GROUPS = [
-    ("The Rust as definitions", 0, 20, 220, "theorems", "rust_values rust_effects rust_engine rust_order rust_run"),
+    ("The Rust as definitions", 0, 20, 220, "theorems", "rust_values rust_effects rust_engine rust_order rust_run rust_returns"),
     ("Judged records", 0, 260, 200, "theorems", "rule_relation judged_records judged_starts"),
     ("C boundary", 0, 500, 160, "outside", "host"),
     ("Smallest choice", 1, 20, 200, "theorems", "closed_choices run_choices"),

@@ -39,12 +39,12 @@ module _ (g : Graph) (v : List ℕ) where
         reason = λ m b. In (pair m b) (c .reasons);
       }
 
-  -- the uses that are on the queue, and no more: what is asked of a context that may be any
+  -- the uses that are on the queue, checked or not, and no more: what is asked of a context that may be any
   abbrev pub QueuedUse : Context → Fact → Type 0
   QueuedUse c (Module m) = Unit {0}
   QueuedUse c (Statement m i) = Unit {0}
   QueuedUse c (Use s x) = In (SymbolItem (s .0) (x .bits)) (c .pending)
-  QueuedUse c (CheckedUse s x) = Unit {0}
+  QueuedUse c (CheckedUse s x) = In (SymbolItem (s .0) (x .bits)) (c .pending)
   QueuedUse c (Forward s) = Unit {0}
   QueuedUse c (Bailout m) = Unit {0}
 

@@ -228,5 +228,5 @@ module _ (g : Graph) where
         keeps =
             λ taken uses e f h. let r = a .keeps taken uses e f h in segments-given (Kept₀ g v taken uses e) g v (checkedFact s x)
             (to-checked g (Kept₀ g v taken uses e) s x (r .0) (r .1));
-        pushes = λ e h. tt;
+        pushes = λ e h. a .pushes e h .0;
       }

@@ -12,7 +12,7 @@ use Rattle.keep_record.specs.Lines.{elem}
 use Rattle.rust_values.specs.Values.{hasPair, In}
 use Rattle.rust_engine.specs.Context.{Context, WorkItem, ModuleItem, SymbolItem, StatementItem, rest, setModule, setStatement, setChanged, setDeferred}
 use Rattle.rust_engine.specs.Tables.{hasSideEffects}
-use Rattle.rust_engine.specs.Engine.{Drains, returns, pops, Reorders, drainDeferred, moduleBody, handleIncludeModule, handleIncludeSymbol, handleIncludeStatement, handle}
+use Rattle.rust_engine.specs.Engine.{Drains, returns, pops, Orders, Reorders, drainDeferred, moduleBody, handleIncludeModule, handleIncludeSymbol, handleIncludeStatement, handle}
 use Rattle.rust_values.proofs.Members.{in-elem}
 use Rattle.rust_engine.proofs.Asking.{Grown}
 use Rattle.rust_engine.proofs.Statements.{statementBody, asks-statement}
@@ -77,7 +77,7 @@ module _ (g : Graph) where
       go true false = grown-same c (setStatement m i c) (statementBody g m i (setStatement m i c)) refl refl (asks-statement g m i (setStatement m i c) .grown)
       go false b = record { modules-are = refl; changed-is = refl }
 
-  module-changed : (order : List (List ℕ) → List (List ℕ)) → Reorders order → (m : ℕ) (c : Context) → Same c (handleIncludeModule g v order m c)
+  module-changed : (order : Orders) → Reorders order → (m : ℕ) (c : Context) → Same c (handleIncludeModule g v order m c)
       ⊎ New c (handleIncludeModule g v order m c)
   unfolding handleIncludeModule setDeferred setChanged setModule
   module-changed order o m c = go (normal g m) (elem m (c .modules)) refl (not (eqb m (g .header .runtime) && not (hasSideEffects v m)))
@@ -111,7 +111,7 @@ module _ (g : Graph) where
           })
       go false b e q = inl (record { modules-are = refl; changed-is = refl })
 
-  handle-changed : (order : List (List ℕ) → List (List ℕ)) → Reorders order → (i : WorkItem) (c : Context) → Same c (handle g v order i c)
+  handle-changed : (order : Orders) → Reorders order → (i : WorkItem) (c : Context) → Same c (handle g v order i c)
       ⊎ New c (handle g v order i c)
   unfolding handle
   handle-changed order o (ModuleItem m) c = module-changed order o m c

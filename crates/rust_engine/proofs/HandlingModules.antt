@@ -18,7 +18,7 @@ use Rattle.answer_rows.specs.Shown.{shows, onlyIf}
 use Rattle.rust_values.specs.Values.{Pair, pair, In}
 use Rattle.rust_engine.specs.Context.{Context, WorkItem, ModuleItem, SymbolItem, StatementItem, rest, setModule, setChanged, setDeferred, when as whenDo}
 use Rattle.rust_engine.specs.Tables.{ownerOf}
-use Rattle.rust_engine.specs.Engine.{Reorders, drainDeferred, moduleBody, handleIncludeModule}
+use Rattle.rust_engine.specs.Engine.{Orders, Reorders, drainDeferred, moduleBody, handleIncludeModule}
 use Rattle.rust_engine.proofs.Kept.{factOfItem, AllGiven, KeptStatement, Kept, Forwarded, Settled, Grows}
 use Rattle.rust_engine.proofs.Theorem.{Over, ClosedHere, Within, HasRows, rows-refl, rows-trans, goodOver, Onward}
 use Rattle.rust_values.proofs.Members.{elem-in, in-elem, in-at}
@@ -41,7 +41,7 @@ module _ (g : Graph) where
       let j = drainDeferred g m (setChanged true (setModule m c)) in
       rows-trans c (marked g m c) j (marked-rows m c) (grown-rows g v (marked g m c) j (asks-joined g m c .grown))
 
-  pub module-rows : (order : List (List ℕ) → List (List ℕ)) → Reorders order → (m : ℕ) (c : Context) → HasRows c (handleIncludeModule g v order m c)
+  pub module-rows : (order : Orders) → Reorders order → (m : ℕ) (c : Context) → HasRows c (handleIncludeModule g v order m c)
   unfolding handleIncludeModule
   module-rows order o m c = go (normal g m) (elem m (c .modules)) (not (quiet g m))
     where
@@ -61,7 +61,7 @@ module _ (g : Graph) where
 
   module _ (links : Links g) where
     -- its body runs only where the module was not included, so not in the base
-    pub module-within : (S : Over) → ClosedHere g S → (order : List (List ℕ) → List (List ℕ)) → Reorders order → (m : ℕ) (c : Context) → HasRows (S .base) c
+    pub module-within : (S : Over) → ClosedHere g S → (order : Orders) → Reorders order → (m : ℕ) (c : Context) → HasRows (S .base) c
         → S .choice (moduleFact m) → Within g S c → Within g S (handleIncludeModule g v order m c)
     unfolding handleIncludeModule
     module-within S k order o m c r h w = go (normal g m) (elem m (c .modules)) refl (not (quiet g m)) refl
@@ -89,7 +89,7 @@ module _ (g : Graph) where
         go true false e false t = within-j
         go false b e q t = w
 
-    module _ (taken : List ℕ) (base : Context) (uses : List Pair) (order : List (List ℕ) → List (List ℕ)) (o : Reorders order) (c : Context) (m : ℕ)
+    module _ (taken : List ℕ) (base : Context) (uses : List Pair) (order : Orders) (o : Reorders order) (c : Context) (m : ℕ)
         (is : List WorkItem)
         (e : c .pending ≡ ModuleItem m ∷ is) (w : Within g (goodOver g base) c) (h : Settled g v taken base uses c) where
       module-normal : normal g m ≡ true

@@ -15,7 +15,7 @@ use Rattle.keep_record.specs.Lines.{elem}
 use Rattle.closed_choices.specs.Choice.{nothingGiven}
 use Rattle.rust_values.specs.Values.{Pair, hasPair, In}
 use Rattle.rust_engine.specs.Context.{Context, WorkItem, ModuleItem, SymbolItem, StatementItem, rest, setModule, setStatement, setChanged, setDeferred}
-use Rattle.rust_engine.specs.Engine.{Drains, returns, pops, Reorders, drainDeferred, moduleBody, handleIncludeModule, handleIncludeSymbol, handleIncludeStatement, handle, returned, drainWorkItems}
+use Rattle.rust_engine.specs.Engine.{Drains, returns, pops, Orders, Reorders, drainDeferred, moduleBody, handleIncludeModule, handleIncludeSymbol, handleIncludeStatement, handle, returned, drainWorkItems}
 use Rattle.rust_engine.proofs.Asking.{QueuedUse, ofQueue, grown-refl}
 use Rattle.rust_engine.proofs.Symbols.{asks-symbol}
 use Rattle.rust_engine.proofs.Statements.{statementBody, asks-statement}
@@ -42,7 +42,7 @@ module _ (g : Graph) where
   v = lastVerdicts g
 
   -- a handler takes nothing from the queue
-  abbrev Onto : Context → Context → Type 0
+  abbrev pub Onto : Context → Context → Type 0
   Onto c d = (j : WorkItem) → In j (c .pending) → In j (d .pending)
 
   statement-queue : (m i : ℕ) (c : Context) → Onto c (handleIncludeStatement g v m i c)
@@ -54,7 +54,7 @@ module _ (g : Graph) where
       go true false j h = asks-statement g m i (setStatement m i c) .grown .pending-sub j h
       go false b j h = h
 
-  module-queue : (order : List (List ℕ) → List (List ℕ)) → Reorders order → (m : ℕ) (c : Context) → Onto c (handleIncludeModule g v order m c)
+  module-queue : (order : Orders) → Reorders order → (m : ℕ) (c : Context) → Onto c (handleIncludeModule g v order m c)
   unfolding handleIncludeModule setDeferred setChanged setModule
   module-queue order o m c = go (normal g m) (elem m (c .modules)) (not (quiet g m))
     where
@@ -70,14 +70,14 @@ module _ (g : Graph) where
       go true false false j h = joined j h
       go false b q j h = h
 
-  handle-queue : (order : List (List ℕ) → List (List ℕ)) → Reorders order → (i : WorkItem) (c : Context) → Onto c (handle g v order i c)
+  pub handle-queue : (order : Orders) → Reorders order → (i : WorkItem) (c : Context) → Onto c (handle g v order i c)
   unfolding handle
   handle-queue order o (ModuleItem m) c = module-queue order o m c
   handle-queue order o (SymbolItem s x) c = symbol-grown g s x c .pending-sub
   handle-queue order o (StatementItem m i) c = statement-queue m i c
 
   -- a use that is handled puts each use that it gives on the queue
-  use-queued : (s x : ℕ) (c : Context) (k : ℕ) → k < length (gives g v (useFact s x))
+  pub use-queued : (s x : ℕ) (c : Context) (k : ℕ) → k < length (gives g v (useFact s x))
       → QueuedUse g v (handleIncludeSymbol g v s x c) (getD (gives g v (useFact s x)) k nothingGiven .fact)
   use-queued s x c k u =
       let d = handleIncludeSymbol g v s x c in
@@ -90,7 +90,7 @@ module _ (g : Graph) where
       its : In which U
       queued : In (itemOf which) (c .pending)
 
-    handle-waits : (order : List (List ℕ) → List (List ℕ)) → Reorders order → (i : WorkItem) (is : List WorkItem) (c : Context) (p : Pair) → In p U
+    handle-waits : (order : Orders) → Reorders order → (i : WorkItem) (is : List WorkItem) (c : Context) (p : Pair) → In p U
         → (itemOf p ≡ i) ⊎ In (itemOf p) is → Waits (handle g v order i (rest is c))
     unfolding handle rest
     handle-waits order o i is c p h (inl e) =

@@ -5,7 +5,7 @@ use mathlib.Core.Bool.{Bool, true, false, false≢true}
 use mathlib.Core.List.{List, [], _∷_}
 use Rattle.graph.specs.Check.{Graph}
 use Rattle.rust_engine.specs.Context.{Context, WorkItem, rest}
-use Rattle.rust_engine.specs.Engine.{Drains, returns, pops, handle, Returned, notYet, returned, drainWorkItems}
+use Rattle.rust_engine.specs.Engine.{listed, Drains, returns, pops, handle, Returned, notYet, returned, drainWorkItems}
 
 unfoldable isReturned : Returned → Bool
 isReturned notYet = false
@@ -30,10 +30,10 @@ drain-returns g v zero c d e = go (c .pending) refl e
     go : (is : List WorkItem) → c .pending ≡ is → (elim is [ [] ↦ returned c | i ∷ js ↦ notYet ]) ≡ returned d → Drains g v c d
     go [] q r = subst (λ z. Drains g v c z) (same c d r) (returns c q)
     go (i ∷ is) q r = absurd (never d r)
-drain-returns g v (suc fuel) c d e = go (c .pending) refl e (λ i is r. drain-returns g v fuel (handle g v (λ xs. xs) i (rest is c)) d r)
+drain-returns g v (suc fuel) c d e = go (c .pending) refl e (λ i is r. drain-returns g v fuel (handle g v listed i (rest is c)) d r)
   where
-    go : (is : List WorkItem) → c .pending ≡ is → (elim is [ [] ↦ returned c | i ∷ js ↦ drainWorkItems g v fuel (handle g v (λ xs. xs) i (rest js c)) ]) ≡ returned d
-        → ((i : WorkItem) (is : List WorkItem) → drainWorkItems g v fuel (handle g v (λ xs. xs) i (rest is c)) ≡ returned d
-        → Drains g v (handle g v (λ xs. xs) i (rest is c)) d) → Drains g v c d
+    go : (is : List WorkItem) → c .pending ≡ is → (elim is [ [] ↦ returned c | i ∷ js ↦ drainWorkItems g v fuel (handle g v listed i (rest js c)) ]) ≡ returned d
+        → ((i : WorkItem) (is : List WorkItem) → drainWorkItems g v fuel (handle g v listed i (rest is c)) ≡ returned d
+        → Drains g v (handle g v listed i (rest is c)) d) → Drains g v c d
     go [] q r more = subst (λ z. Drains g v c z) (same c d r) (returns c q)
-    go (i ∷ is) q r more = pops c d i is (λ xs. xs) (record { from = λ xs x h. h; back = λ xs x h. h }) q (more i is r)
+    go (i ∷ is) q r more = pops c d i is listed (record { from-imports = λ xs x h. h; back-imports = λ xs x h. h; from-exports = λ xs x h. h; back-exports = λ xs x h. h }) q (more i is r)

@@ -14,7 +14,7 @@ use Rattle.answer_rows.specs.declared.Row.the-variants.{Used, External, Json}
 use Rattle.closed_choices.specs.Choice.{Choice, Closed}
 use Rattle.rust_values.specs.Values.{Pair, pair, In}
 use Rattle.rust_engine.specs.Context.{Context, WorkItem, rest}
-use Rattle.rust_engine.specs.Engine.{Drains, returns, pops, Reorders, handle}
+use Rattle.rust_engine.specs.Engine.{Drains, returns, pops, Orders, Reorders, handle}
 use Rattle.rust_engine.specs.EntryPoints.{InRows, ClosedOver, ShownBy, ReasonBy, Beyond}
 use Rattle.rust_engine.proofs.Kept.{factOfItem, Settled, Grows}
 
@@ -91,10 +91,10 @@ pub record Onward (g : Graph) (v : List ℕ) (taken : List ℕ) (base : Context)
 
 -- what is to be shown of the handlers
 pub record Handlers (g : Graph) : Type 1 where
-  pub handle-rows : (order : List (List ℕ) → List (List ℕ)) → Reorders order → (i : WorkItem) (c : Context) → HasRows c (handle g (lastVerdicts g) order i c)
-  pub handle-within : (S : Over) → ClosedHere g S → (order : List (List ℕ) → List (List ℕ)) → Reorders order → (i : WorkItem) (c : Context)
+  pub handle-rows : (order : Orders) → Reorders order → (i : WorkItem) (c : Context) → HasRows c (handle g (lastVerdicts g) order i c)
+  pub handle-within : (S : Over) → ClosedHere g S → (order : Orders) → Reorders order → (i : WorkItem) (c : Context)
       → HasRows (S .base) c → S .choice (factOfItem i) → Within g S c → Within g S (handle g (lastVerdicts g) order i c)
-  pub handle-settles : (taken : List ℕ) (base : Context) (order : List (List ℕ) → List (List ℕ)) → Reorders order → (i : WorkItem) (is : List WorkItem) (c : Context)
+  pub handle-settles : (taken : List ℕ) (base : Context) (order : Orders) → Reorders order → (i : WorkItem) (is : List WorkItem) (c : Context)
       (uses : List Pair) → c .pending ≡ i ∷ is → Within g (goodOver g base) c → Settled g (lastVerdicts g) taken base uses c
       → Onward g (lastVerdicts g) taken base uses c (handle g (lastVerdicts g) order i (rest is c))
 

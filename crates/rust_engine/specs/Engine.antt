@@ -91,7 +91,11 @@ includeWhole g m i c =
 unfoldable pub includeStatementsWithoutTreeshaking : Graph → ℕ → Context → Context
 includeStatementsWithoutTreeshaking g m c = forEach (includeWhole g m) (iterEnumeratedWithoutNamespaceStmt g m) c
 
--- include_side_effectful_dependencies (000:647-675, of which 666-674 is tracing)
+-- include_side_effectful_dependencies (000:647-675, of which 666-674 is tracing); `dependencies` is an index set, so each once, where it stands first
+unfoldable pub indexSet : List ℕ → List (List ℕ) → List ℕ
+indexSet before [] = []
+indexSet before (row ∷ rows) = elim (elem (only row) before) [ true ↦ indexSet before rows | false ↦ only row ∷ indexSet (only row ∷ before) rows ]
+
 unfoldable pub includeDependency : Graph → List ℕ → ℕ → Context → Context
 includeDependency g v d c =
     elim (elem d (c .modules)) [
@@ -100,25 +104,36 @@ includeDependency g v d c =
     ]
 
 unfoldable pub includeSideEffectfulDependencies : Graph → List ℕ → ℕ → Context → Context
-includeSideEffectfulDependencies g v m c = forEach (λ row. includeDependency g v (only row)) (dependencies (moduleOf g m)) c
+includeSideEffectfulDependencies g v m c = forEach (includeDependency g v) (indexSet [] (dependencies (moduleOf g m))) c
 
--- any order of the elements that a set or map has, and another at each step: the same elements
-pub record Reorders (order : List (List ℕ) → List (List ℕ)) : Type 0 where
-  pub from : (xs : List (List ℕ)) (x : List ℕ) → In x (order xs) → In x xs
-  pub back : (xs : List (List ℕ)) (x : List ℕ) → In x xs → In x (order xs)
+-- the orders in which a module's named imports (a map) and its CommonJS export symbols (a set) are gone through, each its own, and others at each step
+pub record Orders : Type 0 where
+  pub of-imports : List (List ℕ) → List (List ℕ)
+  pub of-exports : List (List ℕ) → List (List ℕ)
+
+-- any orders: the same elements
+pub record Reorders (order : Orders) : Type 0 where
+  pub from-imports : (xs : List (List ℕ)) (x : List ℕ) → In x (order .of-imports xs) → In x xs
+  pub back-imports : (xs : List (List ℕ)) (x : List ℕ) → In x xs → In x (order .of-imports xs)
+  pub from-exports : (xs : List (List ℕ)) (x : List ℕ) → In x (order .of-exports xs) → In x xs
+  pub back-exports : (xs : List (List ℕ)) (x : List ℕ) → In x xs → In x (order .of-exports xs)
+
+-- the lists' own
+abbrev pub listed : Orders
+listed = record { of-imports = λ xs. xs; of-exports = λ xs. xs }
 
 -- handle_include_module behind the early return for the runtime (000:564-591)
-unfoldable pub moduleBody : Graph → List ℕ → (List (List ℕ) → List (List ℕ)) → ℕ → Context → Context
+unfoldable pub moduleBody : Graph → List ℕ → Orders → ℕ → Context → Context
 moduleBody g v order m c =
     c
     ▷ (λ c. elim (option g 0 && not (eqb (getD v m 0) 4)) [ true ↦ sweepSideEffectStatements g v m c | false ↦ includeStatementsWithoutTreeshaking g m c ])
     ▷ includeSideEffectfulDependencies g v m
-    ▷ when (flag 0 (flags (moduleOf g m)) && ltb (moduleType (moduleOf g m)) 2) (forEach (λ row. pushSymbolAndCheckCjsBailout g (only row) 1) (order (namedImports (moduleOf g m))))
-    ▷ forEach (λ row. pushSymbolAndCheckCjsBailout g (only row) 1) (order (commonJsExportSymbols (moduleOf g m)))
+    ▷ when (flag 0 (flags (moduleOf g m)) && ltb (moduleType (moduleOf g m)) 2) (forEach (λ row. pushSymbolAndCheckCjsBailout g (only row) 1) (order .of-imports (namedImports (moduleOf g m))))
+    ▷ forEach (λ row. pushSymbolAndCheckCjsBailout g (only row) 1) (order .of-exports (commonJsExportSymbols (moduleOf g m)))
     ▷ when (option g 4 && (not (eqb m (g .header .runtime)) && eqb (exports (moduleOf g m)) 0)) (λ c. c ▷ push (StatementItem m 0) ▷ insertReason m 1)
 
 -- handle_include_module (000:545-592)
-unfoldable pub handleIncludeModule : Graph → List ℕ → (List (List ℕ) → List (List ℕ)) → ℕ → Context → Context
+unfoldable pub handleIncludeModule : Graph → List ℕ → Orders → ℕ → Context → Context
 handleIncludeModule g v order m c =
     when (normal g m) (λ c. elim (elem m (c .modules)) [
       | true ↦ c
@@ -288,7 +303,7 @@ handleIncludeStatement g v m i c =
     ]) c
 
 -- drain_work_items (000:184-194) -------------------------------------------------------------------------------------------------------
-unfoldable pub handle : Graph → List ℕ → (List (List ℕ) → List (List ℕ)) → WorkItem → Context → Context
+unfoldable pub handle : Graph → List ℕ → Orders → WorkItem → Context → Context
 handle g v order (ModuleItem m) c = handleIncludeModule g v order m c
 handle g v order (SymbolItem s x) c = handleIncludeSymbol g v s x c
 handle g v order (StatementItem m i) c = handleIncludeStatement g v m i c
@@ -296,7 +311,7 @@ handle g v order (StatementItem m i) c = handleIncludeStatement g v m i c
 -- it returns: the queue is empty, or an item is popped and it returns from what its handler leaves
 pub data Drains (g : Graph) (v : List ℕ) : Context → Context → Type 0 where
   returns : (c : Context) → c .pending ≡ [] → Drains g v c c
-  pops : (c d : Context) (i : WorkItem) (is : List WorkItem) (order : List (List ℕ) → List (List ℕ)) → Reorders order → c .pending ≡ i ∷ is
+  pops : (c d : Context) (i : WorkItem) (is : List WorkItem) (order : Orders) → Reorders order → c .pending ≡ i ∷ is
       → Drains g v (handle g v order i (rest is c)) d → Drains g v c d
 
 -- the same as a function, with a bound on the items popped and the lists' own order: `notYet` where it has not returned by then
@@ -306,4 +321,4 @@ pub data Returned : Type 0 where
 
 unfoldable pub drainWorkItems : Graph → List ℕ → ℕ → Context → Returned
 drainWorkItems g v zero c = elim (c .pending) [ [] ↦ returned c | i ∷ is ↦ notYet ]
-drainWorkItems g v (suc fuel) c = elim (c .pending) [ [] ↦ returned c | i ∷ is ↦ drainWorkItems g v fuel (handle g v (λ xs. xs) i (rest is c)) ]
+drainWorkItems g v (suc fuel) c = elim (c .pending) [ [] ↦ returned c | i ∷ is ↦ drainWorkItems g v fuel (handle g v listed i (rest is c)) ]

@@ -26,7 +26,7 @@ use Rattle.keep_record.specs.Lines.{elem as isElem}
 use Rattle.rust_effects.proofs.SameVerdicts.{rust-effects}
 use Rattle.rust_engine.specs.Context.{Context, WorkItem, ModuleItem, SymbolItem, StatementItem, empty, newContext, push, rest, setModule, setChanged, setDeferred, takeBailouts, forEach}
 use Rattle.rust_engine.specs.Tables.{hasSideEffects, iterEnumeratedWithoutNamespaceStmt}
-use Rattle.rust_engine.specs.Engine.{Drains, returns, pops, Reorders, pushSymbolAndCheckCjsBailout, waitingFor, waitingForOthers, drainDeferred, includeStatementsWithoutTreeshaking, includeSideEffectfulDependencies, moduleBody, handleIncludeModule, handle}
+use Rattle.rust_engine.specs.Engine.{Drains, returns, pops, Orders, Reorders, indexSet, pushSymbolAndCheckCjsBailout, waitingFor, waitingForOthers, drainDeferred, includeStatementsWithoutTreeshaking, includeSideEffectfulDependencies, moduleBody, handleIncludeModule, handle}
 use Rattle.rust_engine.proofs.Asking.{Grown, asks-each}
 use Rattle.rust_engine.proofs.Bailing.{asks-check, asks-checked}
 use Rattle.rust_engine.proofs.Never.{LeadsOn, never-returns}
@@ -71,10 +71,10 @@ record Computed : Type 0 where
   from-itself : getD (gives g v (useFact 0 1)) 0 nothingGiven .fact ≡ useFact 0 1
   from-itself-inside : ltb 0 (length (gives g v (useFact 0 1))) ≡ true
   queue-is : started .pending ≡ ModuleItem 0 ∷ []
-  included : (order : List (List ℕ) → List (List ℕ)) → handle g v order (ModuleItem 0) (rest [] started) ≡ useEach (order symbols) before
+  included : (order : Orders) → handle g v order (ModuleItem 0) (rest [] started) ≡ useEach (order .of-exports symbols) before
 
 computed : Computed
-unfolding andThen within obeys number cells many firsts list plainRow repeated distinctRow lists item headerRules headerOf namespaceLimit leastStatements statementLimit moduleRules importLists exportLists nameLists moduleLists moduleAt lessModule modulesAt kindOf statementsOf importRecordsOf symbolRules ownersCounts symbolLists symbolAt symbolsAt dependedAt memberRules partsAt referenceAt statementLists statementAt moduleStatements statementsAt relatedModuleAt relatedImportRecordAt relatedAt entryAt entriesAt itemsOf endOf headerIn modulesRead modulesIn symbolsRead symbolsIn statementsRead statementsIn entriesRead entriesIn helpersAt graphAt walked each runtimeNormal ownsNamespace rootIsRoot laterRules checkOf answerOf graphIn elemOfRow kind effects exports moduleType flags wrap wrapper namespace reexportCount statementCount scanEffects scanStatementCount importRecords dependencies namedImports ownExports entryReferences commonJsExportSymbols resolvedExports commonJsNamespaces enumMembers moduleHelpers only importRecordTarget importRecordKind importRecordBits exportName exportSymbol exportFromCommonJs namespaceSymbol namespaceModule enumName enumMember helperNumber helperStatement owner symbolName root aliasNamespace aliasName constantBits exportChain declaringStatements writtenPropertyStatements statementBits statementImportRecords references referenceKind referenceSymbol referenceFlag propertyCount firstProperty dependedOn entryModule entryKind related relatedModule relatedStatement relatedImportRecord unreachable flag tabulate some moduleOf symbolOf statementList statementOf normal option entryOf rootOf effectful seeds reaches moves moved pass passes settle relaxed rescanned recomputed firstVerdict firstVerdicts lastVerdicts hasEffects userEntry onDemand gated hasGated hasBody claims claimed bodyOf namespaceIn commonJsOf isNamespace targetOf when quietRuntime hasEval effectBit sweptShaken sweptWhole swept sweepCandidate dependency dependencyCandidate evalCandidates evalCandidate exportSymbolCandidate devNamespace devCandidate moduleSegments importRecordOf bailsOut importRecordCandidate reasonOf inlined forwards forwardCandidate plainCandidate resolvedCandidate referenceCandidates referenceCandidate referenceSegment statementSegments bailoutCandidate defaultAlias checkedCandidate bypassed demanded demandCandidates demandCandidate exportOf exportCandidate aliasCandidate needsWrapper wrapperCandidates wrapperCandidate declarationCandidates declarationCandidate writeCandidates writeCandidate useSegments segmentsOf picked givenBy gives nothingGiven pushEntry pushEntries flattened throughMap isUserDefined userDefinedEntries dynamicEntries filterBy helperBits collectDependedRuntimeHelpers hasSideEffects newContext push rest handle handleIncludeModule setModule setChanged setDeferred drainDeferred waitingFor waitingForOthers moduleBody includeStatementsWithoutTreeshaking includeSideEffectfulDependencies iterEnumeratedWithoutNamespaceStmt forEach isElem
+unfolding andThen within obeys number cells many firsts list plainRow repeated distinctRow lists item headerRules headerOf namespaceLimit leastStatements statementLimit moduleRules importLists exportLists nameLists moduleLists moduleAt lessModule modulesAt kindOf statementsOf importRecordsOf symbolRules ownersCounts symbolLists symbolAt symbolsAt dependedAt memberRules partsAt referenceAt statementLists statementAt moduleStatements statementsAt relatedModuleAt relatedImportRecordAt relatedAt entryAt entriesAt itemsOf endOf headerIn modulesRead modulesIn symbolsRead symbolsIn statementsRead statementsIn entriesRead entriesIn helpersAt graphAt walked each runtimeNormal ownsNamespace rootIsRoot laterRules checkOf answerOf graphIn elemOfRow kind effects exports moduleType flags wrap wrapper namespace reexportCount statementCount scanEffects scanStatementCount importRecords dependencies namedImports ownExports entryReferences commonJsExportSymbols resolvedExports commonJsNamespaces enumMembers moduleHelpers only importRecordTarget importRecordKind importRecordBits exportName exportSymbol exportFromCommonJs namespaceSymbol namespaceModule enumName enumMember helperNumber helperStatement owner symbolName root aliasNamespace aliasName constantBits exportChain declaringStatements writtenPropertyStatements statementBits statementImportRecords references referenceKind referenceSymbol referenceFlag propertyCount firstProperty dependedOn entryModule entryKind related relatedModule relatedStatement relatedImportRecord unreachable flag tabulate some moduleOf symbolOf statementList statementOf normal option entryOf rootOf effectful seeds reaches moves moved pass passes settle relaxed rescanned recomputed firstVerdict firstVerdicts lastVerdicts hasEffects userEntry onDemand gated hasGated hasBody claims claimed bodyOf namespaceIn commonJsOf isNamespace targetOf when quietRuntime hasEval effectBit sweptShaken sweptWhole swept sweepCandidate dependency dependencyCandidate evalCandidates evalCandidate exportSymbolCandidate devNamespace devCandidate moduleSegments importRecordOf bailsOut importRecordCandidate reasonOf inlined forwards forwardCandidate plainCandidate resolvedCandidate referenceCandidates referenceCandidate referenceSegment statementSegments bailoutCandidate defaultAlias checkedCandidate bypassed demanded demandCandidates demandCandidate exportOf exportCandidate aliasCandidate needsWrapper wrapperCandidates wrapperCandidate declarationCandidates declarationCandidate writeCandidates writeCandidate useSegments segmentsOf picked givenBy gives nothingGiven pushEntry pushEntries flattened throughMap isUserDefined userDefinedEntries dynamicEntries filterBy helperBits collectDependedRuntimeHelpers hasSideEffects newContext push rest handle handleIncludeModule setModule setChanged setDeferred drainDeferred waitingFor waitingForOthers moduleBody includeStatementsWithoutTreeshaking indexSet includeSideEffectfulDependencies iterEnumeratedWithoutNamespaceStmt forEach isElem
 computed =
     record {
       is-accepted = refl;
@@ -109,10 +109,10 @@ all-queued (r ∷ rows) row (inl e) c =
     (subst (λ x. In (SymbolItem (only x) 1) (pushSymbolAndCheckCjsBailout g (only r) 1 c .pending)) (sym e) (one-queued (only r) c))
 all-queued (r ∷ rows) row (inr q) c = all-queued rows row q (pushSymbolAndCheckCjsBailout g (only r) 1 c)
 
-k5-queued : (order : List (List ℕ) → List (List ℕ)) → Reorders order → In (SymbolItem 0 1) (handle g v order (ModuleItem 0) (rest [] started) .pending)
+k5-queued : (order : Orders) → Reorders order → In (SymbolItem 0 1) (handle g v order (ModuleItem 0) (rest [] started) .pending)
 unfolding only
 k5-queued order o =
-    subst (λ (c : Context). In (SymbolItem 0 1) (c .pending)) (sym (computed .included order)) (all-queued (order symbols) (0 ∷ []) (o .back symbols (0 ∷ []) (inl refl)) before)
+    subst (λ (c : Context). In (SymbolItem 0 1) (c .pending)) (sym (computed .included order)) (all-queued (order .of-exports symbols) (0 ∷ []) (o .back-exports symbols (0 ∷ []) (inl refl)) before)
 
 -- the first item of a queue, and the others
 unfoldable firstOr : WorkItem → List WorkItem → WorkItem

@@ -93,7 +93,7 @@ module _ (numbers : List ℕ) (ok : answerOf (checkOf numbers) ≡ Accepted) whe
   unfolding dynamicEntries
   all-dynamic = dynamic-each (those (isDynamic g) (groupedEntries g)) (every-passed (λ e. e < g .header .entries) (isDynamic g) (groupedEntries g) (λ x t h. h) grouped-below)
 
-  sorted-dynamic : Every (Dynamic numbers ok) (sortedEntries g)
+  pub sorted-dynamic : Every (Dynamic numbers ok) (sortedEntries g)
   unfolding sortedEntries
   sorted-dynamic =
       every-append (Dynamic numbers ok) (those (λ e. goesFirst g (moduleOfEntry g e)) (dynamicEntries g)) (byCompletion g (dynamicEntries g) (completion g))
@@ -106,11 +106,11 @@ module _ (numbers : List ℕ) (ok : answerOf (checkOf numbers) ≡ Accepted) whe
     pub taken : List ℕ
     pub beside : Beside numbers ok z (e .end) taken
 
-  stops : (fuel made k : ℕ) (p : Progress) → keptModule (length (p .lines)) (round g v k p .lines) ≡ false → roundsFrom g v (suc fuel) made k p ≡ endedAt (made + 1) (round g v k p)
+  pub stops : (fuel made k : ℕ) (p : Progress) → keptModule (length (p .lines)) (round g v k p .lines) ≡ false → roundsFrom g v (suc fuel) made k p ≡ endedAt (made + 1) (round g v k p)
   unfolding roundsFrom
   stops fuel made k p e = rw (e, roundsFrom)
 
-  goes : (fuel made k : ℕ) (p : Progress) → keptModule (length (p .lines)) (round g v k p .lines) ≡ true
+  pub goes : (fuel made k : ℕ) (p : Progress) → keptModule (length (p .lines)) (round g v k p .lines) ≡ true
       → roundsFrom g v (suc fuel) made k p ≡ roundsFrom g v fuel (made + 1) (length (p .lines)) (round g v k p)
   unfolding roundsFrom
   goes fuel made k p e = rw (e, roundsFrom)
@@ -129,12 +129,12 @@ module _ (numbers : List ℕ) (ok : answerOf (checkOf numbers) ≡ Accepted) whe
         (record { rounds-are = omega (arith, m .rounds-are); taken = m .taken; beside = m .beside })
 
     -- the user-defined entries
-    users-good : (es : List ℕ) → Every (Good g) (usersStarts g es)
+    pub users-good : (es : List ℕ) → Every (Good g) (usersStarts g es)
     unfolding usersStarts
     users-good [] = tt
     users-good (e ∷ es) = every-append (Good g) (userStarts g (moduleOfEntry g e)) (usersStarts g es) (user-starts-good (loaded numbers ok) (moduleOfEntry g e)) (users-good es)
 
-    at-first-round : (users : Context) → IncludesUserDefined g v (userEntries g) empty users → AtRound numbers ok (rounding users [] []) (begun g v) 0
+    pub at-first-round : (users : Context) → IncludesUserDefined g v (userEntries g) empty users → AtRound numbers ok (rounding users [] []) (begun g v) 0
     unfolding begun starting newContext noOne elem
     at-first-round users x =
         let l = level-first numbers ok in

@@ -54,7 +54,7 @@ abbrev linesIn : Progress → List Line
 linesIn p = p .lines
 
 module _ (g : Graph) (v : List ℕ) where
-  tried-prefix : (e : ℕ) (p : Progress) → Prefix (p .lines) (tried g v e p .lines)
+  pub tried-prefix : (e : ℕ) (p : Progress) → Prefix (p .lines) (tried g v e p .lines)
   unfolding tried starting nowLive nowDead
   tried-prefix e p = go (p .live (moduleOfEntry g e)) (lives g v p e)
     where
@@ -63,7 +63,7 @@ module _ (g : Graph) (v : List ℕ) where
       go false true = stage-prefix g v 0 (moduleStarts g (moduleOfEntry g e)) (p .lines)
       go false false = prefix-refl (p .lines)
 
-  tries-prefix : (es : List ℕ) (p : Progress) → Prefix (p .lines) (tries g v es p .lines)
+  pub tries-prefix : (es : List ℕ) (p : Progress) → Prefix (p .lines) (tries g v es p .lines)
   unfolding tries
   tries-prefix [] p = prefix-refl (p .lines)
   tries-prefix (e ∷ es) p = prefix-trans (p .lines) (tried g v e p .lines) (tries g v es (tried g v e p) .lines) (tried-prefix e p) (tries-prefix es (tried g v e p))

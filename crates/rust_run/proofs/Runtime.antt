@@ -40,7 +40,7 @@ use Rattle.rust_run.proofs.Tried.{both, lines-has}
 
 -- what include_runtime_symbol starts
 module _ (g : Graph) (v : List ℕ) (b : Context) where
-  abbrev helperUses : List ℕ → List Fact
+  abbrev pub helperUses : List ℕ → List Fact
   helperUses hs = map (λ h. useFact (only (getD (g .helpers) h [])) 1) hs
 
   helpers-onward : (hs : List ℕ) (c d : Context) → IncludesHelpers g v hs c d → (ss : List Fact) (taken : List ℕ) → Reached g v b ss taken c → Onward g v b ss taken d (helperUses hs)
@@ -56,15 +56,15 @@ module _ (g : Graph) (v : List ℕ) (b : Context) where
   use-of P (k ∷ hs) a h (inl e) = subst (λ n. P (useFact (only (getD (g .helpers) n [])) 1)) (sym e) (a .0)
   use-of P (k ∷ hs) a h (inr q) = use-of P hs (a .1) h q
 
-  uses-moved : (P : Fact → Type 0) (xs ys : List ℕ) → ((h : ℕ) → In h ys → In h xs) → Every P (helperUses xs) → Every P (helperUses ys)
+  pub uses-moved : (P : Fact → Type 0) (xs ys : List ℕ) → ((h : ℕ) → In h ys → In h xs) → Every P (helperUses xs) → Every P (helperUses ys)
   uses-moved P xs [] s a = tt
   uses-moved P xs (y ∷ ys) s a = (use-of P xs a y (s y (inl refl)), uses-moved P xs ys (λ h q. s h (inr q)) a)
 
-  effects-same : (m : ℕ) → hasSideEffects v m ≡ hasEffects v m
+  pub effects-same : (m : ℕ) → hasSideEffects v m ≡ hasEffects v m
   unfolding hasSideEffects hasEffects effectful
   effects-same m = refl
 
-  starts-runtime : (word : ℕ) → eqb word 0 ≡ true → hasEffects v (g .header .runtime) ≡ true → runtimeStarts g v word ≡ moduleFact (g .header .runtime) ∷ []
+  pub starts-runtime : (word : ℕ) → eqb word 0 ≡ true → hasEffects v (g .header .runtime) ≡ true → runtimeStarts g v word ≡ moduleFact (g .header .runtime) ∷ []
   unfolding runtimeStarts
   starts-runtime word e h = rw (e, h, runtimeStarts)
 
@@ -72,7 +72,7 @@ module _ (g : Graph) (v : List ℕ) (b : Context) where
   unfolding runtimeStarts
   starts-nothing word e h = rw (e, h, runtimeStarts)
 
-  starts-helpers : (word : ℕ) → eqb word 0 ≡ false → runtimeStarts g v word ≡ helperUses (those (λ h. flag h word) (tabulate (λ h. h) 0 (g .header .helpers)))
+  pub starts-helpers : (word : ℕ) → eqb word 0 ≡ false → runtimeStarts g v word ≡ helperUses (those (λ h. flag h word) (tabulate (λ h. h) 0 (g .header .helpers)))
   unfolding runtimeStarts
   starts-helpers word e = rw (e, runtimeStarts)
 

@@ -64,7 +64,7 @@ module _ (g : Graph) (v : List ℕ) (b : Context) where
   unfolding declaredFacts declared
   declared-are s e = rw (e, declaredFacts, declared)
 
-  reference-is : (s : ℕ) → normal g (ownerOf g s) ≡ true → referenceStarts g s ≡ declaredFacts g s ++ (checkedFact s 2 ∷ [])
+  pub reference-is : (s : ℕ) → normal g (ownerOf g s) ≡ true → referenceStarts g s ≡ declaredFacts g s ++ (checkedFact s 2 ∷ [])
   unfolding referenceStarts
   reference-is s e = rw (declared-are s e) (rw (e, referenceStarts))
 
@@ -93,7 +93,7 @@ module _ (g : Graph) (v : List ℕ) (b : Context) where
       onward-then ss taken c₂ d (referenceStarts g (only row)) (referencesStarts g rows′) o (references-onward rows′ c₂ d more (o .gs ++ ss) taken (o .reached))
 
   -- an entry's module
-  module-normal : (m : ℕ) → normal g m ≡ true → moduleStarts g m ≡ referencesStarts g (entryReferences (moduleOf g m)) ++ (moduleFact m ∷ [])
+  pub module-normal : (m : ℕ) → normal g m ≡ true → moduleStarts g m ≡ referencesStarts g (entryReferences (moduleOf g m)) ++ (moduleFact m ∷ [])
   unfolding moduleStarts
   module-normal m e = rw (e, moduleStarts)
 
@@ -105,7 +105,7 @@ module _ (g : Graph) (v : List ℕ) (b : Context) where
       (record { gs = moduleFact m ∷ []; reached = include-module (o .gs ++ ss) taken (s .between) d m (o .reached) (s .of-module); alike = alike-refl (moduleFact m ∷ []) }))
 
   -- the user-defined entries
-  user-normal : (m : ℕ) → normal g m ≡ true → userStarts g m ≡ (bailoutFact m ∷ []) ++ moduleStarts g m
+  pub user-normal : (m : ℕ) → normal g m ≡ true → userStarts g m ≡ (bailoutFact m ∷ []) ++ moduleStarts g m
   unfolding userStarts
   user-normal m e = rw (e, userStarts)
 
@@ -125,11 +125,11 @@ module _ (g : Graph) (v : List ℕ) (b : Context) where
       onward-then ss taken c₁ d (userStarts g m) (usersStarts g es′) here (users-onward es′ c₁ d more (here .gs ++ ss) taken (here .reached))
 
   -- the exports of bailouts, whatever their order
-  export-none : (row : List ℕ) (rows : List (List ℕ)) → eqb (exportFromCommonJs row) 1 ≡ false → exportStarts (row ∷ rows) ≡ exportStarts rows
+  pub export-none : (row : List ℕ) (rows : List (List ℕ)) → eqb (exportFromCommonJs row) 1 ≡ false → exportStarts (row ∷ rows) ≡ exportStarts rows
   unfolding exportStarts
   export-none row rows e = rw (e, exportStarts)
 
-  export-one : (row : List ℕ) (rows : List (List ℕ)) → eqb (exportFromCommonJs row) 1 ≡ true → exportStarts (row ∷ rows) ≡ (checkedFact (exportSymbol row) 1 ∷ []) ++ exportStarts rows
+  pub export-one : (row : List ℕ) (rows : List (List ℕ)) → eqb (exportFromCommonJs row) 1 ≡ true → exportStarts (row ∷ rows) ≡ (checkedFact (exportSymbol row) 1 ∷ []) ++ exportStarts rows
   unfolding exportStarts
   export-one row rows e = rw (e, exportStarts)
 
@@ -168,7 +168,7 @@ module _ (g : Graph) (v : List ℕ) (b : Context) where
       go true n k = subst (λ (l : List Fact). Every P l) (sym (export-one r rows n)) (h r (inl refl) n, k)
       go false n k = subst (λ (l : List Fact). Every P l) (sym (export-none r rows n)) k
 
-  same-exports : (P : Fact → Type 0) (xs ys : List (List ℕ)) → ((row : List ℕ) → In row ys → In row xs) → Every P (exportStarts xs) → Every P (exportStarts ys)
+  pub same-exports : (P : Fact → Type 0) (xs ys : List (List ℕ)) → ((row : List ℕ) → In row ys → In row xs) → Every P (exportStarts xs) → Every P (exportStarts ys)
   same-exports P xs ys s h = all-exported P ys (λ row q e. exported P xs h row (s row q) e)
 
   -- a course goes on by the exports of these modules

@@ -77,13 +77,13 @@ module _ (numbers : List ℕ) (ok : answerOf (checkOf numbers) ≡ Accepted) whe
     pub is-dynamic : isDynamic g e ≡ true
 
   module _ (cycled : List ℕ) (cycles : (m : ℕ) → elem m cycled ≡ onCycle g m) where
-    lives-same : (e : ℕ) → Dynamic e → (r : Rounding) (p : Progress) (taken : List ℕ) → Beside r p taken → passes g v cycled (r .context) e ≡ lives g v p e
+    pub lives-same : (e : ℕ) → Dynamic e → (r : Rounding) (p : Progress) (taken : List ℕ) → Beside r p taken → passes g v cycled (r .context) e ≡ lives g v p e
     unfolding passes lives entryIdx moduleOfEntry
     lives-same e d r p taken b =
         rw (cycles (entryIdx g e), alive-same numbers ok v (r .context) e (d .inside) (d .is-dynamic) (has g 0 (p .lines)) (statement-bit (b .level))) refl
 
     -- the three ways of a try
-    tried-live : (e : ℕ) (p : Progress) → p .live (moduleOfEntry g e) ≡ true → tried g v e p ≡ p
+    pub tried-live : (e : ℕ) (p : Progress) → p .live (moduleOfEntry g e) ≡ true → tried g v e p ≡ p
     unfolding tried
     tried-live e p q = rw (q, tried)
 
@@ -91,7 +91,7 @@ module _ (numbers : List ℕ) (ok : answerOf (checkOf numbers) ≡ Accepted) whe
     unfolding tried
     tried-dead e p q a = rw (q, a, tried)
 
-    tried-starts : (e : ℕ) (p : Progress) → p .live (moduleOfEntry g e) ≡ false → lives g v p e ≡ true → tried g v e p ≡ starting g v (moduleStarts g (moduleOfEntry g e)) (nowLive g e p)
+    pub tried-starts : (e : ℕ) (p : Progress) → p .live (moduleOfEntry g e) ≡ false → lives g v p e ≡ true → tried g v e p ≡ starting g v (moduleStarts g (moduleOfEntry g e)) (nowLive g e p)
     unfolding tried
     tried-starts e p q a = rw (q, a, tried)
 

@@ -1,0 +1,10 @@
+pub mod Adding
+pub mod Symbols
+pub mod Left
+pub mod Drains
+pub mod Searching
+pub mod Loops
+pub mod MainPart
+pub mod OfRuns
+pub mod Passing
+pub mod OnCircles

@@ -1,0 +1,69 @@
+-- A circle: uses among a run's lines each of which gives another of them, by the alias (K11) or the wrapper (K12). The Rust remembers no use, so it does
+-- not return where one is reached; the theorems in proofs/ say that it returns on every other graph.
+use Prim.Native.Nat.{ℕ, _<_}
+use mathlib.Core.Path.{_≡_}
+use mathlib.Core.Logic.{_⊎_, _↔_}
+use mathlib.Core.List.{List, _∷_}
+use lib.ListN.{length, getD}
+use Rattle.graph.specs.declared.Checked.the-variants.{Accepted}
+use Rattle.graph.specs.Check.{Graph, graphIn, checkOf, answerOf}
+use Rattle.facts.specs.Facts.{useFact}
+use Rattle.determine_side_effects.specs.Effects.{lastVerdicts}
+use Rattle.keep_rules.specs.Rules.{gives}
+use Rattle.run_rows.specs.Run.{runOf}
+use Rattle.closed_choices.specs.Choice.{Choice, HasLine, nothingGiven}
+use Rattle.rust_values.specs.Values.{Pair, In}
+use Rattle.rust_engine.specs.Context.{Context, WorkItem, rest}
+use Rattle.rust_engine.specs.Engine.{Orders, Reorders, handle}
+use Rattle.rust_run.specs.IncludeStatements.{Outcome, Returns}
+use Rattle.rust_run.specs.Agreement.{Agrees}
+use Rattle.rust_returns.specs.Following.{Choosing, Follows}
+
+-- the use of s for reason x gives the use of t for reason y
+pub record Gives (g : Graph) (s x t y : ℕ) : Type 0 where
+  pub place : ℕ
+  pub inside : place < length (gives g (lastVerdicts g) (useFact s x))
+  pub is : getD (gives g (lastVerdicts g) (useFact s x)) place nothingGiven .fact ≡ useFact t y
+
+-- a use from which every way of uses, each given by the one before, comes to an end
+pub data Ends (g : Graph) : ℕ → ℕ → Type 0 where
+  ends : (s x : ℕ) → ((t y : ℕ) → Gives g s x t y → Ends g t y) → Ends g s x
+
+-- a context from which the engine pops only finitely many items, whatever the hash orders
+pub data Stops (g : Graph) : Context → Type 0 where
+  stops : (c : Context)
+      → ((i : WorkItem) (is : List WorkItem) (order : Orders) → Reorders order → c .pending ≡ i ∷ is → Stops g (handle g (lastVerdicts g) order i (rest is c))) → Stops g c
+
+-- uses of a choice, not none, each of which gives one of them
+pub record CircleIn (g : Graph) (C : Choice) : Type 0 where
+  pub uses : List Pair
+  pub one : Pair
+  pub is-in : In one uses
+  pub chosen : (p : Pair) → In p uses → C (useFact (p .first) (p .second))
+  pub leads-on : (p : Pair) → In p uses → (q : Pair) × In q uses × Gives g (p .first) (p .second) (q .first) (q .second)
+
+-- among the lines of the run
+abbrev pub Circle : Graph → Type 0
+Circle g = CircleIn g (HasLine (runOf g .lines))
+
+-- the Rust returns, whatever the hash orders and the components
+abbrev pub ReturnsBy : Graph → Type 0
+ReturnsBy g = (ch : Choosing g) → (o : Outcome) × (r : Returns g o) × Follows g ch o r
+
+-- on every accepted graph it does so, or there is a circle
+abbrev pub ReturnsUnlessCircles : Type 0
+ReturnsUnlessCircles = (numbers : List ℕ) → answerOf (checkOf numbers) ≡ Accepted → ReturnsBy (graphIn numbers) ⊎ Circle (graphIn numbers)
+
+-- and where there is one, it returns by none
+abbrev pub NeverOnCircles : Type 0
+NeverOnCircles = (numbers : List ℕ) → answerOf (checkOf numbers) ≡ Accepted → Circle (graphIn numbers) → (o : Outcome) → Returns (graphIn numbers) o → ⊥
+
+-- so it returns exactly where there is none
+abbrev pub ReturnsExactly : Type 0
+ReturnsExactly = (numbers : List ℕ) → answerOf (checkOf numbers) ≡ Accepted → ((o : Outcome) × Returns (graphIn numbers) o) ↔ (Circle (graphIn numbers) → ⊥)
+
+-- with T11: without a circle the Rust returns, whatever the orders, and its outcome is the run's
+abbrev pub ReturnsAndAgrees : Type 0
+ReturnsAndAgrees =
+    (numbers : List ℕ) → answerOf (checkOf numbers) ≡ Accepted → (Circle (graphIn numbers) → ⊥) → (ch : Choosing (graphIn numbers))
+    → (o : Outcome) × (r : Returns (graphIn numbers) o) × Follows (graphIn numbers) ch o r × Agrees (graphIn numbers) o (runOf (graphIn numbers))
