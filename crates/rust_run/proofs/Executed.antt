@@ -1,5 +1,7 @@
 -- The Rust's functions that are relations, as functions with a bound: `fuel` on the items that a drain pops, the calls of a walk and the rounds, hash
--- orders as the lists stand, petgraph's components given. `notYet` where it has not returned by then.
+-- orders as the lists stand. `notYet` where it has not returned by then. The order of dynamic entries and the modules on cycles are the run's
+-- (`sortedEntries`, `onCycle`), which are the Rust's for all components that are right (`rust-order`, `rust-order-exists` of `rust_order`); what 003
+-- does with components is executed beside that. tools/run_definitions.py runs these functions on recorded answers of the Rust.
 use Prim.Native.Nat.{ℕ, zero, suc}
 use mathlib.Core.Bool.{Bool, true, false, _&&_}
 use mathlib.Core.List.{List, [], _∷_, _++_}
@@ -9,12 +11,13 @@ use Rattle.graph.specs.Check.{Graph}
 use Rattle.graph_access.specs.Names.{effects, entryReferences, importRecords, importRecordTarget, importRecordKind, resolvedExports, exportSymbol, exportFromCommonJs, only}
 use Rattle.graph_access.specs.Words.{flag, tabulate, moduleOf, normal}
 use Rattle.keep_record.specs.Lines.{elem}
+use Rattle.dynamic_entries.specs.Sorted.{onCycle, sortedEntries}
 use Rattle.rust_values.specs.Values.{Pair, none, found, optional, filter}
 use Rattle.rust_effects.specs.DetermineSideEffects.{Spreading, gathered, pendingBelow, spreadToAll, dependentsOf, recomputed, noneRelaxed}
 use Rattle.rust_engine.specs.Context.{Context, empty, newContext, ModuleItem, SymbolItem, push, insertBailout, takeBailouts, setChanged}
 use Rattle.rust_engine.specs.Tables.{ownerOf, hasSideEffects}
 use Rattle.rust_engine.specs.Engine.{notYet as notDrained, returned, drainWorkItems, enqueueDeclaringStatements, pushSymbolAndCheckCjsBailout}
-use Rattle.rust_order.specs.DynamicEntries.{entryIdx, DiGraphMap, noGraph, Walking, insertVisited, withEdge, Call, construct, records, Entered, enter, complete, cycledDynamicEntries, orderFrom, sortByKey}
+use Rattle.rust_order.specs.DynamicEntries.{entryIdx, DiGraphMap, noGraph, Walking, insertVisited, withEdge, Call, construct, records, Entered, enter, complete, orderFrom, sortByKey}
 use Rattle.rust_run.specs.DynamicEntries.{alive, unused, isDynamicEntryAlive}
 use Rattle.rust_run.specs.Passes.{collectDependedRuntimeHelpers}
 use Rattle.rust_run.specs.IncludeStatements.{userDefinedEntries, dynamicEntries, Rounding, rounding, insertIf, liveEntries, dependedRuntimeHelper, Outcome}
@@ -93,6 +96,13 @@ depthFirst succs (suc fuel) (m ∷ ms) s =
       | false ↦ then (depthFirst succs fuel (succs m) (enter m s)) (λ y. depthFirst succs fuel ms (complete m y))
     ]
 
+-- the graph of the dynamic entries, and their order by components of it
+unfoldable pub entryGraphMade : Graph → ℕ → Ended DiGraphMap
+entryGraphMade g fuel = fromEntries g fuel (dynamicEntries g) noGraph
+
+unfoldable pub sortedBy : Graph → List (List ℕ) → List ℕ
+sortedBy g sccs = sortByKey (λ e. orderFrom 0 sccs (entryIdx g e)) (dynamicEntries g)
+
 -- Drains, References, IncludesEntry ------------------------------------------------------------------------------------------------------
 unfoldable pub drained : Graph → List ℕ → ℕ → Context → Ended Context
 drained g v fuel c = elim (drainWorkItems g v fuel c) [ notDrained ↦ notYet | returned d ↦ ended d ]
@@ -148,27 +158,27 @@ retainedOne g v fuel e c dead =
       | false ↦ ended (processed c dead true)
     ]
 
-unfoldable pub processedOne : Graph → List ℕ → ℕ → List ℕ → ℕ → Context → List Pair → Ended Processed
-processedOne g v fuel cycled e c dead =
-    elim (elem (entryIdx g e) cycled) [
+unfoldable pub processedOne : Graph → List ℕ → ℕ → ℕ → Context → List Pair → Ended Processed
+processedOne g v fuel e c dead =
+    elim (onCycle g (entryIdx g e)) [
       | true ↦ retainedOne g v fuel e c dead
       | false ↦ elim (isDynamicEntryAlive g v c e) [ alive ↦ retainedOne g v fuel e c dead | unused ret ↦ ended (processed c (dead ++ ret) false) ]
     ]
 
-unfoldable pub processedAll : Graph → List ℕ → ℕ → List ℕ → List ℕ → Rounding → Ended Rounding
-processedAll g v fuel cycled [] r = ended r
-processedAll g v fuel cycled (e ∷ es) r =
+unfoldable pub processedAll : Graph → List ℕ → ℕ → List ℕ → Rounding → Ended Rounding
+processedAll g v fuel [] r = ended r
+processedAll g v fuel (e ∷ es) r =
     elim (elem (entryIdx g e) (r .included)) [
-      | true ↦ processedAll g v fuel cycled es r
-      | false ↦ then (processedOne g v fuel cycled e (r .context) (r .dead))
-          (λ p. processedAll g v fuel cycled es (rounding (p .context) (insertIf (p .retained) (entryIdx g e) (r .included)) (p .dead)))
+      | true ↦ processedAll g v fuel es r
+      | false ↦ then (processedOne g v fuel e (r .context) (r .dead))
+          (λ p. processedAll g v fuel es (rounding (p .context) (insertIf (p .retained) (entryIdx g e) (r .included)) (p .dead)))
     ]
 
 -- Round, Rounds --------------------------------------------------------------------------------------------------------------------------
-unfoldable pub roundMade : Graph → List ℕ → ℕ → List ℕ → List ℕ → Rounding → Ended Rounding
-roundMade g v fuel cycled sorted r =
+unfoldable pub roundMade : Graph → List ℕ → ℕ → Rounding → Ended Rounding
+roundMade g v fuel r =
     then (bailoutsIncluded g v fuel (r .context .bailouts) (takeBailouts (setChanged false (r .context))))
-    (λ c. processedAll g v fuel cycled sorted (rounding c (r .included) (r .dead)))
+    (λ c. processedAll g v fuel (sortedEntries g) (rounding c (r .included) (r .dead)))
 
 pub record Counted : Type 0 where
   pub rounds : ℕ
@@ -177,12 +187,12 @@ pub record Counted : Type 0 where
 abbrev pub counted : ℕ → Rounding → Counted
 counted n r = record { rounds = n; last = r }
 
-unfoldable pub roundsMade : Graph → List ℕ → ℕ → List ℕ → List ℕ → ℕ → Rounding → Ended Counted
-roundsMade g v fuel cycled sorted zero r = notYet
-roundsMade g v fuel cycled sorted (suc n) r =
-    then (roundMade g v fuel cycled sorted r)
+unfoldable pub roundsMade : Graph → List ℕ → ℕ → ℕ → Rounding → Ended Counted
+roundsMade g v fuel zero r = notYet
+roundsMade g v fuel (suc n) r =
+    then (roundMade g v fuel r)
     (λ y. elim (y .context .changed) [
-      | true ↦ then (roundsMade g v fuel cycled sorted n y) (λ k. ended (counted (suc (k .rounds)) (k .last)))
+      | true ↦ then (roundsMade g v fuel n y) (λ k. ended (counted (suc (k .rounds)) (k .last)))
       | false ↦ ended (counted 1 y)
     ])
 
@@ -201,16 +211,9 @@ runtimeIncluded g v fuel helpers c =
 
 -- IncludeStatements, Returns -------------------------------------------------------------------------------------------------------------
 
--- the graph of the dynamic entries, of which `sccs` have to be the components
-unfoldable pub entryGraph : Graph → ℕ → Ended DiGraphMap
-entryGraph g fuel = fromEntries g fuel (dynamicEntries g) noGraph
-
-unfoldable pub sortedEntries : Graph → List (List ℕ) → List ℕ
-sortedEntries g sccs = sortByKey (λ e. orderFrom 0 sccs (entryIdx g e)) (dynamicEntries g)
-
 -- what follows the loop
-unfoldable pub finished : Graph → List ℕ → ℕ → List (List ℕ) → Counted → Ended Outcome
-finished g v fuel sccs k =
+unfoldable pub finished : Graph → List ℕ → ℕ → Counted → Ended Outcome
+finished g v fuel k =
     then
     (runtimeIncluded g v fuel
     (collectDependedRuntimeHelpers g (k .last .context) (dependedRuntimeHelper g (k .last .context)))
@@ -221,15 +224,14 @@ finished g v fuel sccs k =
       main = k .last .context;
       included = k .last .included;
       dead = k .last .dead;
-      entries = liveEntries g (sortedEntries g sccs) (k .last .included);
+      entries = liveEntries g (sortedEntries g) (k .last .included);
       helpers = dependedRuntimeHelper g (k .last .context);
       context = c;
     }))
 
-unfoldable pub included : Graph → List ℕ → ℕ → List (List ℕ) → Ended Outcome
-included g v fuel sccs =
-    then (usersIncluded g v fuel (userDefinedEntries g) empty)
-    (λ c. then (roundsMade g v fuel (cycledDynamicEntries sccs) (sortedEntries g sccs) fuel (rounding c [] [])) (finished g v fuel sccs))
+unfoldable pub included : Graph → List ℕ → ℕ → Ended Outcome
+included g v fuel =
+    then (usersIncluded g v fuel (userDefinedEntries g) empty) (λ c. then (roundsMade g v fuel fuel (rounding c [] [])) (finished g v fuel))
 
-unfoldable pub executed : Graph → ℕ → List (List ℕ) → Ended Outcome
-executed g fuel sccs = then (settled g fuel) (λ v. then (entryGraph g fuel) (λ d. included g v fuel sccs))
+unfoldable pub executed : Graph → ℕ → Ended Outcome
+executed g fuel = then (settled g fuel) (λ v. included g v fuel)

@@ -1,58 +1,35 @@
--- The Rust returns: on the printed case (examples/printed), and on a graph that takes three rounds (examples/two_rounds), with the outcomes that
--- the Rust has.
-use Prim.Native.Nat.{ℕ, _<_}
-use mathlib.Core.Path.{_≡_, refl, sym, _∙_, subst}
+-- The definitions executed by the prover: the printed case (examples/printed) and a graph that takes three rounds (examples/two_rounds), with the
+-- outcomes that the Rust has. tools/run_definitions.py executes the same text on all recorded answers of the Rust, and compares these two with what is
+-- proved here.
+use Prim.Native.Nat.{ℕ}
+use mathlib.Core.Path.{_≡_, refl}
 use mathlib.Core.Bool.{true, false}
 use mathlib.Core.List.{List, [], _∷_}
-use native.Mathlib.Omega.{arith}
-use Rattle.rows.specs.Walk.{andThen, within, obeys, number, cells, many, elem, firsts, list, plainRow, repeated, distinctRow, lists, item}
-use Rattle.graph_format.specs.Format.{headerOf, namespaceLimit, leastStatements, statementLimit, moduleRules, importLists, exportLists, nameLists, moduleLists, moduleAt, lessModule, modulesAt, kindOf, statementsOf, importRecordsOf, symbolRules, ownersCounts, symbolLists, symbolAt, symbolsAt, dependedAt, memberRules, partsAt, referenceAt, statementLists, statementAt, moduleStatements, statementsAt, relatedModuleAt, relatedImportRecordAt, relatedAt, entryAt, entriesAt}
-use Rattle.graph_tables.specs.Tables.{itemsOf, endOf, headerIn, modulesRead, modulesIn, symbolsRead, symbolsIn, statementsRead, statementsIn, entriesRead, entriesIn}
-use Rattle.graph.specs.Check.{helpersAt, graphIn, Graph}
-use Rattle.graph_access.specs.Names.{kind, effects, exports, moduleType, flags, wrap, wrapper, namespace, reexportCount, scanEffects, scanStatementCount, importRecords, dependencies, namedImports, ownExports, entryReferences, commonJsExportSymbols, resolvedExports, commonJsNamespaces, enumMembers, moduleHelpers, only, importRecordTarget, importRecordKind, importRecordBits, exportName, exportSymbol, exportFromCommonJs, namespaceSymbol, namespaceModule, enumName, enumMember, helperNumber, helperStatement, owner, symbolName, aliasNamespace, aliasName, constantBits, exportChain, declaringStatements, writtenPropertyStatements, statementBits, statementImportRecords, references, referenceKind, referenceSymbol, referenceFlag, propertyCount, firstProperty, dependedOn, entryModule, entryKind, related, relatedModule, relatedStatement, relatedImportRecord, unreachable}
+use Rattle.graph.specs.declared.Checked.the-variants.{Accepted}
+use Rattle.rows.specs.Walk.{andThen, within, obeys, number, cells, many, elem, firsts, list, plainRow, repeated, distinctRow, lists, item, walkOf, onward, columnsOf, rowOf, firstsAt}
+use Rattle.graph_format.specs.Format.{headerRules, headerOf, namespaceLimit, leastStatements, statementLimit, moduleRules, importLists, exportLists, nameLists, moduleLists, moduleAt, lessModule, modulesAt, kindOf, statementsOf, importRecordsOf, symbolRules, ownersCounts, symbolLists, symbolAt, symbolsAt, dependedAt, memberRules, partsAt, referenceAt, statementLists, statementAt, moduleStatements, statementsAt, relatedModuleAt, relatedImportRecordAt, relatedAt, entryAt, entriesAt}
+use Rattle.graph_tables.specs.Tables.{itemsOf, endOf, headerIn, modulesRead, modulesIn, symbolsRead, symbolsIn, statementsRead, statementsIn, entriesRead, entriesIn, firstOf}
+use Rattle.graph.specs.Check.{helpersAt, graphAt, walked, each, runtimeNormal, ownsNamespace, rootIsRoot, laterRules, checkOf, answerOf, graphIn, tailWalk, bodyWalk}
+use Rattle.graph_access.specs.Names.{kind, effects, exports, moduleType, flags, wrap, wrapper, namespace, reexportCount, statementCount, scanEffects, scanStatementCount, importRecords, dependencies, namedImports, ownExports, entryReferences, commonJsExportSymbols, resolvedExports, commonJsNamespaces, enumMembers, moduleHelpers, only, importRecordTarget, importRecordKind, importRecordBits, exportName, exportSymbol, exportFromCommonJs, namespaceSymbol, namespaceModule, enumName, enumMember, helperNumber, helperStatement, owner, symbolName, root, aliasNamespace, aliasName, constantBits, exportChain, declaringStatements, writtenPropertyStatements, statementBits, statementImportRecords, references, referenceKind, referenceSymbol, referenceFlag, propertyCount, firstProperty, dependedOn, entryModule, entryKind, related, relatedModule, relatedStatement, relatedImportRecord, unreachable}
 use Rattle.graph_access.specs.Words.{flag, tabulate, some, moduleOf, symbolOf, statementList, statementOf, normal, option, entryOf, rootOf}
-use Rattle.keep_record.specs.Lines.{elem as elem-keeprecord}
+use Rattle.keep_record.specs.Lines.{numbersOf, written, elem as elem-keep-record, marksOf, marksFrom, has, added, adds}
+use Rattle.entry_order.specs.Order.{those, groupedFrom, grouped, moduleOfEntry, isDynamic, isUserDefined, groupedEntries, dynamicEntries}
+use Rattle.entry_graph.specs.Ordering.{nothing, noEdges, put, putSucc, addEdge, visit, dynamicImport, importRecord, allRecords, construct, fromEntry, fromEntries, entryGraph}
+use Rattle.cycles.specs.Search.{none, with, each as each-cycles, walk, finished}
+use Rattle.cycles.specs.Cycles.{preds, several, groups, cycled}
+use Rattle.dynamic_entries.specs.Sorted.{completion, onCycle, goesFirst, byCompletion, sortedEntries}
 use Rattle.rust_values.specs.Values.{hasPair, optional, get, isEmpty, filter, Pair, pair}
 use Rattle.rust_engine.specs.Context.{newContext, push, rest, setModule, setStatement, insertUsed, insertExternal, insertReason, insertJson, insertBailout, takeBailouts, insertSwept, setDeferred, setChanged, forEach, Context}
 use Rattle.rust_engine.specs.Tables.{hasSideEffects, namespaceRow, importRecordNsToCjsModule, resolvedExport, isModuleNamespace, iterEnumeratedWithoutNamespaceStmt}
 use Rattle.rust_engine.specs.OnDemand.{entryIdxs, userDefinedEntryModuleIdxs, sideEffectsIncludedOnDemand, isGatedSideEffectStmt, insertKeys, keysOf, demandsOf, demandsFrom, computeBodyDemandKeys}
-use Rattle.rust_engine.specs.Engine.{bailoutOf, defaultBailout, checkCjsBailout, pushSymbolAndCheckCjsBailout, enqueueDeclaringStatements, defer, retainForwardingDeclaration, retainForwardingDeclarations, waitingFor, waitingForOthers, drainDeferred, bailEval, hasEffect, sweeps, sweepSideEffectStatements, includeWhole, includeStatementsWithoutTreeshaking, includeDependency, indexSet, includeSideEffectfulDependencies, moduleBody, handleIncludeModule, isBypassedInlinedConstant, sweepBody, drainBodyDemandStmts, aliasTarget, pushExport, includeNamedExport, followCjsNamespaceAlias, noteNamespaceInclusionReason, isSimulatedFacadeChunk, demandWrapper, demandEsmInitialization, noteJsonSelfReference, includePropertyWriteReferencingStmts, symbolBody, handleIncludeSymbol, scanRecord, scanOne, scanImportRecordsForCjsBailout, isInlinedEnumMemberAccess, includeKind, includePlain, includeResolved, includeReference, handleIncludeStatement, handle, drainWorkItems}
-use Rattle.rust_effects.specs.DetermineSideEffects.{hasSideEffects as hasSideEffects-rusteffects, mustInitialize, gatherRecord, gatherRecords, gatherModule, gatherFrom, gathered, pendingBelow, spreadTo, spreadToAll, dependentsOf, recomputed, noneRelaxed}
-use Rattle.rust_order.specs.DynamicEntries.{noGraph, entryIdx, insertNode, addEdge, neighbors, insertVisited, withEdge, cycledDynamicEntries, orderFrom, isLess, insertByKey, sortByKey, unentered}
-use Rattle.rust_run.specs.DynamicEntries.{relatedRecord, allDeadPureDynamicImport, exportsUnused, lived, anyLived, isDynamicEntryAlive}
+use Rattle.rust_engine.specs.Engine.{bailoutOf, defaultBailout, checkCjsBailout, pushSymbolAndCheckCjsBailout, enqueueDeclaringStatements, defer, retainForwardingDeclaration, retainForwardingDeclarations, waitingFor, waitingForOthers, drainDeferred, bailEval, hasEffect, sweeps, sweepSideEffectStatements, includeWhole, includeStatementsWithoutTreeshaking, indexSet, includeDependency, includeSideEffectfulDependencies, moduleBody, handleIncludeModule, isBypassedInlinedConstant, sweepBody, drainBodyDemandStmts, aliasTarget, pushExport, includeNamedExport, followCjsNamespaceAlias, noteNamespaceInclusionReason, isSimulatedFacadeChunk, demandWrapper, demandEsmInitialization, noteJsonSelfReference, includePropertyWriteReferencingStmts, symbolBody, handleIncludeSymbol, scanRecord, scanOne, scanImportRecordsForCjsBailout, isInlinedEnumMemberAccess, includeKind, includePlain, includeResolved, includeReference, handleIncludeStatement, handle, drainWorkItems}
+use Rattle.rust_effects.specs.DetermineSideEffects.{hasSideEffects as hasSideEffects-rust-effects, mustInitialize, gatherRecord, gatherRecords, gatherModule, gatherFrom, gathered, pendingBelow, spreadTo, spreadToAll, dependentsOf, recomputed, noneRelaxed}
+use Rattle.rust_order.specs.DynamicEntries.{entryIdx, insertNode, addEdge as addEdge-rust-order, neighbors, insertVisited, withEdge, enter, complete, cycledDynamicEntries, orderFrom, isLess, insertByKey, sortByKey}
+use Rattle.rust_run.specs.DynamicEntries.{relatedRecord, allDeadPureDynamicImport, exportsUnused, lived, anyLived, isDynamicEntryAlive, isAlive, passes}
 use Rattle.rust_run.specs.Passes.{helperBits, collectDependedRuntimeHelpers}
-use Rattle.rust_run.specs.IncludeStatements.{Outcome, pushEntry, pushEntries, flattened, throughMap, isUserDefined, userDefinedEntries, dynamicEntries, insertIf, liveEntries, statementsNeeding, needsHelper, dependedRuntimeHelper}
-use Rattle.rust_run.proofs.Executed.{then, propagated, spreadFrom, verdictsFrom, determined, recomputes, settled, constructed, fromEntries, drained, referencesIncluded, entryIncluded, usersIncluded, exportsIncluded, bailoutsIncluded, retainedOne, processedOne, processedAll, roundMade, roundsMade, helpersIncluded, runtimeIncluded, entryGraph, sortedEntries, finished, included, executed, ended}
-use Rattle.rust_order.specs.DynamicEntries.{TarjanScc}
-use Rattle.rust_order.specs.DynamicEntries.DepthFirst.{no-more as no-node}
-use Rattle.rust_run.specs.IncludeStatements.{Returns}
-use Rattle.rust_run.proofs.Ending.{same-end}
-use Rattle.rust_run.proofs.Returned.{Components, executed-returns}
-
--- Where the dynamic entries lead to no dynamic import there are no nodes, so no components.
-no-nodes : TarjanScc (neighbors noGraph) [] []
-no-nodes =
-    record {
-      place = λ m h. absurd h;
-      inside = λ m h. absurd h;
-      covers = λ m h. absurd h;
-      of-nodes = λ i m l h. absurd (no-index i l);
-      not-empty = λ i l. absurd (no-index i l);
-      apart = λ i l. absurd (no-index i l);
-      connected = λ i m n l h k. absurd (no-index i l);
-      maximal = λ i j m n l k. absurd (no-index i l);
-      end = unentered;
-      walked = no-node unentered;
-      last = λ j. 0;
-      last-of = λ j l. absurd (no-index j l);
-      numbered = λ i j m l k. absurd (no-index j k);
-    }
-  where
-    no-index : (i : ℕ) → i < 0 → ⊥
-    no-index i l = omega (arith, l)
-
-pub no-components : (g : Graph) (fuel : ℕ) → entryGraph g fuel ≡ ended noGraph → Components g fuel []
-no-components g fuel q d e = subst (λ z. TarjanScc (neighbors z) (z .nodes) []) (same-end noGraph d (sym q ∙ e)) no-nodes
+use Rattle.rust_run.specs.IncludeStatements.{pushEntry, pushEntries, flattened, throughMap, isUserDefined as isUserDefined-rust-run, userDefinedEntries, dynamicEntries as dynamicEntries-rust-run, insertIf, liveEntries, statementsNeeding, needsHelper, dependedRuntimeHelper, Outcome, Returns}
+use Rattle.rust_run.proofs.Executed.{then, propagated, spreadFrom, verdictsFrom, determined, recomputes, settled, constructed, fromEntries as fromEntries-executed, depthFirst, entryGraphMade, sortedBy, drained, referencesIncluded, entryIncluded, usersIncluded, exportsIncluded, bailoutsIncluded, retainedOne, processedOne, processedAll, roundMade, roundsMade, helpersIncluded, runtimeIncluded, finished as finished-executed, included, executed, ended}
+use Rattle.rust_run.proofs.Returned.{executed-returns}
 
 -- The printed case
 abbrev pub caseNumbers : List ℕ
@@ -107,20 +84,18 @@ roundsOutcome =
 
 -- both, executed
 record Executions : Type 0 where
-  pub of-case : executed (graphIn caseNumbers) 20 [] ≡ ended caseOutcome
-  pub case-graph : entryGraph (graphIn caseNumbers) 20 ≡ ended noGraph
-  pub of-rounds : executed (graphIn roundsNumbers) 60 [] ≡ ended roundsOutcome
-  pub rounds-graph : entryGraph (graphIn roundsNumbers) 60 ≡ ended noGraph
+  pub case-accepted : answerOf (checkOf caseNumbers) ≡ Accepted
+  pub of-case : executed (graphIn caseNumbers) 20 ≡ ended caseOutcome
+  pub rounds-accepted : answerOf (checkOf roundsNumbers) ≡ Accepted
+  pub of-rounds : executed (graphIn roundsNumbers) 60 ≡ ended roundsOutcome
 
 executions : Executions
-unfolding andThen within obeys number cells many elem firsts list plainRow repeated distinctRow lists item headerOf namespaceLimit leastStatements statementLimit moduleRules importLists exportLists nameLists moduleLists moduleAt lessModule modulesAt kindOf statementsOf importRecordsOf symbolRules ownersCounts symbolLists symbolAt symbolsAt dependedAt memberRules partsAt referenceAt statementLists statementAt moduleStatements statementsAt relatedModuleAt relatedImportRecordAt relatedAt entryAt entriesAt itemsOf endOf headerIn modulesRead modulesIn symbolsRead symbolsIn statementsRead statementsIn entriesRead entriesIn helpersAt graphIn kind effects exports moduleType flags wrap wrapper namespace reexportCount scanEffects scanStatementCount importRecords dependencies namedImports ownExports entryReferences commonJsExportSymbols resolvedExports commonJsNamespaces enumMembers moduleHelpers only importRecordTarget importRecordKind importRecordBits exportName exportSymbol exportFromCommonJs namespaceSymbol namespaceModule enumName enumMember helperNumber helperStatement owner symbolName aliasNamespace aliasName constantBits exportChain declaringStatements writtenPropertyStatements statementBits statementImportRecords references referenceKind referenceSymbol referenceFlag propertyCount firstProperty dependedOn entryModule entryKind related relatedModule relatedStatement relatedImportRecord unreachable flag tabulate some moduleOf symbolOf statementList statementOf normal option entryOf rootOf elem-keeprecord hasPair optional get isEmpty filter newContext push rest setModule setStatement insertUsed insertExternal insertReason insertJson insertBailout takeBailouts insertSwept setDeferred setChanged forEach hasSideEffects namespaceRow importRecordNsToCjsModule resolvedExport isModuleNamespace iterEnumeratedWithoutNamespaceStmt entryIdxs userDefinedEntryModuleIdxs sideEffectsIncludedOnDemand isGatedSideEffectStmt insertKeys keysOf demandsOf demandsFrom computeBodyDemandKeys bailoutOf defaultBailout checkCjsBailout pushSymbolAndCheckCjsBailout enqueueDeclaringStatements defer retainForwardingDeclaration retainForwardingDeclarations waitingFor waitingForOthers drainDeferred bailEval hasEffect sweeps sweepSideEffectStatements includeWhole includeStatementsWithoutTreeshaking includeDependency indexSet includeSideEffectfulDependencies moduleBody handleIncludeModule isBypassedInlinedConstant sweepBody drainBodyDemandStmts aliasTarget pushExport includeNamedExport followCjsNamespaceAlias noteNamespaceInclusionReason isSimulatedFacadeChunk demandWrapper demandEsmInitialization noteJsonSelfReference includePropertyWriteReferencingStmts symbolBody handleIncludeSymbol scanRecord scanOne scanImportRecordsForCjsBailout isInlinedEnumMemberAccess includeKind includePlain includeResolved includeReference handleIncludeStatement handle drainWorkItems hasSideEffects-rusteffects mustInitialize gatherRecord gatherRecords gatherModule gatherFrom gathered pendingBelow spreadTo spreadToAll dependentsOf recomputed noneRelaxed entryIdx insertNode addEdge insertVisited withEdge cycledDynamicEntries orderFrom isLess insertByKey sortByKey relatedRecord allDeadPureDynamicImport exportsUnused lived anyLived isDynamicEntryAlive helperBits collectDependedRuntimeHelpers pushEntry pushEntries flattened throughMap isUserDefined userDefinedEntries dynamicEntries insertIf liveEntries statementsNeeding needsHelper dependedRuntimeHelper then propagated spreadFrom verdictsFrom determined recomputes settled constructed fromEntries drained referencesIncluded entryIncluded usersIncluded exportsIncluded bailoutsIncluded retainedOne processedOne processedAll roundMade roundsMade helpersIncluded runtimeIncluded entryGraph sortedEntries finished included executed
-executions = record { of-case = refl; case-graph = refl; of-rounds = refl; rounds-graph = refl }
+unfolding userDefinedEntries userDefinedEntryModuleIdxs andThen within obeys number cells many elem firsts list plainRow repeated distinctRow lists item walkOf onward columnsOf rowOf firstsAt headerRules headerOf namespaceLimit leastStatements statementLimit moduleRules importLists exportLists nameLists moduleLists moduleAt lessModule modulesAt kindOf statementsOf importRecordsOf symbolRules ownersCounts symbolLists symbolAt symbolsAt dependedAt memberRules partsAt referenceAt statementLists statementAt moduleStatements statementsAt relatedModuleAt relatedImportRecordAt relatedAt entryAt entriesAt itemsOf endOf headerIn modulesRead modulesIn symbolsRead symbolsIn statementsRead statementsIn entriesRead entriesIn firstOf helpersAt graphAt walked each runtimeNormal ownsNamespace rootIsRoot laterRules checkOf answerOf graphIn tailWalk bodyWalk kind effects exports moduleType flags wrap wrapper namespace reexportCount statementCount scanEffects scanStatementCount importRecords dependencies namedImports ownExports entryReferences commonJsExportSymbols resolvedExports commonJsNamespaces enumMembers moduleHelpers only importRecordTarget importRecordKind importRecordBits exportName exportSymbol exportFromCommonJs namespaceSymbol namespaceModule enumName enumMember helperNumber helperStatement owner symbolName root aliasNamespace aliasName constantBits exportChain declaringStatements writtenPropertyStatements statementBits statementImportRecords references referenceKind referenceSymbol referenceFlag propertyCount firstProperty dependedOn entryModule entryKind related relatedModule relatedStatement relatedImportRecord unreachable flag tabulate some moduleOf symbolOf statementList statementOf normal option entryOf rootOf numbersOf written elem-keep-record marksOf marksFrom has added adds those groupedFrom grouped moduleOfEntry isDynamic isUserDefined groupedEntries dynamicEntries nothing noEdges put putSucc addEdge visit dynamicImport importRecord allRecords construct fromEntry fromEntries entryGraph none with each-cycles walk finished preds several groups cycled completion onCycle goesFirst byCompletion sortedEntries hasPair optional get isEmpty filter newContext push rest setModule setStatement insertUsed insertExternal insertReason insertJson insertBailout takeBailouts insertSwept setDeferred setChanged forEach hasSideEffects namespaceRow importRecordNsToCjsModule resolvedExport isModuleNamespace iterEnumeratedWithoutNamespaceStmt entryIdxs sideEffectsIncludedOnDemand isGatedSideEffectStmt insertKeys keysOf demandsOf demandsFrom computeBodyDemandKeys bailoutOf defaultBailout checkCjsBailout pushSymbolAndCheckCjsBailout enqueueDeclaringStatements defer retainForwardingDeclaration retainForwardingDeclarations waitingFor waitingForOthers drainDeferred bailEval hasEffect sweeps sweepSideEffectStatements includeWhole includeStatementsWithoutTreeshaking indexSet includeDependency includeSideEffectfulDependencies moduleBody handleIncludeModule isBypassedInlinedConstant sweepBody drainBodyDemandStmts aliasTarget pushExport includeNamedExport followCjsNamespaceAlias noteNamespaceInclusionReason isSimulatedFacadeChunk demandWrapper demandEsmInitialization noteJsonSelfReference includePropertyWriteReferencingStmts symbolBody handleIncludeSymbol scanRecord scanOne scanImportRecordsForCjsBailout isInlinedEnumMemberAccess includeKind includePlain includeResolved includeReference handleIncludeStatement handle drainWorkItems hasSideEffects-rust-effects mustInitialize gatherRecord gatherRecords gatherModule gatherFrom gathered pendingBelow spreadTo spreadToAll dependentsOf recomputed noneRelaxed entryIdx insertNode addEdge-rust-order neighbors insertVisited withEdge enter complete cycledDynamicEntries orderFrom isLess insertByKey sortByKey relatedRecord allDeadPureDynamicImport exportsUnused lived anyLived isDynamicEntryAlive isAlive passes helperBits collectDependedRuntimeHelpers pushEntry pushEntries flattened throughMap isUserDefined-rust-run dynamicEntries-rust-run insertIf liveEntries statementsNeeding needsHelper dependedRuntimeHelper then propagated spreadFrom verdictsFrom determined recomputes settled constructed fromEntries-executed depthFirst entryGraphMade sortedBy drained referencesIncluded entryIncluded usersIncluded exportsIncluded bailoutsIncluded retainedOne processedOne processedAll roundMade roundsMade helpersIncluded runtimeIncluded finished-executed included executed
+executions = record { case-accepted = refl; of-case = refl; rounds-accepted = refl; of-rounds = refl }
 
 -- so the relation has them
 pub case-returns : Returns (graphIn caseNumbers) caseOutcome
-case-returns =
-    executed-returns (graphIn caseNumbers) 20 [] caseOutcome (executions .of-case) (no-components (graphIn caseNumbers) 20 (executions .case-graph))
+case-returns = executed-returns caseNumbers (executions .case-accepted) 20 caseOutcome (executions .of-case)
 
 pub rounds-returns : Returns (graphIn roundsNumbers) roundsOutcome
-rounds-returns =
-    executed-returns (graphIn roundsNumbers) 60 [] roundsOutcome (executions .of-rounds) (no-components (graphIn roundsNumbers) 60 (executions .rounds-graph))
+rounds-returns = executed-returns roundsNumbers (executions .rounds-accepted) 60 roundsOutcome (executions .of-rounds)

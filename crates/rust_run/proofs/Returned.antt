@@ -1,20 +1,25 @@
--- What the executed functions give, the relations have, up to the whole: `include_statements` after 002, if petgraph's components are right.
+-- What the executed functions give, the relations have, up to the whole: `include_statements` after 002, for accepted numbers.
 use Prim.Native.Nat.{ℕ, zero, suc}
 use mathlib.Core.Path.{_≡_, refl, ap, sym, subst}
 use mathlib.Core.Bool.{Bool, true, false, _||_}
 use mathlib.Core.List.{List, [], _∷_, _++_}
 use lib.Dec.{eqb}
 use lib.ListN.{getD}
-use Rattle.graph.specs.Check.{Graph}
+use Rattle.graph.specs.declared.Checked.the-variants.{Accepted}
+use Rattle.graph.specs.Check.{Graph, graphIn, checkOf, answerOf}
 use Rattle.graph_access.specs.Names.{entryReferences, resolvedExports, exportSymbol, exportFromCommonJs, only}
 use Rattle.graph_access.specs.Words.{flag, tabulate, moduleOf, normal}
 use Rattle.keep_record.specs.Lines.{elem}
+use Rattle.entry_order.specs.Order.{dynamicEntries as entriesOf}
+use Rattle.dynamic_entries.specs.Sorted.{onCycle, sortedEntries}
 use Rattle.rust_values.specs.Values.{Pair, filter}
 use Rattle.rust_effects.specs.DetermineSideEffects.{SideEffects}
 use Rattle.rust_engine.specs.Context.{Context, empty, newContext, ModuleItem, SymbolItem, push, insertBailout, takeBailouts, setChanged}
 use Rattle.rust_engine.specs.Tables.{ownerOf, hasSideEffects}
 use Rattle.rust_engine.specs.Engine.{enqueueDeclaringStatements, pushSymbolAndCheckCjsBailout}
-use Rattle.rust_order.specs.DynamicEntries.{entryIdx, DiGraphMap, neighbors, noGraph, TarjanScc, cycledDynamicEntries, SortDynamicEntriesByTopologicalOrder}
+use Rattle.rust_order.specs.DynamicEntries.{entryIdx, SortDynamicEntriesByTopologicalOrder}
+use Rattle.rust_order.proofs.SameOrder.{rust-order}
+use Rattle.rust_order.proofs.Exists.{rust-order-exists}
 use Rattle.rust_run.specs.DynamicEntries.{References, IncludesEntry, Unused, alive, unused, isDynamicEntryAlive, isAlive, passes, ProcessAndRetainDynamicEntry}
 use Rattle.rust_run.specs.DynamicEntries.References.{no-more as no-reference, of-external as of-external-symbol, of-normal as of-normal-symbol}
 use Rattle.rust_run.specs.DynamicEntries.ProcessAndRetainDynamicEntry.{is-dead, is-external, includes as includes-it}
@@ -25,10 +30,10 @@ use Rattle.rust_run.specs.Passes.IncludesHelpers.{no-more as no-more-hel
 use Rattle.rust_run.specs.IncludeStatements.{userDefinedEntries, dynamicEntries, IncludesUserDefined, Rounding, rounding, insertIf, ProcessesDynamic, Round, Rounds, breaks, goes-on, liveEntries, dependedRuntimeHelper, Outcome, IncludeStatements, Returns}
 use Rattle.rust_run.specs.IncludeStatements.IncludesUserDefined.{no-more as no-user, of-external as of-external-entry, of-normal as of-normal-entry}
 use Rattle.rust_run.specs.IncludeStatements.ProcessesDynamic.{no-more as no-dynamic, was-included, processes}
-use Rattle.rust_run.proofs.Executed.{Ended, notYet, ended, then, settled, drained, referencesIncluded, entryIncluded, usersIncluded, exportsIncluded, bailoutsIncluded, Processed, processed, retainedOne, processedOne, processedAll, roundMade, Counted, counted, roundsMade, helpersIncluded, runtimeIncluded, entryGraph, sortedEntries, finished, included, executed}
+use Rattle.rust_run.proofs.Executed.{Ended, notYet, ended, then, settled, drained, referencesIncluded, entryIncluded, usersIncluded, exportsIncluded, bailoutsIncluded, Processed, processed, retainedOne, processedOne, processedAll, roundMade, Counted, counted, roundsMade, helpersIncluded, runtimeIncluded, finished, included, executed}
 use Rattle.rust_run.proofs.Ending.{never-ends, same-end, through, drained-returns}
 use Rattle.rust_run.proofs.Settled.{settled-returns}
-use Rattle.rust_run.proofs.Walked.{fromEntries-returns}
+use Rattle.rust_run.proofs.Grouping.{dynamics-same}
 
 -- Entries --------------------------------------------------------------------------------------------------------------------------------
 
@@ -127,10 +132,14 @@ retained-returns g v fuel cycled x c dead p passed e = whether (normal g (entryI
         (includes-it (t .middle) passed n (entry-returns g v fuel (entryIdx g x) c (t .middle) (t .first)))
     whether false n r = subst (λ z. Processes g v cycled x c dead z) (same-end (processed c dead true) p r) (is-external passed n)
 
-processed-returns : (g : Graph) (v : List ℕ) (fuel : ℕ) (cycled : List ℕ) (x : ℕ) (c : Context) (dead : List Pair) (p : Processed)
-    → processedOne g v fuel cycled x c dead ≡ ended p → Processes g v cycled x c dead p
+-- where the modules on cycles are those of the run
+abbrev Cycled : Graph → List ℕ → Type 0
+Cycled g cycled = (m : ℕ) → elem m cycled ≡ onCycle g m
+
+processed-returns : (g : Graph) (v : List ℕ) (fuel : ℕ) (cycled : List ℕ) → Cycled g cycled → (x : ℕ) (c : Context) (dead : List Pair) (p : Processed)
+    → processedOne g v fuel x c dead ≡ ended p → Processes g v cycled x c dead p
 unfolding processedOne passes isAlive
-processed-returns g v fuel cycled x c dead p e = whether (elem (entryIdx g x) cycled) refl e
+processed-returns g v fuel cycled same x c dead p e = whether (onCycle g (entryIdx g x)) (same (entryIdx g x)) e
   where
     tried : elem (entryIdx g x) cycled ≡ false → (u : Unused) → isDynamicEntryAlive g v c x ≡ u
         → (elim u [ alive ↦ retainedOne g v fuel x c dead | unused ret ↦ ended (processed c (dead ++ ret) false) ]) ≡ ended p → Processes g v cycled x c dead p
@@ -145,36 +154,36 @@ processed-returns g v fuel cycled x c dead p e = whether (elem (entryIdx g x) cy
     whether true o r = retained-returns g v fuel cycled x c dead p (rw (o) refl) r
     whether false o r = tried o (isDynamicEntryAlive g v c x) refl r
 
-all-return : (g : Graph) (v : List ℕ) (fuel : ℕ) (cycled es : List ℕ) (r z : Rounding) → processedAll g v fuel cycled es r ≡ ended z
+all-return : (g : Graph) (v : List ℕ) (fuel : ℕ) (cycled : List ℕ) → Cycled g cycled → (es : List ℕ) (r z : Rounding) → processedAll g v fuel es r ≡ ended z
     → ProcessesDynamic g v cycled es r z
 unfolding processedAll
-all-return g v fuel cycled [] r z e = subst (λ y. ProcessesDynamic g v cycled [] r y) (same-end r z e) (no-dynamic r)
-all-return g v fuel cycled (x ∷ es) r z e = whether (elem (entryIdx g x) (r .included)) refl e (λ y q. all-return g v fuel cycled es y z q)
+all-return g v fuel cycled same [] r z e = subst (λ y. ProcessesDynamic g v cycled [] r y) (same-end r z e) (no-dynamic r)
+all-return g v fuel cycled same (x ∷ es) r z e = whether (elem (entryIdx g x) (r .included)) refl e (λ y q. all-return g v fuel cycled same es y z q)
   where
     after : Processed → Rounding
     after p = rounding (p .context) (insertIf (p .retained) (entryIdx g x) (r .included)) (p .dead)
 
     whether : (b : Bool) → elem (entryIdx g x) (r .included) ≡ b
         → (elim b [
-          | true ↦ processedAll g v fuel cycled es r
-          | false ↦ then (processedOne g v fuel cycled x (r .context) (r .dead)) (λ p. processedAll g v fuel cycled es (after p))
-        ]) ≡ ended z → ((y : Rounding) → processedAll g v fuel cycled es y ≡ ended z → ProcessesDynamic g v cycled es y z)
+          | true ↦ processedAll g v fuel es r
+          | false ↦ then (processedOne g v fuel x (r .context) (r .dead)) (λ p. processedAll g v fuel es (after p))
+        ]) ≡ ended z → ((y : Rounding) → processedAll g v fuel es y ≡ ended z → ProcessesDynamic g v cycled es y z)
         → ProcessesDynamic g v cycled (x ∷ es) r z
     whether true h q more = was-included x es r z h (more r q)
     whether false h q more =
-        let t = through (processedOne g v fuel cycled x (r .context) (r .dead)) (λ p. processedAll g v fuel cycled es (after p)) z q in
+        let t = through (processedOne g v fuel x (r .context) (r .dead)) (λ p. processedAll g v fuel es (after p)) z q in
         processes x es r z (t .middle .context) (t .middle .dead) (t .middle .retained) h
-        (processed-returns g v fuel cycled x (r .context) (r .dead) (t .middle) (t .first)) (more (after (t .middle)) (t .second))
+        (processed-returns g v fuel cycled same x (r .context) (r .dead) (t .middle) (t .first)) (more (after (t .middle)) (t .second))
 
 -- Rounds ---------------------------------------------------------------------------------------------------------------------------------
 
-round-returns : (g : Graph) (v : List ℕ) (fuel : ℕ) (cycled sorted : List ℕ) (r z : Rounding) → roundMade g v fuel cycled sorted r ≡ ended z
-    → Round g v cycled sorted r z
+round-returns : (g : Graph) (v : List ℕ) (fuel : ℕ) (cycled : List ℕ) → Cycled g cycled → (r z : Rounding) → roundMade g v fuel r ≡ ended z
+    → Round g v cycled (sortedEntries g) r z
 unfolding roundMade
-round-returns g v fuel cycled sorted r z e =
+round-returns g v fuel cycled same r z e =
     let begun : Context = takeBailouts (setChanged false (r .context)) in
     let t = through (bailoutsIncluded g v fuel (r .context .bailouts) begun)
-    (λ c. processedAll g v fuel cycled sorted (rounding c (r .included) (r .dead))) z e in
+    (λ c. processedAll g v fuel (sortedEntries g) (rounding c (r .included) (r .dead))) z e in
     record {
       context = t .middle;
       includes =
@@ -183,38 +192,37 @@ round-returns g v fuel cycled sorted r z e =
             same = record { from = λ x h. h; back = λ x h. h };
             includes = bailouts-return g v fuel (r .context .bailouts) begun (t .middle) (t .first);
           };
-      processes = all-return g v fuel cycled sorted (rounding (t .middle) (r .included) (r .dead)) z (t .second);
+      processes = all-return g v fuel cycled same (sortedEntries g) (rounding (t .middle) (r .included) (r .dead)) z (t .second);
     }
 
-rounds-return : (g : Graph) (v : List ℕ) (fuel : ℕ) (cycled sorted : List ℕ) (n : ℕ) (r : Rounding) (k : Counted)
-    → roundsMade g v fuel cycled sorted n r ≡ ended k
-    → Rounds g v cycled sorted (k .rounds) r (k .last)
+rounds-return : (g : Graph) (v : List ℕ) (fuel : ℕ) (cycled : List ℕ) → Cycled g cycled → (n : ℕ) (r : Rounding) (k : Counted)
+    → roundsMade g v fuel n r ≡ ended k → Rounds g v cycled (sortedEntries g) (k .rounds) r (k .last)
 unfolding roundsMade
-rounds-return g v fuel cycled sorted zero r k e = absurd (never-ends k e)
-rounds-return g v fuel cycled sorted (suc n) r k e =
-    let t = through (roundMade g v fuel cycled sorted r) judged k e in
-    whether (t .middle) (round-returns g v fuel cycled sorted r (t .middle) (t .first)) (t .middle .context .changed) refl (t .second)
-    (λ y j q. rounds-return g v fuel cycled sorted n y j q)
+rounds-return g v fuel cycled same zero r k e = absurd (never-ends k e)
+rounds-return g v fuel cycled same (suc n) r k e =
+    let t = through (roundMade g v fuel r) judged k e in
+    whether (t .middle) (round-returns g v fuel cycled same r (t .middle) (t .first)) (t .middle .context .changed) refl (t .second)
+    (λ y j q. rounds-return g v fuel cycled same n y j q)
   where
     judged : Rounding → Ended Counted
     judged y =
         elim (y .context .changed) [
-          | true ↦ then (roundsMade g v fuel cycled sorted n y) (λ j. ended (counted (suc (j .rounds)) (j .last)))
+          | true ↦ then (roundsMade g v fuel n y) (λ j. ended (counted (suc (j .rounds)) (j .last)))
           | false ↦ ended (counted 1 y)
         ]
 
-    whether : (y : Rounding) → Round g v cycled sorted r y → (b : Bool) → y .context .changed ≡ b
+    whether : (y : Rounding) → Round g v cycled (sortedEntries g) r y → (b : Bool) → y .context .changed ≡ b
         → (elim b [
-          | true ↦ then (roundsMade g v fuel cycled sorted n y) (λ j. ended (counted (suc (j .rounds)) (j .last)))
+          | true ↦ then (roundsMade g v fuel n y) (λ j. ended (counted (suc (j .rounds)) (j .last)))
           | false ↦ ended (counted 1 y)
         ]) ≡ ended k
-        → ((y : Rounding) (j : Counted) → roundsMade g v fuel cycled sorted n y ≡ ended j → Rounds g v cycled sorted (j .rounds) y (j .last))
-        → Rounds g v cycled sorted (k .rounds) r (k .last)
+        → ((y : Rounding) (j : Counted) → roundsMade g v fuel n y ≡ ended j → Rounds g v cycled (sortedEntries g) (j .rounds) y (j .last))
+        → Rounds g v cycled (sortedEntries g) (k .rounds) r (k .last)
     whether y made true h q more =
-        let t = through (roundsMade g v fuel cycled sorted n y) (λ j. ended (counted (suc (j .rounds)) (j .last))) k q in
-        subst (λ j. Rounds g v cycled sorted (j .rounds) r (j .last)) (same-end (counted (suc (t .middle .rounds)) (t .middle .last)) k (t .second))
+        let t = through (roundsMade g v fuel n y) (λ j. ended (counted (suc (j .rounds)) (j .last))) k q in
+        subst (λ j. Rounds g v cycled (sortedEntries g) (j .rounds) r (j .last)) (same-end (counted (suc (t .middle .rounds)) (t .middle .last)) k (t .second))
         (goes-on (t .middle .rounds) r y (t .middle .last) made h (more y (t .middle) (t .first)))
-    whether y made false h q more = subst (λ j. Rounds g v cycled sorted (j .rounds) r (j .last)) (same-end (counted 1 y) k q) (breaks r y made h)
+    whether y made false h q more = subst (λ j. Rounds g v cycled (sortedEntries g) (j .rounds) r (j .last)) (same-end (counted 1 y) k q) (breaks r y made h)
 
 -- The runtime ----------------------------------------------------------------------------------------------------------------------------
 
@@ -248,16 +256,19 @@ runtime-returns g v fuel helpers c d e = whether (eqb helpers 0) refl e
 
 -- The whole ------------------------------------------------------------------------------------------------------------------------------
 
--- sccs are the components of the entries' graph
-abbrev pub Components : Graph → ℕ → List (List ℕ) → Type 0
-Components g fuel sccs = (d : DiGraphMap) → entryGraph g fuel ≡ ended d → TarjanScc (neighbors d) (d .nodes) sccs
+-- the modules on cycles, the entries as the run sorts them, and the context with the user-defined entries
+record Begun (g : Graph) (v : List ℕ) : Type 0 where
+  cycled : List ℕ
+  same : Cycled g cycled
+  sorts : SortDynamicEntriesByTopologicalOrder g (dynamicEntries g) (sortedEntries g) cycled
+  users : Context
+  includes-users : IncludesUserDefined g v (userDefinedEntries g) empty users
 
-finished-returns : (g : Graph) (v : List ℕ) (fuel : ℕ) (sccs : List (List ℕ)) (users : Context) (d : DiGraphMap) (k : Counted) (o : Outcome)
-    → IncludesUserDefined g v (userDefinedEntries g) empty users → entryGraph g fuel ≡ ended d → TarjanScc (neighbors d) (d .nodes) sccs
-    → Rounds g v (cycledDynamicEntries sccs) (sortedEntries g sccs) (k .rounds) (rounding users [] []) (k .last) → finished g v fuel sccs k ≡ ended o
+finished-returns : (g : Graph) (v : List ℕ) (fuel : ℕ) (b : Begun g v) (k : Counted) (o : Outcome)
+    → Rounds g v (b .cycled) (sortedEntries g) (k .rounds) (rounding (b .users) [] []) (k .last) → finished g v fuel k ≡ ended o
     → (o .verdicts ≡ v) × IncludeStatements g v o
-unfolding finished entryGraph sortedEntries
-finished-returns g v fuel sccs users d k o users-in walked components made e =
+unfolding finished
+finished-returns g v fuel b k o made e =
     let main : Context = k .last .context in
     let outcome : Context → Outcome =
     λ c. record {
@@ -266,7 +277,7 @@ finished-returns g v fuel sccs users d k o users-in walked components made e =
       main = main;
       included = k .last .included;
       dead = k .last .dead;
-      entries = liveEntries g (sortedEntries g sccs) (k .last .included);
+      entries = liveEntries g (sortedEntries g) (k .last .included);
       helpers = dependedRuntimeHelper g main;
       context = c;
     } in
@@ -275,19 +286,11 @@ finished-returns g v fuel sccs users d k o users-in walked components made e =
     subst (λ z. (z .verdicts ≡ v) × IncludeStatements g v z) (same-end (outcome (t .middle)) o (t .second)) (
       refl,
       record {
-        users = users;
-        cycled = cycledDynamicEntries sccs;
-        sorted = sortedEntries g sccs;
-        includes-users = users-in;
-        sorts =
-            record {
-              graph = d;
-              sccs = sccs;
-              constructed = fromEntries-returns g fuel (dynamicEntries g) noGraph d walked;
-              components = components;
-              cycled-are = refl;
-              sorted-are = refl;
-            };
+        users = b .users;
+        cycled = b .cycled;
+        sorted = sortedEntries g;
+        includes-users = b .includes-users;
+        sorts = b .sorts;
         makes-rounds = made;
         entries-are = refl;
         helpers-are = refl;
@@ -296,26 +299,30 @@ finished-returns g v fuel sccs users d k o users-in walked components made e =
       },
     )
 
-included-returns : (g : Graph) (v : List ℕ) (fuel : ℕ) (sccs : List (List ℕ)) (d : DiGraphMap) (o : Outcome) → entryGraph g fuel ≡ ended d
-    → TarjanScc (neighbors d) (d .nodes) sccs
-    → included g v fuel sccs ≡ ended o → (o .verdicts ≡ v) × IncludeStatements g v o
-unfolding included
-included-returns g v fuel sccs d o walked components e =
-    let cycled : List ℕ = cycledDynamicEntries sccs in
-    let sorted : List ℕ = sortedEntries g sccs in
-    let s = through (usersIncluded g v fuel (userDefinedEntries g) empty)
-    (λ c. then (roundsMade g v fuel cycled sorted fuel (rounding c [] [])) (finished g v fuel sccs)) o e in
-    let t = through (roundsMade g v fuel cycled sorted fuel (rounding (s .middle) [] [])) (finished g v fuel sccs) o (s .second) in
-    finished-returns g v fuel sccs (s .middle) d (t .middle) o (users-return g v fuel (userDefinedEntries g) empty (s .middle) (s .first)) walked components
-    (rounds-return g v fuel cycled sorted fuel (rounding (s .middle) [] []) (t .middle) (t .first)) (t .second)
-
-pub executed-returns : (g : Graph) (fuel : ℕ) (sccs : List (List ℕ)) (o : Outcome) → executed g fuel sccs ≡ ended o → Components g fuel sccs → Returns g o
-unfolding executed
-executed-returns g fuel sccs o e components =
-    let s = through (settled g fuel) (λ v. then (entryGraph g fuel) (λ d. included g v fuel sccs)) o e in
-    let t = through (entryGraph g fuel) (λ d. included g (s .middle) fuel sccs) o (s .second) in
-    let r = included-returns g (s .middle) fuel sccs (t .middle) o (t .first) (components (t .middle) (t .first)) (t .second) in
+-- of accepted numbers: components that are right are there, and by all of them the entries are sorted so
+pub executed-returns : (numbers : List ℕ) → answerOf (checkOf numbers) ≡ Accepted → (fuel : ℕ) (o : Outcome) → executed (graphIn numbers) fuel ≡ ended o
+    → Returns (graphIn numbers) o
+unfolding executed included
+executed-returns numbers ok fuel o e =
+    let s = through (settled g fuel) (λ v. included g v fuel) o e in
+    let v = s .middle in
+    let t = through (usersIncluded g v fuel (userDefinedEntries g) empty) (λ c. then (roundsMade g v fuel fuel (rounding c [] [])) (finished g v fuel)) o (s .second) in
+    let u = through (roundsMade g v fuel fuel (rounding (t .middle) [] [])) (finished g v fuel) o (t .second) in
+    let b : Begun g v = record {
+      cycled = order .0;
+      same = rust-order numbers ok (sortedEntries g) (order .0) (order .1) .1;
+      sorts = subst (λ (l : List ℕ). SortDynamicEntriesByTopologicalOrder g l (sortedEntries g) (order .0)) (sym (dynamics-same numbers ok)) (order .1);
+      users = t .middle;
+      includes-users = users-return g v fuel (userDefinedEntries g) empty (t .middle) (t .first);
+    } in
+    let r = finished-returns g v fuel b (u .middle) o (rounds-return g v fuel (b .cycled) (b .same) fuel (rounding (t .middle) [] []) (u .middle) (u .first)) (u .second) in
     record {
-      side-effects = subst (λ w. SideEffects g w) (sym (r .0)) (settled-returns g fuel (s .middle) (s .first));
+      side-effects = subst (λ w. SideEffects g w) (sym (r .0)) (settled-returns g fuel v (s .first));
       include-statements = subst (λ w. IncludeStatements g w o) (sym (r .0)) (r .1);
     }
+  where
+    g : Graph
+    g = graphIn numbers
+
+    order : (cycled : List ℕ) × SortDynamicEntriesByTopologicalOrder (graphIn numbers) (entriesOf (graphIn numbers)) (sortedEntries (graphIn numbers)) cycled
+    order = rust-order-exists numbers ok
