@@ -21,8 +21,7 @@ use Rattle.keep_record.specs.Lines.{has, added, adds}
 use Rattle.worklist.specs.Drain.{line, factAt, followed, joined, isForwardOf, isTheModule, forwardsTo, isModule, joinsAll, moduleLine, nameOf, joinedTo, joins, news, drained, started, drainedAll, drainOf}
 use Rattle.rule_relation.specs.Relation.{Gives, Joins, K1}
 use Rattle.rule_relation.specs.Relation.{K2-effect, K2-eval, K2-unforced, K2-forced, K3-effects, K3-whole, K4, K5, K6, K7, K8-forward, K8-use, K8-depended, K8-target, K8-member, K9-use, K9-namespace, K9-own, K9-default, K10, K11, K12-use, K12-forward, K13-statement, K13-module, K14}
-use Rattle.rule_relation.specs.Same.{given}
-use Rattle.rule_relation.proofs.Exactly.{gives-exactly}
+use Rattle.rule_relation.specs.Same.{given, Listed}
 use Rattle.closed_choices.proofs.Every.{Every, every-append, every-at, every-by, every-map, every-tabulate}
 use Rattle.closed_choices.proofs.Handling.{noLine, fact-front}
 use Rattle.closed_choices.proofs.Reaching.{forward-there, module-there}
@@ -65,13 +64,13 @@ pub record Among (starts : List Fact) (f : Fact) : Type 0 where
 pub all-among : (starts : List Fact) → Every (Among starts) starts
 all-among starts = every-by (Among starts) starts (moduleFact 0) (λ k u. record { number = k; inside = u; is = refl })
 
--- a line is one of the starts, or follows from lines that are among the first n
+-- a line is one of the starts, or follows, by K1 or by a list of consequences, from lines that are among the first n
 module _ (g : Graph) (v : List ℕ) (starts : List Fact) where
   pub data Stands (lines : List Line) (n : ℕ) : Line → Type 0 where
     as-start : (f : Fact) → Among starts f → Stands lines n (line f 0 0 0)
     by-module : (f : Fact) (a b : ℕ) → a < n → b < n → Joins g (factAt lines a) (factAt lines b) f → Stands lines n (line f 1 (a + 1) (b + 1))
     by-forward : (f : Fact) (a b : ℕ) → a < n → b < n → Joins g (factAt lines b) (factAt lines a) f → Stands lines n (line f 1 (a + 1) (b + 1))
-    by-one : (f : Fact) (r a : ℕ) → a < n → Gives g v r (factAt lines a) f → Stands lines n (line f r (a + 1) 0)
+    by-one : (f : Fact) (r a : ℕ) → a < n → Listed r f (gives g v (factAt lines a)) → Stands lines n (line f r (a + 1) 0)
 
   -- all lines do
   abbrev pub AllStand : List Line → Type 0
@@ -212,7 +211,7 @@ module _ (g : Graph) (v : List ℕ) (starts : List Fact) where
     unfolding followed
     followed-stand =
         every-map Right (λ x. line (x .fact) (x .rule) (k + 1) 0) (given 0 (moduleFact 0)) (gives g v (factAt lines k))
-        (λ i l. by-one _ _ k u (gives-exactly g v _ (factAt lines k) _ .0 (record { number = i; inside = l; is = refl })))
+        (λ i l. by-one _ _ k u (record { number = i; inside = l; is = refl }))
 
     news-stand : Every Right (news g v 0 lines k)
     unfolding news

@@ -11,6 +11,7 @@ use Rattle.determine_side_effects.specs.Effects.{lastVerdicts}
 use Rattle.facts.specs.declared.Fact.{Fact}
 use Rattle.facts.specs.declared.Fact.the-variants.{Module, Statement, Use, CheckedUse, Forward, Bailout}
 use Rattle.facts.specs.Facts.{moduleFact, kindOf, secondPart, Good}
+use Rattle.keep_rules.specs.Rules.{gives}
 use Rattle.keep_record.specs.declared.Line.{Line}
 use Rattle.keep_record.specs.Lines.{written, marksFrom}
 use Rattle.keep_record.specs.Held.{Distinct}
@@ -20,17 +21,22 @@ use Rattle.worklist.specs.Drain.{factAt, drainOf}
 use Rattle.starts.specs.Starts.{startsOf, StartsGood}
 use Rattle.starts.proofs.Starting.{starts-good, good-checked}
 use Rattle.drain_parts.specs.Operation.{Rooms, done, outcomeOf, recordAfter}
-use Rattle.closed_choices.specs.Choice.{Smallest, HasLine}
+use Rattle.rule_relation.specs.Relation.{Gives}
+use Rattle.rule_relation.specs.Same.{Listed}
+use Rattle.rule_relation.proofs.Exactly.{gives-exactly}
+use Rattle.closed_choices.specs.Choice.{HasLine}
 use Rattle.closed_choices.proofs.Accepting.{accepted-tabled}
 use Rattle.closed_choices.proofs.Every.{Every, every-at, every-by}
 use Rattle.closed_choices.proofs.Handling.{noLine}
 use Rattle.closed_choices.proofs.Smallest.{drain-smallest}
 use Rattle.closed_choices.proofs.Done.{drain-done}
 use Rattle.run_choices.proofs.Stages.{Whole, whole-none, whole-more}
+use Rattle.judged_records.specs.Choice.{SmallestByRules}
 use Rattle.judged_records.specs.Sentence.{becauseAt, andAt, factIn, namedIn, Names, LineInForm, Justified, IsKeepRecord}
 use Rattle.judged_records.specs.Sentence.{of-start, of-K1, of-rule}
 use Rattle.judged_records.specs.Sentence as sentence
 use Rattle.judged_records.specs.Operation.{Passes, JudgesExactly, EveryDrainPasses}
+use Rattle.judged_records.proofs.ByRules.{good-normal, to-rules}
 use Rattle.judged_records.proofs.DrainRows.{written-whole, written-many, LineIs, written-at, fact-is, lines-back}
 use Rattle.judged_records.proofs.DrainLines.{rule-known, Stands, as-start, by-module, by-forward, by-one, AllStand, drain-stands}
 
@@ -43,9 +49,9 @@ kind-from (CheckedUse s x) = (omega arith, omega arith)
 kind-from (Forward s) = (omega arith, omega arith)
 kind-from (Bailout m) = (omega arith, omega arith)
 
--- good lines that differ, each of which stands on earlier ones, and whose facts are the smallest closed choice
+-- good lines that differ, each of which stands on earlier ones, and whose facts are the smallest choice by the rules
 module _ (g : Graph) (starts : List Fact) (lines : List Line) (good : Every (λ l. Good g (l .fact)) lines) (apart : Distinct (marksFrom g 0 lines))
-    (stand : AllStand g (lastVerdicts g) starts lines) (least : Smallest g starts (HasLine lines)) where
+    (stand : AllStand g (lastVerdicts g) starts lines) (least : SmallestByRules g starts (HasLine lines)) where
   abbrev row : List ℕ
   row = written lines
 
@@ -55,12 +61,20 @@ module _ (g : Graph) (starts : List Fact) (lines : List Line) (good : Every (λ 
   fact-in : (k : ℕ) → k < length lines → factIn row k ≡ at k .fact
   fact-in k h = fact-is row k (at k) (written-at lines k h)
 
+  good-at : (k : ℕ) → k < length lines → Good g (factAt lines k)
+  unfolding factAt
+  good-at k h = every-at (λ l. Good g (l .fact)) lines noLine good k h
+
+  -- what is listed from a good fact is given
+  given-at : (r a : ℕ) (f : Fact) → a < length lines → Listed r f (gives g (lastVerdicts g) (factAt lines a)) → Gives g (lastVerdicts g) r (factAt lines a) f
+  given-at r a f h j = gives-exactly g (lastVerdicts g) r (factAt lines a) f (good-normal g (factAt lines a) (good-at a h)) .0 j
+
   -- their names
-  names : (k : ℕ) (l : Line) → Stands g (lastVerdicts g) starts lines k l → Names k (l .rule) (l .because) (l .and)
-  names k l (as-start f x) = of-start
-  names k l (by-module f a b p q j) = of-K1 (a + 1) (b + 1) (omega arith) (omega arith) (omega arith) (omega arith)
-  names k l (by-forward f a b p q j) = of-K1 (a + 1) (b + 1) (omega arith) (omega arith) (omega arith) (omega arith)
-  names k l (by-one f r a p j) = let w = rule-known j in of-rule r (a + 1) (w .0) (w .1) (omega arith) (omega arith)
+  names : (k : ℕ) (l : Line) → k < length lines → Stands g (lastVerdicts g) starts lines k l → Names k (l .rule) (l .because) (l .and)
+  names k l h (as-start f x) = of-start
+  names k l h (by-module f a b p q j) = of-K1 (a + 1) (b + 1) (omega arith) (omega arith) (omega arith) (omega arith)
+  names k l h (by-forward f a b p q j) = of-K1 (a + 1) (b + 1) (omega arith) (omega arith) (omega arith) (omega arith)
+  names k l h (by-one f r a p j) = let w = rule-known (given-at r a f (omega arith) j) in of-rule r (a + 1) (w .0) (w .1) (omega arith) (omega arith)
 
   form : (k : ℕ) → k < length lines → LineInForm g row k
   form k h =
@@ -71,7 +85,7 @@ module _ (g : Graph) (starts : List Fact) (lines : List Line) (good : Every (λ 
         kind-most = omega (arith, p .kind-is, q .1);
         parts-good = rw (fact-in k h) (every-at (λ l. Good g (l .fact)) lines noLine good k h);
         unused-zero = ap secondPart (fact-in k h) ∙ sym (p .second-is);
-        names-good = rw (p .rule-is, p .because-is, p .and-is) (names k (at k) (stand k h));
+        names-good = rw (p .rule-is, p .because-is, p .and-is) (names k (at k) h (stand k h));
       }
 
   -- what they follow from
@@ -88,7 +102,8 @@ module _ (g : Graph) (starts : List Fact) (lines : List Line) (good : Every (λ 
       sentence.by-K1-exchanged (p .rule-is)
       (rw (named (becauseAt row k) a (p .because-is) (omega arith), named (andAt row k) b (p .and-is) (omega arith), fact-is row k l p) j)
   follows k l h p (by-one f r a u j) =
-      sentence.by-rule (rw (p .rule-is) (rule-known j .0)) (rw (named (becauseAt row k) a (p .because-is) (omega arith), p .rule-is, fact-is row k l p) j)
+      let i = given-at r a f (omega arith) j in
+      sentence.by-rule (rw (p .rule-is) (rule-known i .0)) (rw (named (becauseAt row k) a (p .because-is) (omega arith), p .rule-is, fact-is row k l p) i)
 
   inside : (k : ℕ) → k < length row / 6 → k < length lines
   inside k h = omega (arith, h, written-many lines)
@@ -103,7 +118,7 @@ module _ (g : Graph) (starts : List Fact) (lines : List Line) (good : Every (λ 
             let u = inside k h in
             lines-apart g noLine 0 lines apart i k l u (λ n. absurd (omega (arith, n))) (sym (fact-in i (omega (arith, l, u))) ∙ e ∙ fact-in k u);
         justified = λ k h. follows k (at k) (inside k h) (written-at lines k (inside k h)) (stand k (inside k h));
-        smallest = subst (λ (ls : List Line). Smallest g starts (HasLine ls)) (sym (lines-back lines)) least;
+        smallest = subst (λ (ls : List Line). SmallestByRules g starts (HasLine ls)) (sym (lines-back lines)) least;
       }
 
 -- a drain of good starts
@@ -118,9 +133,12 @@ module _ {numbers tables : List ℕ} (t : Loaded numbers tables) (starts : List 
   unfolding drainOf
   drain-whole = whole-more t 0 starts [] (omega arith) (every-by (Good g) starts (moduleFact 0) good) (whole-none t)
 
+  pub drain-least : SmallestByRules g starts (HasLine (drainOf g v starts))
+  drain-least = to-rules t starts good (HasLine (drainOf g v starts)) (drain-smallest t starts good)
+
   pub drain-is-record : IsKeepRecord g starts (written (drainOf g v starts))
   drain-is-record =
-      lines-record g starts (drainOf g v starts) (drain-whole .sound .good) (drain-whole .sound .apart) (drain-stands g v starts) (drain-smallest t starts good)
+      lines-record g starts (drainOf g v starts) (drain-whole .sound .good) (drain-whole .sound .apart) (drain-stands g v starts) drain-least
 
 -- the record row of a drain begins with its lines
 pub drain-row : (g : Graph) (lines : List Line) (lent : List ℕ) → take (6 * length lines) (recordAfter (done g lines) lent) ≡ written lines

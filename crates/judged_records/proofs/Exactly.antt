@@ -27,11 +27,12 @@ use Rattle.completeness.specs.Complete.{isComplete}
 use Rattle.judge_parts.specs.declared.Judged.{Judged}
 use Rattle.judge_parts.specs.declared.Judged.the-variants.{Passed, Refused}
 use Rattle.judge_parts.specs.Operation.{judgedWhole, judgedAt, judgedLines, judgedIn, judgeOf}
-use Rattle.closed_choices.specs.Choice.{HoldsStarts}
+use Rattle.closed_choices.specs.Choice.{HoldsStarts, HasLine}
 use Rattle.closed_choices.proofs.Accepting.{accepted-tabled}
-use Rattle.judged_records.specs.Sentence.{IsKeepRecord}
+use Rattle.judged_records.specs.Sentence.{factIn, IsKeepRecord}
 use Rattle.judged_records.specs.Operation.{Passes, JudgesExactly}
-use Rattle.judged_records.proofs.Facts.{number-has}
+use Rattle.judged_records.proofs.ByRules.{good-normal, closed-by-rules, rules-closed}
+use Rattle.judged_records.proofs.Facts.{number-has, line-good}
 use Rattle.judged_records.proofs.Lines.{Standing, first-bad-none, none-first-bad, all-stand, stand-all}
 use Rattle.judged_records.proofs.Closing.{says-complete}
 use Rattle.judged_records.proofs.Reaching.{lines-in}
@@ -99,7 +100,7 @@ module _ {numbers tables : List ℕ} (t : Loaded numbers tables) (starts : List 
         smallest =
             record {
               holds-starts = c .0;
-              closed = c .1;
+              closed = closed-by-rules g (HasLine (linesOf n row)) (c .1);
               inside-each = λ D h d f x. let q = number-has row n x in subst (λ y. D y) (q .2) (lines-in g starts D h d row n stand (q .0) (q .1));
             };
       }
@@ -107,8 +108,9 @@ module _ {numbers tables : List ℕ} (t : Loaded numbers tables) (starts : List 
   record-passed : IsKeepRecord g starts row → judgedLines g starts row ≡ Passed
   record-passed r =
       let stand : (k : ℕ) → k < n → Standing g starts row k = λ k u. record { in-form = r .in-form k u; new = λ i l. r .no-fact-twice i k l u; justified = r .justified k u } in
-      passed-lines (none-first-bad standing n (stand-all t starts good row n stand))
-      (says-complete t row n (λ k u. r .in-form k u .parts-good) starts good .holds (r .smallest .holds-starts, r .smallest .closed))
+      let parts : (k : ℕ) → k < n → Good g (factIn row k) = λ k u. r .in-form k u .parts-good in
+      let closed = rules-closed g (HasLine (linesOf n row)) (λ f x. good-normal g f (line-good t row n parts x)) (r .smallest .closed) in
+      passed-lines (none-first-bad standing n (stand-all t starts good row n stand)) (says-complete t row n parts starts good .holds (r .smallest .holds-starts, closed))
 
 -- the steps before the lines
 module _ (numbers starts row : List ℕ) where

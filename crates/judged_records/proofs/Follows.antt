@@ -16,7 +16,7 @@ use Rattle.keep_rules.specs.Rules.{Given, gives}
 use Rattle.worklist.specs.Drain.{isForwardOf}
 use Rattle.justification.specs.Justify.{sameFact, isGivenBy, follows, declares, joinedBy, joinedByEither}
 use Rattle.rule_relation.specs.Relation.{Gives, Joins, K1}
-use Rattle.rule_relation.specs.Same.{given}
+use Rattle.rule_relation.specs.Same.{given, OfNormal}
 use Rattle.rule_relation.proofs.Tests.{Says, says-as, says-it, says-equal, says-both, says-either, says-some}
 use Rattle.rule_relation.proofs.Exactly.{gives-exactly}
 use Rattle.closed_choices.proofs.Reaching.{forward-there}
@@ -31,15 +31,15 @@ says-same a b =
     says-as (says-both (says-equal (kindOf a) (kindOf b)) (says-both (says-equal (firstPart a) (firstPart b)) (says-equal (secondPart a) (secondPart b))))
     (λ x. same-numbers a b (x .0) (x .1 .0) (x .1 .1)) (λ e. (ap kindOf e, (ap firstPart e, ap secondPart e)))
 
--- K2 to K14
+-- K2 to K14, from a fact that is no external module
 says-given : (r : ℕ) (f : Fact) (x : Given) → Says (isGivenBy r f x) (x ≡ given r f)
 unfolding isGivenBy
 says-given r f x = says-as (says-both (says-equal (x .rule) r) (says-same (x .fact) f)) (λ p. ap (λ s. given s (x .fact)) (p .0) ∙ ap (λ e. given r e) (p .1)) (λ e. (ap (λ y. y .rule) e, ap (λ y. y .fact) e))
 
-pub says-follows : (g : Graph) (v : List ℕ) (premise : Fact) (r : ℕ) (f : Fact) → Says (follows g v premise r f) (Gives g v r premise f)
+pub says-follows : (g : Graph) (v : List ℕ) (premise : Fact) (r : ℕ) (f : Fact) → OfNormal g premise → Says (follows g v premise r f) (Gives g v r premise f)
 unfolding follows
-says-follows g v premise r f =
-    let e = gives-exactly g v r premise f in
+says-follows g v premise r f n =
+    let e = gives-exactly g v r premise f n in
     says-as (says-some (isGivenBy r f) (given 0 (moduleFact 0)) (gives g v premise) (says-given r f))
     (λ x. e .0 (record { number = x .0; inside = x .1; is = x .2 })) (λ x. let l = e .1 x in (l .number, l .inside, l .is))
 

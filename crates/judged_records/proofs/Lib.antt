@@ -1,4 +1,5 @@
 pub mod Tests
+pub mod ByRules
 pub mod Form
 pub mod Follows
 pub mod Facts

@@ -1,9 +1,10 @@
 -- A line stands exactly if it is of the form, repeats no fact, and is justified.
-use Prim.Native.Nat.{ℕ, zero, suc, _+_, _<_}
-use mathlib.Core.Path.{_≡_, refl, ap, _∙_, sym}
+use Prim.Native.Nat.{ℕ, zero, suc, _+_, _-_, _<_, _≤_}
+use mathlib.Core.Path.{_≡_, refl, ap, _∙_, sym, subst}
 use mathlib.Core.Logic.{_⊎_, inl, inr}
 use mathlib.Core.Bool.{Bool, true, false}
 use mathlib.Core.List.{List}
+use native.Mathlib.Decide.{decLt}
 use native.Mathlib.Omega.{arith}
 use Rattle.determine_side_effects.proofs.Lists.{both}
 use Rattle.graph.specs.Check.{Graph, graphIn}
@@ -17,11 +18,18 @@ use Rattle.line_judgement.specs.Stand.{named, isJustified, stands, firstBad}
 use Rattle.rule_relation.specs.Relation.{Gives, Joins}
 use Rattle.rule_relation.proofs.Tests.{Says, says-as, says-equal, says-both, says-by}
 use Rattle.closed_choices.specs.Choice.{HoldsStarts}
-use Rattle.judged_records.specs.Sentence.{ruleAt, becauseAt, andAt, factIn, namedIn, LineInForm, Justified, as-start, by-K1, by-K1-exchanged, by-rule}
+use Rattle.judged_records.specs.Sentence.{ruleAt, becauseAt, andAt, factIn, namedIn, Names, of-start, of-K1, of-rule, LineInForm, Justified, as-start, by-K1, by-K1-exchanged, by-rule}
 use Rattle.judged_records.proofs.Tests.{says-then}
+use Rattle.judged_records.proofs.ByRules.{good-normal}
 use Rattle.judged_records.proofs.Form.{says-form}
 use Rattle.judged_records.proofs.Follows.{says-follows, says-joined-either}
 use Rattle.judged_records.proofs.Facts.{Started, says-new, says-start}
+
+-- a line's first name is no later line's
+because-earlier : {k r a b : ℕ} → Names k r a b → a ≤ k
+because-earlier of-start = omega arith
+because-earlier (of-K1 a b p q u w) = q
+because-earlier (of-rule r a p q u w) = w
 
 -- what a line stands by
 pub record Standing (g : Graph) (starts : List Fact) (row : List ℕ) (k : ℕ) : Type 0 where
@@ -58,19 +66,31 @@ module _ {numbers tables : List ℕ} (t : Loaded numbers tables) (starts : List 
   justified-by-rule (by-K1-exchanged o j) = inr (λ z. omega (arith, o, z), inl (o, inr j))
   justified-by-rule (by-rule l h) = inr (λ z. omega (arith, l, z), inr (λ o. omega (arith, l, o), h))
 
-  says-justified : Good g f → Says (isJustified g v starts row k) (Justified g v starts row k)
+  -- A line that is of the form names good facts, if it and the lines before it have good ones. Where it has no name there is 0, which stands
+  -- for line 0.
+  named-good : ((i : ℕ) → i < k → Good g (factIn row i)) → Good g f → (a : ℕ) → a ≤ k → Good g (namedIn row a)
+  named-good earlier h a l = go (decLt (a - 1) k)
+    where
+      go : Dec (a - 1 < k) → Good g (namedIn row a)
+      go (yes u) = earlier (a - 1) u
+      go (no u) = let z : k ≡ a - 1 = omega (arith, l, u) in subst (λ i. Good g (factIn row i)) z h
+
+  says-justified : ((i : ℕ) → i < k → Good g (factIn row i)) → LineInForm g row k → Says (isJustified g v starts row k) (Justified g v starts row k)
   unfolding isJustified named lineAt
-  says-justified h =
+  says-justified earlier x =
+      let h = x .parts-good in
+      let because = namedIn row (becauseAt row k) in
+      let n = good-normal g because (named-good earlier h (becauseAt row k) (because-earlier (x .names-good))) in
       says-as
       (says-by (says-equal (ruleAt row k) 0) (says-start t starts starts-good f h)
-      (says-by (says-equal (ruleAt row k) 1) (says-joined-either g (namedIn row (becauseAt row k)) (namedIn row (andAt row k)) f) (says-follows g v (namedIn row (becauseAt row k)) (ruleAt row k) f)))
+      (says-by (says-equal (ruleAt row k) 1) (says-joined-either g because (namedIn row (andAt row k)) f) (says-follows g v because (ruleAt row k) f n)))
       by-rule-justified justified-by-rule
 
   -- where the lines before it have good facts
   pub says-stands : ((i : ℕ) → i < k → Good g (factIn row i)) → Says (stands g v starts row k) (Standing g starts row k)
   unfolding stands lineAt
   says-stands good =
-      says-as (says-then (says-form t row k) (λ x. says-both (says-new t row k good f (x .parts-good)) (says-justified (x .parts-good))))
+      says-as (says-then (says-form t row k) (λ x. says-both (says-new t row k good f (x .parts-good)) (says-justified good x)))
       (λ x. record { in-form = x .0; new = x .1 .0; justified = x .1 .1 }) (λ x. (x .in-form, (x .new, x .justified)))
 
 -- all of n lines stand exactly if the first bad one is behind them

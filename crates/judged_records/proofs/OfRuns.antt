@@ -24,13 +24,12 @@ use Rattle.run_parts.specs.Operation.{Rooms, done, outcomeOf, recordAfter}
 use Rattle.own_starts.specs.Once.{once, triples}
 use Rattle.closed_choices.proofs.Accepting.{accepted-tabled}
 use Rattle.closed_choices.proofs.Every.{Every, every-by}
-use Rattle.closed_choices.proofs.Smallest.{drain-smallest}
 use Rattle.run_choices.proofs.Growing.{run-starts-good, main-lines}
 use Rattle.run_choices.proofs.Done.{run-done}
 use Rattle.judged_records.specs.Sentence.{IsKeepRecord}
 use Rattle.judged_records.specs.Operation.{Passes, JudgesExactly, EveryRunPasses}
 use Rattle.judged_records.proofs.DrainLines.{drain-stands}
-use Rattle.judged_records.proofs.Drains.{lines-record, drain-whole, drain-is-record}
+use Rattle.judged_records.proofs.Drains.{lines-record, drain-whole, drain-least, drain-is-record}
 use Rattle.judged_records.proofs.RunTriples.{Startable, triples-back, triples-pass}
 use Rattle.judged_records.proofs.RunStarts.{run-starts-fit}
 use Rattle.judged_records.proofs.RunOnce.{once-every, once-has, once-only, same-smallest, same-stand}
@@ -112,7 +111,7 @@ module _ (numbers : List ℕ) (accepted : answerOf (checkOf numbers) ≡ Accepte
       let to = once-has t starts good in
       let of = once-only g starts in
       lines-record g (once g starts) lines (w .sound .good) (w .sound .apart) (same-stand starts (once g starts) to of g v lines (drain-stands g v starts))
-      (same-smallest starts (once g starts) to of g _ (drain-smallest t starts (run-starts-good t)))
+      (same-smallest starts (once g starts) to of g _ (drain-least t starts (run-starts-good t)))
 
   passes : (fs : List Fact) → Every (Good g) fs → Every (Startable g) fs → IsKeepRecord g fs (written lines) → Passes numbers (triples fs) (written (runOf g .main))
   passes fs a b r = record { accepted = accepted; starts-good = triples-pass g fs a b; is-record = rw (triples-back fs, main-are) r }

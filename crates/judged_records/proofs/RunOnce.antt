@@ -15,8 +15,9 @@ use Rattle.keep_record.specs.declared.Line.{Line}
 use Rattle.keep_record.specs.Lines.{elem}
 use Rattle.keep_record.proofs.Counting.{elem-place}
 use Rattle.own_starts.specs.Once.{noted, notes, once}
-use Rattle.closed_choices.specs.Choice.{Choice, HoldsStarts, Smallest}
+use Rattle.closed_choices.specs.Choice.{Choice, HoldsStarts}
 use Rattle.closed_choices.proofs.Every.{Every, every-append, every-at, every-by}
+use Rattle.judged_records.specs.Choice.{SmallestByRules}
 use Rattle.judged_records.proofs.DrainLines.{Among, all-among, Stands, as-start, by-module, by-forward, by-one, AllStand}
 
 -- what all facts have, those have that are noted
@@ -106,7 +107,7 @@ module _ (a b : List Fact) (to : Every (Among b) a) (of : Every (Among a) b) whe
   holds-by : (xs ys : List Fact) → Every (Among ys) xs → (C : Choice) → HoldsStarts ys C → HoldsStarts xs C
   holds-by xs ys h C holds i u = let x = every-at (Among ys) xs (moduleFact 0) h i u in subst (λ e. C e) (x .is) (holds (x .number) (x .inside))
 
-  pub same-smallest : (g : Graph) (C : Choice) → Smallest g a C → Smallest g b C
+  pub same-smallest : (g : Graph) (C : Choice) → SmallestByRules g a C → SmallestByRules g b C
   same-smallest g C s =
       record { holds-starts = holds-by b a of C (s .holds-starts); closed = s .closed; inside-each = λ D h c f x. s .inside-each D (holds-by a b to D h) c f x }
 

@@ -12,7 +12,8 @@ use Rattle.facts.specs.Facts.{factOf, secondPart, moduleFact, Good}
 use Rattle.keep_record.specs.declared.Line.{Line}
 use Rattle.keep_record.specs.Held.{linesOf}
 use Rattle.rule_relation.specs.Relation.{Gives, Joins}
-use Rattle.closed_choices.specs.Choice.{Smallest, HasLine}
+use Rattle.closed_choices.specs.Choice.{HasLine}
+use Rattle.judged_records.specs.Choice.{SmallestByRules}
 
 -- The six numbers of line k: fact kind, two parts, rule, two names.
 abbrev pub kindAt : List ℕ → ℕ → ℕ
@@ -67,4 +68,4 @@ pub record IsKeepRecord (g : Graph) (starts : List Fact) (row : List ℕ) : Type
   pub in-form : (k : ℕ) → k < length row / 6 → LineInForm g row k
   pub no-fact-twice : (i k : ℕ) → i < k → k < length row / 6 → factIn row i ≡ factIn row k → ⊥
   pub justified : (k : ℕ) → k < length row / 6 → Justified g (lastVerdicts g) starts row k
-  pub smallest : Smallest g starts (HasLine (linesOf (length row / 6) row))
+  pub smallest : SmallestByRules g starts (HasLine (linesOf (length row / 6) row))

@@ -12,7 +12,7 @@ use Rattle.facts.specs.Facts.{moduleFact, statementFact, useFact, checkedFact}
 use Rattle.keep_rules.specs.Rules.{segment, quietRuntime, checkedCandidate, bypassed, moduleSegments, statementSegments, useSegments, segmentsOf, gives}
 use Rattle.rule_relation.specs.Relation.{Sweeps, Follows, Gives}
 use Rattle.rule_relation.specs.Relation.{K2-effect, K2-eval, K2-unforced, K2-forced, K3-effects, K3-whole, K4, K5, K6, K7, K8-forward, K8-use, K8-depended, K8-target, K8-member, K9-use, K9-namespace, K9-own, K9-default, K10, K11, K12-use, K12-forward, K13-statement, K13-module, K14}
-use Rattle.rule_relation.specs.Same.{Listed, GivesExactly}
+use Rattle.rule_relation.specs.Same.{Listed, OfNormal, GivesExactly}
 use Rattle.rule_relation.proofs.Tests.{denies, denied}
 use Rattle.rule_relation.proofs.Listing.{OnlySegments, given-only, Offered, offered-given}
 use Rattle.rule_relation.proofs.OfModule as of-module
@@ -20,33 +20,33 @@ use Rattle.rule_relation.proofs.OfStatement as of-statement
 use Rattle.rule_relation.proofs.OfSymbol as of-symbol
 
 module _ (g : Graph) (v : List ℕ) where
-  -- what is listed is given
-  segments-only : (f : Fact) → OnlySegments (λ r. Gives g v r f) (segmentsOf g v f)
+  -- what is listed is given, except from an external module: its segments are read without asking what it is
+  segments-only : (f : Fact) → OfNormal g f → OnlySegments (λ r. Gives g v r f) (segmentsOf g v f)
   unfolding segmentsOf
-  segments-only (Module m) = go (quietRuntime g v (m .0)) refl
+  segments-only (Module m) n = go (quietRuntime g v (m .0)) refl
     where
       go : (b : Bool) → quietRuntime g v (m .0) ≡ b → OnlySegments (λ r. Gives g v r (Module m)) (elim b [ true ↦ [] | false ↦ moduleSegments g v (m .0) ])
       go true e = tt
-      go false e = of-module.module-only g v (m .0) (of-module.says-sweeps g v (m .0) .tells (rw e))
-  segments-only (Statement m i) = of-statement.statement-only g v (m .0) (i .0)
-  segments-only (CheckedUse s x) = of-symbol.checked-segments-only g v (s .0) (x .bits)
-  segments-only (Use s x) = go (bypassed g (s .0) (x .bits)) refl
+      go false e = of-module.module-only g v (m .0) (record { is-normal = n; no-quiet-runtime = of-module.says-no-quiet-runtime g v (m .0) .tells (rw e) })
+  segments-only (Statement m i) n = of-statement.statement-only g v (m .0) (i .0)
+  segments-only (CheckedUse s x) n = of-symbol.checked-segments-only g v (s .0) (x .bits)
+  segments-only (Use s x) n = go (bypassed g (s .0) (x .bits)) refl
     where
       go : (b : Bool) → bypassed g (s .0) (x .bits) ≡ b → OnlySegments (λ r. Gives g v r (Use s x)) (elim b [ true ↦ [] | false ↦ useSegments g v (s .0) (x .bits) ])
       go true e = tt
       go false e = of-symbol.use-only g v (s .0) (x .bits) (denies (of-symbol.says-bypassed g (s .0) (x .bits)) e)
-  segments-only (Forward s) = tt
-  segments-only (Bailout m) = tt
+  segments-only (Forward s) n = tt
+  segments-only (Bailout m) n = tt
 
-  listed-given : (r : ℕ) (f e : Fact) → Listed r e (gives g v f) → Gives g v r f e
+  listed-given : (r : ℕ) (f e : Fact) → OfNormal g f → Listed r e (gives g v f) → Gives g v r f e
   unfolding gives
-  listed-given r f e l = given-only (λ r. Gives g v r f) (segmentsOf g v f) (segments-only f) r e l
+  listed-given r f e n l = given-only (λ r. Gives g v r f) (segmentsOf g v f) (segments-only f n) r e l
 
-  -- what is given is listed
+  -- what is given is listed, from every fact
   module _ {r : ℕ} {e : Fact} where
     in-module : (m : ℕ) → Sweeps g v m → Offered r e (moduleSegments g v m) → Listed r e (gives g v (moduleFact m))
     unfolding gives segmentsOf
-    in-module m s o = let q : quietRuntime g v m ≡ false = not-true (quietRuntime g v m) (of-module.says-sweeps g v m .holds s) in offered-given (segmentsOf g v (moduleFact m)) (rw (q, segmentsOf) o)
+    in-module m s o = let q : quietRuntime g v m ≡ false = not-true (quietRuntime g v m) (of-module.says-no-quiet-runtime g v m .holds (s .no-quiet-runtime)) in offered-given (segmentsOf g v (moduleFact m)) (rw (q, segmentsOf) o)
 
     in-statement : (m i : ℕ) → Offered r e (statementSegments g v m i) → Listed r e (gives g v (statementFact m i))
     unfolding gives segmentsOf
@@ -60,7 +60,7 @@ module _ (g : Graph) (v : List ℕ) where
     unfolding gives segmentsOf
     in-use s x h o = offered-given (segmentsOf g v (useFact s x)) (rw (denied (of-symbol.says-bypassed g s x) h, segmentsOf) o)
 
-  given-listed : {r : ℕ} {f e : Fact} → Gives g v r f e → Listed r e (gives g v f)
+  pub given-listed : {r : ℕ} {f e : Fact} → Gives g v r f e → Listed r e (gives g v f)
   given-listed (K2-effect m i s h b e w) = in-module m s (of-module.effect-offered g v m i h b e w)
   given-listed (K2-eval m i s h b e f) = in-module m s (of-module.eval-offered g v m i h b e f)
   given-listed (K2-unforced m i s h b f) = in-module m s (of-module.unforced-offered g v m i h b f)
@@ -89,4 +89,4 @@ module _ (g : Graph) (v : List ℕ) where
   given-listed (K14 s x k h o n l) = in-use s x h (of-symbol.write-offered g v s x k o n l)
 
 pub gives-exactly : GivesExactly
-gives-exactly g v r f e = (listed-given g v r f e, given-listed g v)
+gives-exactly g v r f e n = (listed-given g v r f e n, given-listed g v)

@@ -21,9 +21,9 @@ use Rattle.rule_relation.proofs.Listing.{Only, only-fact, only-when, Pi
 
 -- the tests
 module _ (g : Graph) (v : List ℕ) (m : ℕ) where
-  pub says-sweeps : Says (not (quietRuntime g v m)) (Sweeps g v m)
+  pub says-no-quiet-runtime : Says (not (quietRuntime g v m)) (m ≡ g .header .runtime → hasEffects v m ≡ true)
   unfolding quietRuntime
-  says-sweeps = says-if-and (says-equal m (g .header .runtime)) (says-it (hasEffects v m))
+  says-no-quiet-runtime = says-if-and (says-equal m (g .header .runtime)) (says-it (hasEffects v m))
 
   says-shaken : Says (option g 0 && not (eqb (getD v m 0) 4)) (Shaken g v m)
   says-shaken = says-as (says-both (says-it (option g 0)) (says-not (says-equal (getD v m 0) 4))) (λ x. record { on = x .0; may = x .1 }) (λ x. (x .on, x .may))

@@ -1,6 +1,6 @@
 -- The keep rules a second time, as a relation: one case for each way in which a rule (docs/RULES.md) gives a fact, each with
 -- its place in the Rust (000, include_statements.rs; 001, on_demand.rs). Nothing is said of an order. `gives` of `keep_rules` lists exactly
--- this (`GivesExactly` in Same.antt).
+-- this for every fact but an external module, which is never kept (`GivesExactly` in Same.antt).
 use Prim.Native.Nat.{ℕ, suc, _+_, _<_, _≤_}
 use mathlib.Core.Path.{_≡_}
 use mathlib.Core.Bool.{Bool, true, false}
@@ -16,9 +16,10 @@ use Rattle.on_demand.specs.Demand.{onDemand, gated, bodyOf}
 use Rattle.linking_metadata.specs.Namespaces.{commonJsOf, targetOf}
 use Rattle.keep_rules.specs.Rules.{exportOf}
 
--- K2 to K6 hold for every module but a runtime without effects (000:559).
-abbrev pub Sweeps : Graph → List ℕ → ℕ → Type 0
-Sweeps g v m = m ≡ g .header .runtime → hasEffects v m ≡ true
+-- K2 to K6 hold for every normal module (000:546) but a runtime without effects (000:559).
+pub record Sweeps (g : Graph) (v : List ℕ) (m : ℕ) : Type 0 where
+  pub is-normal : normal g m ≡ true
+  pub no-quiet-runtime : m ≡ g .header .runtime → hasEffects v m ≡ true
 
 -- tree shaking is on and the module is not NoTreeshake (000:564)
 pub record Shaken (g : Graph) (v : List ℕ) (m : ℕ) : Type 0 where
