@@ -30,4 +30,4 @@ pub mod OfAccepted
 pub mod Changed
 pub mod Returning
 pub mod Alike
-pub mod Never
+pub mod Queue

@@ -24,7 +24,7 @@ use Rattle.rust_engine.proofs.Handling.{quiet}
 use Rattle.rust_engine.proofs.HandlingStatements.{in-pair}
 use Rattle.rust_engine.proofs.Waiting.{asks-joined}
 use Rattle.rust_returns.specs.Following.{Choosing, DrainsBy}
-use Rattle.rust_returns.specs.Circle.{Gives, Ends, ends, Stops, stops}
+use Rattle.rust_returns.specs.Circle.{GivesUse, Ends, ends, Stops, stops}
 use Rattle.rust_returns.proofs.Adding.{Adds, adds-none, adds-then, adds-deferred, adds-module, adds-statement}
 use Rattle.rust_returns.proofs.Symbols.{Given, adds-symbol}
 use Rattle.rust_returns.proofs.Left.{isSet, left, left-le, left-lt}
@@ -210,12 +210,12 @@ module _ (g : Graph) (hs : Handlers g) (L : List Fact) where
         put : Adds (Given g s x) (rest is c) (handleIncludeSymbol g v s x (rest is c))
         put = adds-symbol g s x (rest is c)
 
-        each : ((t y : ℕ) → Gives g s x t y → Good n (SymbolItem t y)) → (j : WorkItem) → Given g s x j → S .choice (factOfItem j) → Good n j
+        each : ((t y : ℕ) → GivesUse g s x t y → Good n (SymbolItem t y)) → (j : WorkItem) → Given g s x j → S .choice (factOfItem j) → Good n j
         each u (ModuleItem m) q h = gm m h
         each u (SymbolItem t y) q h = u t y q
         each u (StatementItem m i) q h = gs m i h
 
-        go : (order : Orders) → Reorders order → ((t y : ℕ) → Gives g s x t y → Good n (SymbolItem t y)) → Stops g (after order (SymbolItem s x) is c)
+        go : (order : Orders) → Reorders order → ((t y : ℕ) → GivesUse g s x t y → Good n (SymbolItem t y)) → Stops g (after order (SymbolItem s x) is c)
         go order o u =
             let d = after order (SymbolItem s x) is c in
             let rd = ready-after order o c (SymbolItem s x) is e r in

@@ -1,4 +1,5 @@
 pub mod Adding
+pub mod Uses
 pub mod Symbols
 pub mod Left
 pub mod Drains
@@ -8,3 +9,4 @@ pub mod MainPart
 pub mod OfRuns
 pub mod Passing
 pub mod OnCircles
+pub mod Example

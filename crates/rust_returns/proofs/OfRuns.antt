@@ -44,7 +44,8 @@ use Rattle.rust_run.proofs.Round.{prefix-line}
 use Rattle.rust_run.proofs.Main.{RoundsEnd, users-good, main-beside}
 use Rattle.rust_run.proofs.Runtime.{module-bit, base-is}
 use Rattle.rust_returns.specs.Following.{Choosing, UsersBy, RoundsBy, RuntimeBy, Follows}
-use Rattle.rust_returns.specs.Circle.{Gives, Ends, CircleIn, Circle, ReturnsBy, ReturnsUnlessCircles}
+use Rattle.rust_returns.specs.Circle.{GivesUse, Ends, CircleIn, Circle, ReturnsBy, ReturnsUnlessCircles}
+use Rattle.rust_returns.proofs.Uses.{Place, placed}
 use Rattle.rust_returns.proofs.Searching.{search, usesOf, uses-lined, lined-uses, lined-in}
 use Rattle.rust_returns.proofs.Loops as loops
 use Rattle.rust_returns.proofs.Loops.{Tame, Ready}
@@ -100,9 +101,12 @@ module _ (numbers : List ℕ) (ok : answerOf (checkOf numbers) ≡ Accepted) whe
       go (no l) = inr (record { number = h .number; inside = h .inside; is = h .is; counts = inl (omega (arith, l)) })
 
   -- the uses that uses of the run give have lines
-  onward : (s x t y : ℕ) → HasLine all (useFact s x) → Gives g s x t y → HasLine all (useFact t y)
-  onward s x t y h k = go (of-stage (useFact s x) h)
+  onward : (s x t y : ℕ) → HasLine all (useFact s x) → GivesUse g s x t y → HasLine all (useFact t y)
+  onward s x t y h given = go (of-stage (useFact s x) h)
     where
+      k : Place g s x t y
+      k = placed g s x t y given
+
       staying : Fact → Type 0
       staying f = HasLine main f × (stays f ≡ true)
 

@@ -39,10 +39,8 @@ use Rattle.rust_run.proofs.Main.{RoundsEnd, main-beside}
 use Rattle.rust_run.proofs.Runtime.{base-is, runtime-onward, runtime-exactly}
 use Rattle.rust_run.specs.Agreement.{Agrees}
 use Rattle.rust_run.proofs.OfRuns as agree
-use Rattle.rust_run.specs.Circle.{circle}
-use Rattle.rust_run.proofs.Circle.{circle-never-returns}
 use Rattle.rust_returns.specs.Following.{Choosing, Follows}
-use Rattle.rust_returns.specs.Circle.{Gives, Ends, ends, CircleIn, Circle, ReturnsBy, NeverOnCircles, ReturnsExactly, ReturnsAndAgrees}
+use Rattle.rust_returns.specs.Circle.{GivesUse, Ends, ends, CircleIn, Circle, ReturnsBy, NeverOnCircles, ReturnsExactly, ReturnsAndAgrees}
 use Rattle.rust_returns.proofs.Passing.{Safe, passed-ends, Fine, reached-fine, safe-closed}
 use Rattle.rust_returns.proofs.OfRuns.{main, word, fs, all, lines-are, main-closed, stage, of-stage, returns-unless-circles}
 
@@ -54,8 +52,8 @@ both-every P Q (x ∷ xs) a b = ((a .0, b .0), both-every P Q xs (a .1) (b .1))
 no-end : (g : Graph) (C : Choice) (k : CircleIn g C) (s x : ℕ) → Ends g s x → (p : Pair) → p .first ≡ s → p .second ≡ x → In p (k .uses) → ⊥
 no-end g C k s x (ends _ _ on) p a b h =
     let q = k .leads-on p h in
-    no-end g C k (q .0 .first) (q .0 .second) (on (q .0 .first) (q .0 .second) (subst (λ y. Gives g s y (q .0 .first) (q .0 .second)) b
-    (subst (λ t. Gives g t (p .second) (q .0 .first) (q .0 .second)) a (q .2)))) (q .0) refl refl (q .1)
+    no-end g C k (q .0 .first) (q .0 .second) (on (q .0 .first) (q .0 .second) (subst (λ y. GivesUse g s y (q .0 .first) (q .0 .second)) b
+    (subst (λ t. GivesUse g t (p .second) (q .0 .first) (q .0 .second)) a (q .2)))) (q .0) refl refl (q .1)
 
 module _ (numbers : List ℕ) (ok : answerOf (checkOf numbers) ≡ Accepted) where
   abbrev g : Graph
@@ -177,11 +175,3 @@ returns-and-agrees numbers ok n ch = go (returns-unless-circles numbers ok)
         → (o : Outcome) × (r : Returns (graphIn numbers) o) × Follows (graphIn numbers) ch o r × Agrees (graphIn numbers) o (runOf (graphIn numbers))
     go (inl r) = let z = r ch in (z .0, z .1, z .2, agree.rust-agrees numbers ok (z .0) (z .1))
     go (inr k) = absurd (n k)
-
--- so the graph on which the Rust is known not to return has one
-pub circle-is-one : Circle (graphIn circle)
-circle-is-one = go (returns-unless-circles circle (circle-never-returns .accepted))
-  where
-    go : ReturnsBy (graphIn circle) ⊎ Circle (graphIn circle) → Circle (graphIn circle)
-    go (inl r) = let z = r (ownChoices circle (circle-never-returns .accepted)) in absurd (circle-never-returns .no-outcome (z .0) (z .1))
-    go (inr k) = k

@@ -33,8 +33,9 @@ use Rattle.rust_engine.proofs.Handling.{quiet}
 use Rattle.rust_engine.proofs.HandlingUses.{symbol-grown}
 use Rattle.rust_engine.proofs.Links.{links}
 use Rattle.rust_engine.proofs.Waiting.{marked, asks-joined}
-use Rattle.rust_engine.proofs.Never.{handle-queue, use-queued}
+use Rattle.rust_engine.proofs.Queue.{handle-queue, use-queued}
 use Rattle.rust_returns.specs.Circle.{Ends, ends}
+use Rattle.rust_returns.proofs.Uses.{placed}
 
 module _ (g : Graph) where
   abbrev v : List ℕ
@@ -96,7 +97,7 @@ module _ (g : Graph) where
     where
       go : (SymbolItem s x ≡ i) ⊎ In (SymbolItem s x) is → ((t y : ℕ) → In (SymbolItem t y) (handle g v order i (rest is c) .pending) → Ends g t y) → Ends g s x
       go (inl q) next =
-          ends s x (λ t y k. next t y (subst (λ j. In (SymbolItem t y) (handle g v order j (rest is c) .pending)) q
+          ends s x (λ t y given. let k = placed g s x t y given in next t y (subst (λ j. In (SymbolItem t y) (handle g v order j (rest is c) .pending)) q
           (subst (λ f. QueuedUse g v (handleIncludeSymbol g v s x (rest is c)) f) (k .is) (use-queued g s x (rest is c) (k .place) (k .inside)))))
       go (inr q) next = next s x (handle-queue g order o i (rest is c) (SymbolItem s x) q)
 

@@ -20,7 +20,8 @@ use Rattle.worklist.specs.Drain.{factAt}
 use Rattle.closed_choices.specs.Choice.{Choice, HasLine, nothingGiven}
 use Rattle.rust_values.specs.Values.{Pair, pair, hasPair, In}
 use Rattle.rust_engine.proofs.HandlingStatements.{pair-in, in-pair}
-use Rattle.rust_returns.specs.Circle.{Gives, Ends, ends, CircleIn}
+use Rattle.rust_returns.specs.Circle.{GivesUse, Ends, ends, CircleIn}
+use Rattle.rust_returns.proofs.Uses.{at-place, placed}
 
 abbrev useOf : Pair → Fact
 useOf p = useFact (p .first) (p .second)
@@ -148,7 +149,7 @@ module _ (g : Graph) where
       go (inl a) (inr b) = inr (b .0, inr (b .1), b .2)
       go (inr a) b = inr (p, inl refl, a)
 
-  module _ (C : Choice) (onward : (s x t y : ℕ) → C (useFact s x) → Gives g s x t y → C (useFact t y)) where
+  module _ (C : Choice) (onward : (s x t y : ℕ) → C (useFact s x) → GivesUse g s x t y → C (useFact t y)) where
     abbrev AllEnd : Type 0
     AllEnd = (s x : ℕ) → C (useFact s x) → Ends g s x
 
@@ -172,16 +173,16 @@ module _ (g : Graph) where
           one = u;
           is-in = inl refl;
           chosen = c;
-          leads-on = λ p q. let r = f p q in (r .which, r .its, record { place = r .place; inside = r .inside; is = r .is });
+          leads-on = λ p q. let r = f p q in (r .which, r .its, at-place g (p .first) (p .second) (r .which .first) (r .which .second) (record { place = r .place; inside = r .inside; is = r .is }));
         }
 
     -- one that gives none of them ends
     its-end : (us : List Pair) → Chosen us → OrEnds us → (p : Pair) → In p us → Nowhere us (given p) → Ends g (p .first) (p .second)
     its-end us c h p q none = ends (p .first) (p .second) (λ t y k. by t y k (h (pair t y) (onward (p .first) (p .second) t y (c p q) k)))
       where
-        by : (t y : ℕ) → Gives g (p .first) (p .second) t y → In (pair t y) us ⊎ Ends g t y → Ends g t y
-        by t y k (inl z) = absurd (none (pair t y) z (k .place) (k .inside) (k .is))
-        by t y k (inr z) = z
+        by : (t y : ℕ) → GivesUse g (p .first) (p .second) t y → In (pair t y) us ⊎ Ends g t y → Ends g t y
+        by t y given (inl z) = let k = placed g (p .first) (p .second) t y given in absurd (none (pair t y) z (k .place) (k .inside) (k .is))
+        by t y given (inr z) = z
 
     -- and is taken away
     less : (us : List Pair) (p : Pair) → Ends g (p .first) (p .second) → (q : Pair) → In q us ⊎ Ends g (q .first) (q .second) → In q (without p us) ⊎ Ends g (q .first) (q .second)

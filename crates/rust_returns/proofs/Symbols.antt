@@ -21,7 +21,8 @@ use Rattle.rust_engine.specs.Engine.{enqueueDeclaringStatements, retainForwardi
 use Rattle.rust_engine.proofs.Asking.{World}
 use Rattle.rust_engine.proofs.Symbols.{Symbol}
 use Rattle.rust_engine.proofs.Links.{links}
-use Rattle.rust_returns.specs.Circle.{Gives}
+use Rattle.rust_returns.specs.Circle.{GivesUse}
+use Rattle.rust_returns.proofs.Uses.{at-place}
 use Rattle.rust_returns.proofs.Adding.{Adds, adds-none, adds-push, adds-then, adds-when, adds-declaring, adds-forwards, adds-demand, adds-writes}
 
 module _ (P : WorkItem → Type 0) where
@@ -133,13 +134,13 @@ module _ (g : Graph) (s x : ℕ) where
   -- a use that (s, x) gives; of other items nothing is said
   abbrev pub Given : WorkItem → Type 0
   Given (ModuleItem m) = Unit {0}
-  Given (SymbolItem t y) = Gives g s x t y
+  Given (SymbolItem t y) = GivesUse g s x t y
   Given (StatementItem m i) = Unit {0}
 
   abbrev GivenFact : Fact → Type 0
   GivenFact (Module m) = Unit {0}
   GivenFact (Statement m i) = Unit {0}
-  GivenFact (Use t y) = Gives g s x (t .0) (y .bits)
+  GivenFact (Use t y) = GivesUse g s x (t .0) (y .bits)
   GivenFact (CheckedUse t y) = Unit {0}
   GivenFact (Forward t) = Unit {0}
   GivenFact (Bailout m) = Unit {0}
@@ -153,7 +154,7 @@ module _ (g : Graph) (s x : ℕ) where
       go : (f : Fact) → getD (gives g v (useFact s x)) k nothingGiven .fact ≡ f → GivenFact f
       go (Module m) e = tt
       go (Statement m i) e = tt
-      go (Use t y) e = record { place = k; inside = u; is = e }
+      go (Use t y) e = at-place g s x (t .0) (y .bits) (record { place = k; inside = u; is = e })
       go (CheckedUse t y) e = tt
       go (Forward t) e = tt
       go (Bailout m) e = tt

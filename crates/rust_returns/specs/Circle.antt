@@ -1,17 +1,16 @@
 -- A circle: uses among a run's lines each of which gives another of them, by the alias (K11) or the wrapper (K12). The Rust remembers no use, so it does
 -- not return where one is reached; the theorems in proofs/ say that it returns on every other graph.
-use Prim.Native.Nat.{ℕ, _<_}
+use Prim.Native.Nat.{ℕ}
 use mathlib.Core.Path.{_≡_}
 use mathlib.Core.Logic.{_⊎_, _↔_}
 use mathlib.Core.List.{List, _∷_}
-use lib.ListN.{length, getD}
 use Rattle.graph.specs.declared.Checked.the-variants.{Accepted}
 use Rattle.graph.specs.Check.{Graph, graphIn, checkOf, answerOf}
 use Rattle.facts.specs.Facts.{useFact}
 use Rattle.determine_side_effects.specs.Effects.{lastVerdicts}
-use Rattle.keep_rules.specs.Rules.{gives}
 use Rattle.run_rows.specs.Run.{runOf}
-use Rattle.closed_choices.specs.Choice.{Choice, HasLine, nothingGiven}
+use Rattle.closed_choices.specs.Choice.{Choice, HasLine}
+use Rattle.rule_relation.specs.Relation.{Gives}
 use Rattle.rust_values.specs.Values.{Pair, In}
 use Rattle.rust_engine.specs.Context.{Context, WorkItem, rest}
 use Rattle.rust_engine.specs.Engine.{Orders, Reorders, handle}
@@ -19,15 +18,14 @@ use Rattle.rust_run.specs.IncludeStatements.{Outcome, Returns}
 use Rattle.rust_run.specs.Agreement.{Agrees}
 use Rattle.rust_returns.specs.Following.{Choosing, Follows}
 
--- the use of s for reason x gives the use of t for reason y
-pub record Gives (g : Graph) (s x t y : ℕ) : Type 0 where
-  pub place : ℕ
-  pub inside : place < length (gives g (lastVerdicts g) (useFact s x))
-  pub is : getD (gives g (lastVerdicts g) (useFact s x)) place nothingGiven .fact ≡ useFact t y
+-- the use of s for reason x gives the use of t for reason y; no other rule gives a use from a use
+pub data GivesUse (g : Graph) (s x t y : ℕ) : Type 0 where
+  by-alias : Gives g (lastVerdicts g) 11 (useFact s x) (useFact t y) → GivesUse g s x t y
+  by-wrapper : Gives g (lastVerdicts g) 12 (useFact s x) (useFact t y) → GivesUse g s x t y
 
 -- a use from which every way of uses, each given by the one before, comes to an end
 pub data Ends (g : Graph) : ℕ → ℕ → Type 0 where
-  ends : (s x : ℕ) → ((t y : ℕ) → Gives g s x t y → Ends g t y) → Ends g s x
+  ends : (s x : ℕ) → ((t y : ℕ) → GivesUse g s x t y → Ends g t y) → Ends g s x
 
 -- a context from which the engine pops only finitely many items, whatever the hash orders
 pub data Stops (g : Graph) : Context → Type 0 where
@@ -40,7 +38,7 @@ pub record CircleIn (g : Graph) (C : Choice) : Type 0 where
   pub one : Pair
   pub is-in : In one uses
   pub chosen : (p : Pair) → In p uses → C (useFact (p .first) (p .second))
-  pub leads-on : (p : Pair) → In p uses → (q : Pair) × In q uses × Gives g (p .first) (p .second) (q .first) (q .second)
+  pub leads-on : (p : Pair) → In p uses → (q : Pair) × In q uses × GivesUse g (p .first) (p .second) (q .first) (q .second)
 
 -- among the lines of the run
 abbrev pub Circle : Graph → Type 0

@@ -17,7 +17,6 @@ pub mod Runtime
 pub mod OfRuns
 pub mod BoundaryRows
 pub mod Boundary
-pub mod Circle
 pub mod Executed
 pub mod Ending
 pub mod Settled
