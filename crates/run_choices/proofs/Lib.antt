@@ -5,4 +5,5 @@ pub mod OnCycles
 pub mod Rounds
 pub mod Settled
 pub mod Done
+pub mod Sparing
 pub mod OfRuns

@@ -1,4 +1,5 @@
--- T8, T12 and what bounds a run, over the operation: what a run keeps that is not refused, and which runs are not refused for their room.
+-- T8, T12 and what bounds a run, over the operation: what a run keeps that is not refused, which runs are not refused for their room, and what the
+-- rows leave 0.
 use Prim.Native.Nat.{ℕ, _*_, _≤_}
 use mathlib.Core.Path.{_≡_, _∙_, sym, subst}
 use mathlib.Core.Bool.{false}
@@ -22,10 +23,11 @@ use Rattle.run_parts.specs.Operation.{done, worked}
 use Rattle.closed_choices.specs.Choice.{Smallest, HasLine}
 use Rattle.closed_choices.proofs.Accepting.{Tabled, accepted-tabled}
 use Rattle.closed_choices.proofs.Smallest.{drain-smallest}
-use Rattle.run_choices.specs.Operation.{RunKeeps, EveryRunKeeps, EnoughRuns}
+use Rattle.run_choices.specs.Operation.{RunKeeps, EveryRunKeeps, EnoughRuns, EveryRunSpares}
 use Rattle.run_choices.proofs.GoodStarts.{runtime-starts-good}
 use Rattle.run_choices.proofs.Stages.{whole-more, whole-few, whole-next}
 use Rattle.run_choices.proofs.Growing.{run-starts-good, main-lines, main-whole}
+use Rattle.run_choices.proofs.Sparing.{spares}
 use Rattle.run_choices.proofs.OnCycles.{on-cycle-is}
 use Rattle.run_choices.proofs.Rounds.{main-rounds}
 use Rattle.run_choices.proofs.Done.{outcome-work, outcome-accepted, run-done}
@@ -83,3 +85,7 @@ run-enough numbers room ok long l =
     let t : ltb (room .lines) (6 * length (all .lines)) ≡ false = le-ltb (room .lines) (6 * length (all .lines)) (omega (arith, l, lines-few numbers ok)) in
     let w : worked (graphIn numbers) all (room .lines) ≡ done (graphIn numbers) all = rw (t, worked) in
     (all, outcome-accepted numbers room ok ∙ outcome-work (graphIn numbers) room long ∙ w)
+
+-- what a run's rows leave 0
+pub run-spares : EveryRunSpares
+run-spares numbers room g r e = let d = run-done numbers room g r e in rw (d .graph-is, d .run-is) (spares numbers (d .accepted))

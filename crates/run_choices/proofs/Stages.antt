@@ -30,7 +30,7 @@ use Rattle.closed_choices.proofs.Handling.{Handled, Sound, sound-few, all-handl
 
 -- of the first lines those that stay, of the others all: some of the marks of all lines, so they differ
 module _ (g : Graph) where
-  not-among : (n : ℕ) (ls : List Line) (x : ℕ) → elem x (marksOf g ls) ≡ false → elem x (marksFrom g n ls) ≡ false
+  pub not-among : (n : ℕ) (ls : List Line) (x : ℕ) → elem x (marksOf g ls) ≡ false → elem x (marksFrom g n ls) ≡ false
   unfolding marksFrom marksOf elem
   not-among zero ls x h = h
   not-among (suc n) [] x h = refl

@@ -1,2 +1,2 @@
--- The main definitions of `Operation`: `EveryRunKeeps`, `EnoughRuns`.
+-- The main definitions of `Operation`: `EveryRunKeeps`, `EnoughRuns`, `EveryRunSpares`.
 pub mod Operation

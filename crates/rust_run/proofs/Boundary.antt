@@ -45,7 +45,8 @@ use Rattle.rust_run.specs.Agreement.{Agrees}
 use Rattle.rust_run.specs.Boundary.{RowsAgree, RunShowsRust}
 use Rattle.rust_run.proofs.Level.{loaded}
 use Rattle.rust_run.proofs.OfRuns.{rust-agrees}
-use Rattle.rust_run.proofs.BoundaryRows.{both-ways, turned, bit-shown, module-shown, statement-shown, bit-in-front}
+use Rattle.run_choices.proofs.Sparing.{bit-in-front}
+use Rattle.rust_run.proofs.BoundaryRows.{both-ways, turned, bit-shown, module-shown, statement-shown}
 
 -- The facts of the lines of both stages are good -----------------------------------------------------------------------------------------
 

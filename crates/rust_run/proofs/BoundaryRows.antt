@@ -88,14 +88,3 @@ module _ (g : Graph) (C : Choice) where
     pub statement-shown : ShownBy g C Statements (bit m i) ↔ C (statementFact m i)
     unfolding shows
     statement-shown = (λ q. its-statement (q .0) (q .1) (q .2), λ c. (statementFact m i, c, in-elem (bit m i) (bit m i ∷ []) (inl refl)))
-
--- Bytes with a rest behind them ----------------------------------------------------------------------------------------------------------
-
-bit-before : (xs rest : List ℕ) (j : ℕ) → j < 8 * length xs → bitAt (xs ++ rest) j ≡ bitAt xs j
-unfolding bitAt
-bit-before xs rest j l =
-    let h : j / 8 < length xs = omega arith in
-    ap (λ x. eqb (bitOf (j % 8) x) 1) (List·getD-append xs rest 0 (j / 8) h)
-
-pub bit-in-front : (p : ℕ → Bool) (n : ℕ) (rest : List ℕ) (j : ℕ) → j < 8 * n → bitAt (bytesOf p n ++ rest) j ≡ p j
-bit-in-front p n rest j l = bit-before (bytesOf p n) rest j (omega (arith, l, bytes-long p n)) ∙ bit-of-bytes p n j l
