@@ -1,0 +1,5 @@
+pub mod Faults
+pub mod GraphFaults
+pub mod Refusals
+pub mod Outcomes
+pub mod Numbered

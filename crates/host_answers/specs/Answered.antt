@@ -1,0 +1,81 @@
+-- What a caller knows of a call at the C boundary whose answer has the number 0, from the contracts of `host` alone. The theorems are in
+-- proofs/OfCalls.antt.
+use Prim.Native.Nat.{ℕ, _*_}
+use mathlib.Core.Path.{_≡_}
+use mathlib.Core.Logic.{_↔_}
+use mathlib.Core.List.{List}
+use lib.ListN.{length, take}
+use Rattle.leb128.specs.Read.{all, readOf}
+use Rattle.graph.specs.declared.Checked.the-variants.{Accepted}
+use Rattle.graph.specs.Check.{graphIn, checkOf, answerOf}
+use Rattle.determine_side_effects.specs.Effects.{lastVerdicts}
+use Rattle.drain_parts.specs.Operation.{Rows}
+use Rattle.run_parts.specs.Operation.{Rows as RunRows}
+use Rattle.judge_parts.specs.Operation.{judgeOf}
+use Rattle.run_starts_parts.specs.Operation.{Rows as StartsRows}
+use Rattle.tree_shaking.specs.Own.{runStarts}
+use Rattle.own_starts.specs.Once.{triples}
+use Rattle.judged_records.specs.Operation.{Passes}
+use Rattle.rust_run.specs.IncludeStatements.{Outcome, Returns}
+use Rattle.rust_run.specs.Boundary.{RowsAgree}
+use Rattle.rust_returns.specs.Following.{Choosing, Follows}
+use Rattle.rust_returns.specs.Circle.{Circle}
+use Rattle.host.specs.declared.DrainAnswer.{DrainAnswer}
+use Rattle.host.specs.declared.ReadAnswer.{ReadAnswer}
+use Rattle.host.specs.declared.Refusal.{Refusal}
+use Rattle.host.specs.declared.RunAnswer.{RunAnswer}
+use Rattle.host.specs.Answers.{KeepRead, KeepEffects, KeepDrain, KeepRun, KeepStarts, refusalOf, judgedOf}
+
+-- a file: its numbers are the first of those lent
+pub record ReadAnswers (file lent : List ℕ) (a : ReadAnswer) (after : List ℕ) : Type 0 where
+  pub numbers : List ℕ
+  pub read : readOf file (length lent) ≡ all numbers
+  pub first : take (a .count) after ≡ numbers
+
+abbrev pub EveryRead : Type 0
+EveryRead = (file lent : List ℕ) (a : ReadAnswer) (after : List ℕ) → KeepRead file lent a after → a .number ≡ 0 → ReadAnswers file lent a after
+
+-- a graph is accepted
+abbrev pub EveryCheck : Type 0
+EveryCheck = (numbers : List ℕ) → (refusalOf (checkOf numbers) .number ≡ 0) ↔ (answerOf (checkOf numbers) ≡ Accepted)
+
+-- Demand 2: the verdicts that `keep_effects` gives, and the rows that `keep_run` gives, are those of every outcome of the Rust;
+abbrev pub EveryEffects : Type 0
+EveryEffects =
+    (numbers lent : List ℕ) (a : Refusal) (after : List ℕ) → KeepEffects numbers lent a after → a .number ≡ 0
+    → (o : Outcome) → Returns (graphIn numbers) o → take (graphIn numbers .header .modules) after ≡ o .verdicts
+
+abbrev pub EveryRun : Type 0
+EveryRun =
+    (numbers : List ℕ) (a : RunAnswer) (lent after : RunRows) → KeepRun numbers a lent after → a .number ≡ 0
+    → (o : Outcome) → Returns (graphIn numbers) o → RowsAgree (graphIn numbers) o (a .rounds) (a .entries) after
+
+-- and unless there is a circle, the Rust has one, whatever the hash orders.
+abbrev pub EveryRunReturns : Type 0
+EveryRunReturns =
+    (numbers : List ℕ) (a : RunAnswer) (lent after : RunRows) → KeepRun numbers a lent after → a .number ≡ 0
+    → (Circle (graphIn numbers) → ⊥) → (ch : Choosing (graphIn numbers))
+    → (o : Outcome) × (r : Returns (graphIn numbers) o) × Follows (graphIn numbers) ch o r × RowsAgree (graphIn numbers) o (a .rounds) (a .entries) after
+
+-- Demand 3: `keep_judge` answers 0 exactly for the keep records of accepted numbers and good starts,
+abbrev pub EveryJudge : Type 1
+EveryJudge = (numbers starts row : List ℕ) → (judgedOf (judgeOf numbers starts row) .number ≡ 0) ↔ Passes numbers starts row
+
+-- so for what `keep_drain` leaves in the record, beside the same starts,
+abbrev pub EveryDrainJudged : Type 0
+EveryDrainJudged =
+    (numbers starts : List ℕ) (a : DrainAnswer) (lent after : Rows) → KeepDrain numbers starts a lent after → a .number ≡ 0
+    → judgedOf (judgeOf numbers starts (take (6 * a .lines) (after .lines))) .number ≡ 0
+
+-- and for the lines of the main stage that `keep_run` leaves there, beside the run's own starts, worked out from the graph,
+abbrev pub EveryRunJudged : Type 0
+EveryRunJudged =
+    (numbers : List ℕ) (a : RunAnswer) (lent after : RunRows) → KeepRun numbers a lent after → a .number ≡ 0
+    → judgedOf (judgeOf numbers (triples (runStarts (graphIn numbers) (lastVerdicts (graphIn numbers)))) (take (6 * a .lines) (after .lines))) .number ≡ 0
+
+-- or beside those that `keep_starts` gives.
+abbrev pub EveryStartsJudged : Type 0
+EveryStartsJudged =
+    (numbers : List ℕ) (a : RunAnswer) (lent after : RunRows) → KeepRun numbers a lent after → a .number ≡ 0
+    → (b : ReadAnswer) (lent′ after′ : StartsRows) → KeepStarts numbers b lent′ after′ → b .number ≡ 0
+    → judgedOf (judgeOf numbers (take (b .count) (after′ .starts)) (take (6 * a .lines) (after .lines))) .number ≡ 0

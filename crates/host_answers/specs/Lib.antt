@@ -1,0 +1,5 @@
+-- The main definitions of each file.
+-- `Numbers`: `OneOf`, `Numbered`.
+-- `Answered`: what follows from an answer's number 0 at the C boundary.
+pub mod Numbers
+pub mod Answered
