@@ -1,12 +1,12 @@
 -- The refusals of what reads numbers from the left (`rows`): 2, 3 or 4, whatever is read.
-use Prim.Native.Nat.{ℕ, zero, suc, _+_}
+use Prim.Native.Nat.{ℕ, zero, suc}
 use mathlib.Core.Path.{_≡_, refl}
 use mathlib.Core.Bool.{Bool, true, false}
 use mathlib.Core.List.{List, [], _∷_, map}
 use native.Mathlib.Omega.{arith}
 use lib.Dec.{ltb, leb}
 use lib.ListN.{length, getD}
-use Rattle.rows.specs.Walk.{Parsed, got, fault, andThen, Rule, value, count, below, within, obeys, number, cells, many, ListRule, list, firsts, plainRow, repeated, distinctRow, lists, Item, item}
+use Rattle.rows.specs.Walk.{Parsed, got, fault, andThen, Rule, value, count, below, within, obeys, number, cells, many, ListRule, list, firsts, plainRow, repeated, distinctRow, lists, item}
 use Rattle.host_answers.specs.Numbers.{OneOf}
 
 -- where reading ends in a fault, its number is one of these

@@ -1,13 +1,13 @@
 -- The refusals of a check are 2, 3 or 4: the parts of a graph, the rules that read a later number, and numbers left over.
 use Prim.Native.Nat.{ℕ, _+_}
-use mathlib.Core.Bool.{Bool, true, false}
+use mathlib.Core.Bool.{Bool}
 use mathlib.Core.List.{List, [], _∷_}
 use lib.Dec.{eqb, ltb}
 use lib.ListN.{length, getD}
-use Rattle.rows.specs.Walk.{Parsed, below, ListRule, firsts, plainRow, plain, distinct, Item, noItem}
+use Rattle.rows.specs.Walk.{below, firsts, plainRow, plain, distinct, Item, noItem}
 use Rattle.graph_format.specs.declared.Header.{Header}
 use Rattle.graph_format.specs.declared.Left.{Left}
-use Rattle.graph_format.specs.Format.{headerRules, headerOf, moduleRules, importLists, exportLists, nameLists, moduleLists, moduleAt, lessModule, modulesAt, kindOf, statementsOf, importRecordsOf, symbolRules, ownersStatements, symbolLists, symbolAt, following, symbolsAt, dependedAt, memberRules, partsAt, referenceAt, referenceList, statementLists, statementAt, moduleStatements, statementsAt, relatedModuleAt, relatedImportRecordAt, relatedAt, entryAt, entriesAt}
+use Rattle.graph_format.specs.Format.{headerRules, headerOf, importLists, exportLists, nameLists, moduleLists, moduleAt, lessModule, modulesAt, kindOf, statementsOf, importRecordsOf, symbolRules, ownersStatements, symbolLists, symbolAt, following, symbolsAt, dependedAt, memberRules, partsAt, referenceAt, statementLists, statementAt, moduleStatements, statementsAt, relatedModuleAt, relatedImportRecordAt, relatedAt, entryAt, entriesAt}
 use Rattle.graph.specs.Check.{Graph, helpersAt, graphAt, walked, each, runtimeNormal, ownsNamespace, rootIsRoot, laterRules, checkOf}
 use Rattle.host_answers.proofs.Faults.{Faults, of-got, no-such, cut-short, of-then, of-test, of-number, of-cells, of-many, of-plain, of-distinct, RowFaults, AllRows, none, more, of-list, of-item}
 
@@ -27,7 +27,9 @@ module _ (h : Header) (numbers : List ℕ) where
   lists-of-module : (n : ℕ) → AllRows (moduleLists h numbers n)
   unfolding moduleLists importLists exportLists nameLists
   lists-of-module n =
-      more (plain-rows numbers _) (more (plain-rows numbers _) (more (plain-rows numbers _) (more (plain-rows numbers _) (more (plain-rows numbers _) (more (plain-rows numbers _) (more (distinct-rows numbers _) (more (distinct-rows numbers _) (more (plain-rows numbers _) (more (plain-rows numbers _) none)))))))))
+      more (plain-rows numbers _) (more (plain-rows numbers _) (more (plain-rows numbers _)
+      (more (plain-rows numbers _) (more (plain-rows numbers _) (more (plain-rows numbers _)
+      (more (distinct-rows numbers _) (more (distinct-rows numbers _) (more (plain-rows numbers _) (more (plain-rows numbers _) none)))))))))
 
   of-module : (left : Left) (at : ℕ) → Faults (moduleAt h numbers left at)
   unfolding moduleAt
@@ -39,6 +41,7 @@ module _ (h : Header) (numbers : List ℕ) where
 
 -- Symbols --------------------------------------------------------------------------------------------------------------------------------
 
+module _ (h : Header) (numbers : List ℕ) where
   lists-of-symbol : (n : ℕ) → AllRows (symbolLists h numbers n)
   unfolding symbolLists
   lists-of-symbol n = more (plain-rows numbers _) (more (owners-rows numbers _) (more (owners-rows numbers _) none))
@@ -93,30 +96,31 @@ module _ (h : Header) (numbers : List ℕ) where
 
 -- Entries --------------------------------------------------------------------------------------------------------------------------------
 
-    of-related-module : (at : ℕ) → Faults (relatedModuleAt h modules numbers at)
-    unfolding relatedModuleAt
-    of-related-module at = of-then (of-number (below (h .modules)) numbers at) (λ m q. of-test (eqb (kindOf (getD modules m noItem)) 1) of-got no-such)
+module _ (h : Header) (numbers : List ℕ) (modules : List Item) where
+  of-related-module : (at : ℕ) → Faults (relatedModuleAt h modules numbers at)
+  unfolding relatedModuleAt
+  of-related-module at = of-then (of-number (below (h .modules)) numbers at) (λ m q. of-test (eqb (kindOf (getD modules m noItem)) 1) of-got no-such)
 
-    of-related-record : (importRecords : List (List ℕ)) (at : ℕ) → Faults (relatedImportRecordAt importRecords numbers at)
-    unfolding relatedImportRecordAt
-    of-related-record importRecords at =
-        of-then (of-number (below (length importRecords)) numbers at) (λ r q. of-test (eqb (getD (getD importRecords r []) 0 0) 0) no-such of-got)
+  of-related-record : (importRecords : List (List ℕ)) (at : ℕ) → Faults (relatedImportRecordAt importRecords numbers at)
+  unfolding relatedImportRecordAt
+  of-related-record importRecords at =
+      of-then (of-number (below (length importRecords)) numbers at) (λ r q. of-test (eqb (getD (getD importRecords r []) 0 0) 0) no-such of-got)
 
-    of-related : (seen : List ℕ) (at : ℕ) → Faults (relatedAt h modules numbers seen at)
-    unfolding relatedAt
-    of-related seen at =
-        of-then (of-related-module at)
-        (λ m q. of-then (of-number (below (statementsOf (getD modules m noItem))) numbers q)
-        (λ s p. of-then (of-related-record (importRecordsOf (getD modules m noItem)) p)
-        (λ r o. of-then (of-number (below 2) numbers o) (λ u n. of-got))))
+  of-related : (seen : List ℕ) (at : ℕ) → Faults (relatedAt h modules numbers seen at)
+  unfolding relatedAt
+  of-related seen at =
+      of-then (of-related-module at)
+      (λ m q. of-then (of-number (below (statementsOf (getD modules m noItem))) numbers q)
+      (λ s p. of-then (of-related-record (importRecordsOf (getD modules m noItem)) p)
+      (λ r o. of-then (of-number (below 2) numbers o) (λ u n. of-got))))
 
-    of-entry : (i at : ℕ) → Faults (entryAt h modules numbers i at)
-    unfolding entryAt
-    of-entry i at = of-item (below (h .modules) ∷ below 3 ∷ []) _ (λ head. more (record { rows = of-related }) none) numbers at
+  of-entry : (i at : ℕ) → Faults (entryAt h modules numbers i at)
+  unfolding entryAt
+  of-entry i at = of-item (below (h .modules) ∷ below 3 ∷ []) _ (λ head. more (record { rows = of-related }) none) numbers at
 
-    of-entries : (at : ℕ) → Faults (entriesAt h modules numbers at)
-    unfolding entriesAt
-    of-entries at = of-many (entryAt h modules numbers) following of-entry (h .entries) 0 at
+  of-entries : (at : ℕ) → Faults (entriesAt h modules numbers at)
+  unfolding entriesAt
+  of-entries at = of-many (entryAt h modules numbers) following of-entry (h .entries) 0 at
 
 -- The whole ------------------------------------------------------------------------------------------------------------------------------
 

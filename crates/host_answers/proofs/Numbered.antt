@@ -1,16 +1,13 @@
 -- The numbers of refusals: which each operation may give.
-use lib.ListN.{length}
-use Rattle.leb128.specs.Read.{readOf}
 use Rattle.host_answers.specs.Numbers.{Numbered}
 use Rattle.host_answers.proofs.GraphFaults.{check-faults}
-use Rattle.host_answers.proofs.Refusals.{reads-from, effects-in, judges-of}
+use Rattle.host_answers.proofs.Refusals.{reads-of, effects-in, judges-of}
 use Rattle.host_answers.proofs.Outcomes.{drains-of, runs-of, starts-of}
 
 pub numbered : Numbered
-unfolding readOf
 numbered =
     record {
-      of-read = λ file room. reads-from (length file) file 0 room .numbers;
+      of-read = λ file room. reads-of file room .numbers;
       of-check = λ numbers. check-faults numbers .numbers;
       of-effects = λ numbers room. effects-in numbers room .numbers;
       of-drain = λ numbers given room. drains-of numbers given room .numbers;

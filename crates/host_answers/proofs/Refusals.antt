@@ -7,7 +7,7 @@ use native.Mathlib.Omega.{arith}
 use lib.Dec.{eqb, ltb}
 use lib.ListN.{length, drop}
 use Rattle.leb128.specs.Groups.{groups, good}
-use Rattle.leb128.specs.Read.{Decoded, all, refused, before, numbersFrom}
+use Rattle.leb128.specs.Read.{Decoded, all, refused, before, numbersFrom, readOf}
 use Rattle.rows.specs.declared.Walk.{Walk}
 use Rattle.rows.specs.declared.Walk.the-variants.{At, Fault}
 use Rattle.rows.specs.Walk.{Parsed, got, fault}
@@ -72,7 +72,7 @@ unfolding before
 reads-before x (all xs) r = reads-all
 reads-before x (refused n p) r = r
 
-pub reads-from : (fuel : ℕ) (xs : List ℕ) (at room : ℕ) → Reads (numbersFrom fuel xs at room)
+reads-from : (fuel : ℕ) (xs : List ℕ) (at room : ℕ) → Reads (numbersFrom fuel xs at room)
 unfolding numbersFrom
 reads-from zero xs at room = reads-all
 reads-from (suc fuel) [] at room = reads-all
@@ -80,6 +80,10 @@ reads-from (suc fuel) (b ∷ bs) at room =
     by-test Reads (good (groups (b ∷ bs)))
     (by-test Reads (ltb 0 room) (reads-before _ _ (reads-from fuel (drop (length (groups (b ∷ bs))) (b ∷ bs)) (at + length (groups (b ∷ bs))) (room - 1))) reads-5)
     reads-1
+
+pub reads-of : (file : List ℕ) (room : ℕ) → Reads (readOf file room)
+unfolding readOf
+reads-of file room = reads-from (length file) file 0 room
 
 -- Effects --------------------------------------------------------------------------------------------------------------------------------
 

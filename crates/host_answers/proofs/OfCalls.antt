@@ -1,0 +1,139 @@
+-- What a caller knows of a call at the C boundary whose answer has the number 0.
+use Prim.Native.Nat.{ℕ}
+use mathlib.Core.Path.{_≡_, refl, ap, _∙_, sym}
+use mathlib.Core.Bool.{Bool, true, false}
+use mathlib.Core.List.{List, _++_}
+use native.Mathlib.Omega.{arith}
+use borrow.Author.Tests.{ltb-true, ltb-false}
+use lib.Dec.{ltb}
+use lib.ListN.{length, take, drop}
+use lib.Seq.{take-at}
+use Rattle.leb128.specs.Read.{all, readOf, lentOf}
+use Rattle.rows.specs.Walk.{Parsed, got, fault}
+use Rattle.graph.specs.declared.Checked.the-variants.{Accepted, Refused}
+use Rattle.graph.specs.Check.{Graph, graphIn, checkOf, answerOf}
+use Rattle.determine_side_effects.specs.Effects.{lastVerdicts}
+use Rattle.determine_side_effects.specs.Operation.{effectsAnswer, effectsRow}
+use Rattle.determine_side_effects.proofs.Loading.{last-length, short-answer, long-row}
+use Rattle.keep_record.specs.declared.Line.{Line}
+use Rattle.drain_parts.specs.Operation as drain
+use Rattle.run_rows.specs.Run.{runOf}
+use Rattle.run_parts.specs.Operation as run
+use Rattle.judge_parts.specs.declared.Judged.the-variants.{Passed}
+use Rattle.judge_parts.specs.Operation.{judgeOf}
+use Rattle.run_starts_parts.specs.Operation as starts
+use Rattle.rust_effects.proofs.SameVerdicts.{rust-effects}
+use Rattle.rust_run.proofs.Boundary.{run-shows-rust}
+use Rattle.rust_returns.proofs.OnCircles.{returns-and-agrees}
+use Rattle.judged_records.proofs.OfOperations.{judge-exactly, drain-passes, run-passes}
+use Rattle.judged_starts.proofs.OfStarts.{starts-given}
+use Rattle.host.specs.declared.DrainAnswer.{DrainAnswer}
+use Rattle.host.specs.declared.ReadAnswer.{ReadAnswer}
+use Rattle.host.specs.declared.Refusal.{Refusal}
+use Rattle.host.specs.Answers.{readAnswerOf, drainAnswerOf, judgedOf}
+use Rattle.host_answers.specs.Answered.{EveryRead, EveryCheck, EveryEffects, EveryRun, EveryRunReturns, EveryJudge, EveryDrainJudged, EveryRunJudged, EveryStartsJudged}
+use Rattle.host_answers.proofs.GraphFaults.{check-faults}
+use Rattle.host_answers.proofs.Refusals.{reads-of, effects-in, judges-of}
+use Rattle.host_answers.proofs.Outcomes.{drains-of}
+use Rattle.host_answers.proofs.NotRefused.{read-whole, accepted-exactly, effects-passed, passed-exactly, drain-not-refused}
+use Rattle.host_answers.proofs.OfRuns.{run-kept, starts-kept}
+
+-- A file and a graph ---------------------------------------------------------------------------------------------------------------------
+
+count-is : (a : ReadAnswer) (xs : List ℕ) → a ≡ readAnswerOf (all xs) → length xs ≡ a .count
+unfolding readAnswerOf
+count-is a xs e = sym (ap (λ (x : ReadAnswer). x .count) e)
+
+numbers-first : (xs lent after : List ℕ) (n : ℕ) → after ≡ lentOf (all xs) lent → length xs ≡ n → take n after ≡ xs
+unfolding lentOf
+numbers-first xs lent after n e l = ap (take n) e ∙ take-at xs (drop (length xs) lent) n l
+
+pub read-answers : EveryRead
+read-answers file lent a after k z =
+    let w = read-whole (readOf file (length lent)) (reads-of file (length lent)) (sym (ap (λ (x : ReadAnswer). x .number) (k .answers)) ∙ z) in
+    record {
+      numbers = w .0;
+      read = w .1;
+      first = numbers-first (w .0) lent after (a .count) (k .leaves ∙ ap (λ d. lentOf d lent) (w .1)) (count-is a (w .0) (k .answers ∙ ap readAnswerOf (w .1)));
+    }
+
+pub check-answers : EveryCheck
+check-answers numbers = accepted-exactly (checkOf numbers) (check-faults numbers)
+
+-- Verdicts -------------------------------------------------------------------------------------------------------------------------------
+
+effects-refused : (n p : ℕ) → Refused n p ≡ Accepted → ⊥
+effects-refused n p e = let z : _≡_ {A = ℕ} 0 1 = cc in omega arith
+
+effects-accepted : (numbers : List ℕ) (room : ℕ) → effectsAnswer numbers room ≡ Accepted → answerOf (checkOf numbers) ≡ Accepted
+unfolding effectsAnswer answerOf
+effects-accepted numbers room e = go (checkOf numbers) refl
+  where
+    go : (x : Parsed Graph) → checkOf numbers ≡ x → answerOf (checkOf numbers) ≡ Accepted
+    go (got g q) t = ap answerOf t
+    go (fault n p) t = absurd (effects-refused n p (rw (t, effectsAnswer) at e))
+
+verdicts-first : (numbers lent : List ℕ) → effectsAnswer numbers (length lent) ≡ Accepted → effectsRow numbers lent ≡ lastVerdicts (graphIn numbers) ++ drop (graphIn numbers .header .modules) lent
+unfolding graphIn
+verdicts-first numbers lent e = go (ltb (length lent) (graphIn numbers .header .modules)) refl
+  where
+    go : (b : Bool) → ltb (length lent) (graphIn numbers .header .modules) ≡ b → effectsRow numbers lent ≡ lastVerdicts (graphIn numbers) ++ drop (graphIn numbers .header .modules) lent
+    go true t = absurd (effects-refused 5 0 (short-answer numbers (effects-accepted numbers (length lent) e) (length lent) (ltb-true _ _ t) ∙ e))
+    go false t = sym (long-row numbers (effects-accepted numbers (length lent) e) lent (ltb-false _ _ t))
+
+pub effects-answer : EveryEffects
+effects-answer numbers lent a after k z o x =
+    let g = graphIn numbers in
+    let e = effects-passed (effectsAnswer numbers (length lent)) (effects-in numbers (length lent)) (sym (ap (λ (y : Refusal). y .number) (k .answers)) ∙ z) in
+    ap (take (g .header .modules)) (k .leaves ∙ verdicts-first numbers lent e)
+    ∙ take-at (lastVerdicts g) (drop (g .header .modules) lent) (g .header .modules) (last-length g)
+    ∙ sym (rust-effects g (o .verdicts) (x .side-effects))
+
+-- Runs -----------------------------------------------------------------------------------------------------------------------------------
+
+pub run-answers : EveryRun
+run-answers numbers a lent after k z o x =
+    run-shows-rust numbers lent after (a .rounds) (a .lines) (a .«runtime_lines») (a .entries) (run-kept numbers a lent after k z .runs) o x
+
+pub run-returns : EveryRunReturns
+run-returns numbers a lent after k z n ch =
+    let r = returns-and-agrees numbers (run-kept numbers a lent after k z .accepted) n ch in
+    (r .0, r .1, r .2, run-answers numbers a lent after k z (r .0) (r .1))
+
+-- Records --------------------------------------------------------------------------------------------------------------------------------
+
+-- the number 0 from a record that is passed
+zero-of : (numbers given row : List ℕ) → judgeOf numbers given row ≡ Passed → judgedOf (judgeOf numbers given row) .number ≡ 0
+zero-of numbers given row e = passed-exactly (judgeOf numbers given row) (judges-of numbers given row) .1 e
+
+pub judge-answers : EveryJudge
+judge-answers numbers given row =
+    let p = passed-exactly (judgeOf numbers given row) (judges-of numbers given row) in
+    let q = judge-exactly numbers given row in
+    (λ z. q .0 (p .0 z), λ h. p .1 (q .1 h))
+
+lines-are : (a : DrainAnswer) (g : Graph) (lines : List Line) → a ≡ drainAnswerOf (drain.answered (drain.done g lines)) → a .lines ≡ length lines
+unfolding drain.answered drainAnswerOf
+lines-are a g lines e = ap (λ (x : DrainAnswer). x .lines) e
+
+pub drain-judged : EveryDrainJudged
+drain-judged numbers given a lent after k z =
+    let out = drain.outcomeOf numbers given (drain.roomsOf lent) in
+    let w = drain-not-refused out (drains-of numbers given (drain.roomsOf lent)) (sym (ap (λ (x : DrainAnswer). x .number) (k .answers)) ∙ z) in
+    let n = lines-are a (w .0) (w .1) (k .answers ∙ ap (λ y. drainAnswerOf (drain.answered y)) (w .2)) in
+    let r = k .leaves .record-is ∙ ap (λ y. drain.recordAfter y (lent .lines)) (w .2) in
+    zero-of numbers given _ (rw (n, r) (drain-passes numbers given (drain.roomsOf lent) (w .0) (w .1) (w .2) (lent .lines)))
+
+pub run-judged : EveryRunJudged
+run-judged numbers a lent after k z =
+    let g = graphIn numbers in
+    let w = run-kept numbers a lent after k z in
+    zero-of numbers _ _ (rw (w .lines-are, w .record-is) (run-passes numbers (run.roomsOf lent) g (runOf g) (w .is-done) (lent .lines) .1))
+
+pub starts-judged : EveryStartsJudged
+unfolding starts.recordAfter
+starts-judged numbers a lent after k z b lent′ after′ j y =
+    let w = run-kept numbers a lent after k z in
+    let s = starts-kept numbers b lent′ after′ j y in
+    zero-of numbers _ _
+    (rw (w .lines-are, w .record-is, s .count-is, s .starts-are) (starts-given numbers (starts.roomsOf lent′) (graphIn numbers) (s .is-done) .passed (lent′ .starts) (lent .lines)))
