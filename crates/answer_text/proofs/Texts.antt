@@ -1,12 +1,13 @@
 -- The text for a file, stage by stage.
-use Prim.Native.Nat.{ℕ, _≤_}
+use Prim.Native.Nat.{ℕ, _<_, _≤_}
 use mathlib.Core.Path.{_≡_, refl, ap, _∙_, sym, subst}
 use mathlib.Core.Bool.{Bool, true, false}
 use mathlib.Core.List.{List, [], _∷_, _++_}
 use native.Mathlib.Omega.{arith}
-use borrow.Author.Tests.{le-ltb}
-use lib.ListN.{length, take, drop, replicate, length-append, length-replicate}
-use lib.Seq.{take-at, length-take-le}
+use borrow.Author.Tests.{ltb-true, ltb-false, lt-ltb, le-ltb}
+use lib.Dec.{ltb}
+use lib.ListN.{length, take, drop, replicate, length-append, length-replicate, length-drop, drop-of-length-le}
+use lib.Seq.{take-at, take-all, length-take-le}
 use Rattle.leb128.specs.declared.Answer.the-variants.{Numbers, Refused}
 use Rattle.leb128.specs.Read.{Decoded, all, refused, readOf, answerOf, lentOf, IsRead}
 use Rattle.graph_format.specs.declared.Header.{Header}
@@ -21,20 +22,41 @@ use Rattle.run_rows.specs.Run.{Run, entriesRow}
 use Rattle.run_parts.specs.Operation.{Rows, rows, Rooms, roomsOf, Outcome, done, outcomeOf, entriesAfter}
 use Rattle.listing.specs.Text.{shownIn}
 use Rattle.listing.specs.Listing.{shown, Fits, listingOf, refusedText}
-use Rattle.answer_text.specs.Program.{programRooms, outcomeText, decodedText, programText}
+use Rattle.answer_text.specs.Program.{programRooms, outcomeText, decodedText, fileText, programText, TextOfFile}
 
 -- a text by another name
 pub told-as : (skip : ℕ) (lent : List ℕ) {r : ℕ} {a b out : List ℕ} → a ≡ b → (r ≡ length a) × (out ≡ shownIn skip a lent) → (r ≡ length b) × (out ≡ shownIn skip b lent)
 told-as skip lent e p = (p .0 ∙ ap length e, p .1 ∙ ap (λ t. shownIn skip t lent) e)
 
--- a file that goes on, and one that does not
-pub text-longer : (file : List ℕ) (longer : Bool) → longer ≡ true → refusedText 2 ≡ programText file longer
-unfolding programText
-text-longer file longer e = rw (e, programText)
+-- a file with something behind its first 8,192 bytes, one of which more was handed over, and any other
+module _ (front behind : List ℕ) where
+  pub text-behind : 0 < length behind → refusedText 2 ≡ programText front behind
+  unfolding programText
+  text-behind l = rw (lt-ltb 0 (length behind) l, programText)
 
-pub text-whole : (file : List ℕ) (longer : Bool) → longer ≡ false → decodedText (readOf file 8192) ≡ programText file longer
-unfolding programText
-text-whole file longer e = rw (e, programText)
+  pub text-over : length behind ≤ 0 → 8192 < length front → refusedText 2 ≡ programText front behind
+  unfolding programText fileText
+  text-over l m = rw (le-ltb 0 (length behind) l, lt-ltb 8192 (length front) m, programText, fileText)
+
+  pub text-whole : length behind ≤ 0 → length front ≤ 8192 → decodedText (readOf front 8192) ≡ programText front behind
+  unfolding programText fileText
+  text-whole l m = rw (le-ltb 0 (length behind) l, le-ltb 8192 (length front) m, programText, fileText)
+
+-- what the two buffers hold of a whole file
+pub text-of-file : TextOfFile
+unfolding fileText
+text-of-file file = go (ltb 8192 (length file)) refl
+  where
+    go : (b : Bool) → ltb 8192 (length file) ≡ b → programText (take 8192 file) (take 1 (drop 8192 file)) ≡ fileText file
+    go true e =
+        let l = ltb-true 8192 (length file) e in
+        let n : length (take 1 (drop 8192 file)) ≡ 1 = length-take-le 1 (drop 8192 file) (omega (arith, l, length-drop 8192 file)) in
+        sym (text-behind (take 8192 file) (take 1 (drop 8192 file)) (omega (arith, n))) ∙ rw (e, fileText)
+    go false e =
+        let l = ltb-false 8192 (length file) e in
+        let n : length (take 1 (drop 8192 file)) ≤ 0 = omega (arith, ap (λ (xs : List ℕ). length (take 1 xs)) (drop-of-length-le file l)) in
+        let k : take 8192 file ≡ file = take-all 8192 file l in
+        sym (text-whole (take 8192 file) (take 1 (drop 8192 file)) n (omega (arith, l, ap length k))) ∙ rw (k, e, fileText)
 
 -- what was read
 module _ (d : Decoded) where

@@ -1,2 +1,2 @@
--- The main definitions of `Program`: `programText`.
+-- The main definitions of `Program`: `fileText`, `programText`, `TextOfFile`.
 pub mod Program

@@ -1,8 +1,10 @@
 -- What the program prints for a file (docs/OPERATIONS.md, Program keep).
 use Prim.Native.Nat.{ℕ}
-use mathlib.Core.Bool.{Bool, true, false}
+use mathlib.Core.Path.{_≡_}
+use mathlib.Core.Bool.{true, false}
 use mathlib.Core.List.{List, [], _∷_}
-use lib.ListN.{length, replicate}
+use lib.Dec.{ltb}
+use lib.ListN.{length, replicate, take, drop}
 use Rattle.leb128.specs.Read.{Decoded, all, refused, readOf}
 use Rattle.graph.specs.Check.{Graph}
 use Rattle.determine_side_effects.specs.Effects.{lastVerdicts}
@@ -57,6 +59,14 @@ unfoldable pub decodedText : Decoded → List ℕ
 decodedText (all numbers) = outcomeText (outcomeOf numbers programRooms)
 decodedText (refused n p) = refusedText n
 
--- a file longer than 8,192 bytes is refused 2, before anything is read as numbers
-unfoldable pub programText : List ℕ → Bool → List ℕ
-programText file longer = elim longer [ true ↦ refusedText 2 | false ↦ decodedText (readOf file 8192) ]
+-- the text for a file: one of more than 8,192 bytes is refused 2, before anything is read as numbers
+unfoldable pub fileText : List ℕ → List ℕ
+fileText file = elim (ltb 8192 (length file)) [ true ↦ refusedText 2 | false ↦ decodedText (readOf file 8192) ]
+
+-- The text for what two buffers hold: the front of a file, and what was read behind it once the first buffer was full. If the second holds a byte,
+-- the file is longer than 8,192 bytes. The text is that of the whole file (`TextOfFile`).
+unfoldable pub programText : List ℕ → List ℕ → List ℕ
+programText front behind = elim (ltb 0 (length behind)) [ true ↦ refusedText 2 | false ↦ fileText front ]
+
+abbrev pub TextOfFile : Type 0
+TextOfFile = (file : List ℕ) → programText (take 8192 file) (take 1 (drop 8192 file)) ≡ fileText file

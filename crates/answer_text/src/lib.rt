@@ -1,6 +1,6 @@
 // What the program prints for a file.
 ghost use mathlib.Core.Path.{_≡_};
-ghost use Prim.Native.Nat.{ℕ, _+_, _*_, _<_, _≤_};
+ghost use Prim.Native.Nat.{ℕ, _+_, _*_, _<_};
 ghost use lib.ListN.{length};
 ghost use Rattle.leb128.specs.Read.{readOf};
 ghost use Rattle.graph.specs.Check.{graphIn};
@@ -141,14 +141,16 @@ fn decoded(file: &[u8], skip: usize, out: &mut [u8]) -> usize
     }
 }
 
-// The text for a file, of which `file` has the first 8,192 bytes at most; `longer` says that it goes on. A row that is shorter than the text
-// holds its part behind the first `skip` bytes. Gives how long the text is.
-pub fn text(file: &[u8], longer: bool, skip: usize, out: &mut [u8]) -> usize
-    requires { ⌜ length (now file) ≤ 8192 ⌝ }
-    ensures { λ r. ⌜ (r ≡ length (programText (now (file .entry)) longer)) × (now (out .exit) ≡ shownIn skip (programText (now (file .entry)) longer) (now (out .entry))) ⌝ }
+// The text for a file: `front` has its first bytes, `behind` what follows the first 8,192. A row that is shorter than the text holds its part
+// behind the first `skip` bytes. Gives how long the text is.
+pub fn text(front: &[u8], behind: &[u8], skip: usize, out: &mut [u8]) -> usize
+    ensures { λ r. ⌜ (r ≡ length (programText (now (front .entry)) (now (behind .entry)))) × (now (out .exit) ≡ shownIn skip (programText (now (front .entry)) (now (behind .entry))) (now (out .entry))) ⌝ }
 {
-    if longer {
+    if behind.len() > 0 {
         return listing::refuse(2, skip, out);
     }
-    decoded(file, skip, out)
+    if front.len() > 8192 {
+        return listing::refuse(2, skip, out);
+    }
+    decoded(front, skip, out)
 }
