@@ -1,12 +1,12 @@
 -- What a caller knows of a call at the C boundary whose answer has the number 0.
-use Prim.Native.Nat.{ℕ}
+use Prim.Native.Nat.{ℕ, _*_, _≤_}
 use mathlib.Core.Path.{_≡_, refl, ap, _∙_, sym}
 use mathlib.Core.Bool.{Bool, true, false}
 use mathlib.Core.List.{List, _++_}
 use native.Mathlib.Omega.{arith}
 use borrow.Author.Tests.{ltb-true, ltb-false}
 use lib.Dec.{ltb}
-use lib.ListN.{length, take, drop}
+use lib.ListN.{length, take, drop, length-append}
 use lib.Seq.{take-at}
 use Rattle.leb128.specs.Read.{all, readOf, lentOf}
 use Rattle.rows.specs.Walk.{Parsed, got, fault}
@@ -16,6 +16,8 @@ use Rattle.determine_side_effects.specs.Effects.{lastVerdicts}
 use Rattle.determine_side_effects.specs.Operation.{effectsAnswer, effectsRow}
 use Rattle.determine_side_effects.proofs.Loading.{last-length, short-answer, long-row}
 use Rattle.keep_record.specs.declared.Line.{Line}
+use Rattle.keep_record.specs.Lines.{written}
+use Rattle.keep_record.proofs.Rows.{written-length}
 use Rattle.drain_parts.specs.Operation as drain
 use Rattle.run_rows.specs.Run.{runOf}
 use Rattle.run_parts.specs.Operation as run
@@ -25,6 +27,10 @@ use Rattle.run_starts_parts.specs.Operation as starts
 use Rattle.rust_effects.proofs.SameVerdicts.{rust-effects}
 use Rattle.rust_run.proofs.Boundary.{run-shows-rust}
 use Rattle.rust_returns.proofs.OnCircles.{returns-and-agrees}
+use Rattle.own_starts.specs.Once.{triples}
+use Rattle.noted_stages.specs.Stages.{ownStartsOnce}
+use Rattle.judged_records.proofs.RunTriples.{triples-length}
+use Rattle.judged_records.proofs.OfRuns.{main-begins}
 use Rattle.judged_records.proofs.OfOperations.{judge-exactly, drain-passes, run-passes}
 use Rattle.judged_starts.proofs.OfStarts.{starts-given}
 use Rattle.host.specs.declared.DrainAnswer.{DrainAnswer}
@@ -48,17 +54,18 @@ numbers-first : (xs lent after : List ℕ) (n : ℕ) → after ≡ lentOf (all x
 unfolding lentOf
 numbers-first xs lent after n e l = ap (take n) e ∙ take-at xs (drop (length xs) lent) n l
 
-pub read-answers : EveryRead
-read-answers file lent a after k z =
+pub read-call : EveryRead
+read-call file lent a after k z =
     let w = read-whole (readOf file (length lent)) (reads-of file (length lent)) (sym (ap (λ (x : ReadAnswer). x .number) (k .answers)) ∙ z) in
     record {
       numbers = w .0;
       read = w .1;
+      count-is = sym (count-is a (w .0) (k .answers ∙ ap readAnswerOf (w .1)));
       first = numbers-first (w .0) lent after (a .count) (k .leaves ∙ ap (λ d. lentOf d lent) (w .1)) (count-is a (w .0) (k .answers ∙ ap readAnswerOf (w .1)));
     }
 
-pub check-answers : EveryCheck
-check-answers numbers = accepted-exactly (checkOf numbers) (check-faults numbers)
+pub check-call : EveryCheck
+check-call numbers = accepted-exactly (checkOf numbers) (check-faults numbers)
 
 -- Verdicts -------------------------------------------------------------------------------------------------------------------------------
 
@@ -81,24 +88,24 @@ verdicts-first numbers lent e = go (ltb (length lent) (graphIn numbers .header .
     go true t = absurd (effects-refused 5 0 (short-answer numbers (effects-accepted numbers (length lent) e) (length lent) (ltb-true _ _ t) ∙ e))
     go false t = sym (long-row numbers (effects-accepted numbers (length lent) e) lent (ltb-false _ _ t))
 
-pub effects-answer : EveryEffects
-effects-answer numbers lent a after k z o x =
+pub effects-call : EveryEffects
+effects-call numbers lent a after k z w x =
     let g = graphIn numbers in
     let e = effects-passed (effectsAnswer numbers (length lent)) (effects-in numbers (length lent)) (sym (ap (λ (y : Refusal). y .number) (k .answers)) ∙ z) in
     ap (take (g .header .modules)) (k .leaves ∙ verdicts-first numbers lent e)
     ∙ take-at (lastVerdicts g) (drop (g .header .modules) lent) (g .header .modules) (last-length g)
-    ∙ sym (rust-effects g (o .verdicts) (x .side-effects))
+    ∙ sym (rust-effects g w x)
 
 -- Runs -----------------------------------------------------------------------------------------------------------------------------------
 
-pub run-answers : EveryRun
-run-answers numbers a lent after k z o x =
+pub run-call : EveryRun
+run-call numbers a lent after k z o x =
     run-shows-rust numbers lent after (a .rounds) (a .lines) (a .«runtime_lines») (a .entries) (run-kept numbers a lent after k z .runs) o x
 
-pub run-returns : EveryRunReturns
-run-returns numbers a lent after k z n ch =
+pub run-call-returns : EveryRunReturns
+run-call-returns numbers a lent after k z n ch =
     let r = returns-and-agrees numbers (run-kept numbers a lent after k z .accepted) n ch in
-    (r .0, r .1, r .2, run-answers numbers a lent after k z (r .0) (r .1))
+    (r .0, r .1, r .2, run-call numbers a lent after k z (r .0) (r .1))
 
 -- Records --------------------------------------------------------------------------------------------------------------------------------
 
@@ -106,8 +113,8 @@ run-returns numbers a lent after k z n ch =
 zero-of : (numbers given row : List ℕ) → judgeOf numbers given row ≡ Passed → judgedOf (judgeOf numbers given row) .number ≡ 0
 zero-of numbers given row e = passed-exactly (judgeOf numbers given row) (judges-of numbers given row) .1 e
 
-pub judge-answers : EveryJudge
-judge-answers numbers given row =
+pub judge-call : EveryJudge
+judge-call numbers given row =
     let p = passed-exactly (judgeOf numbers given row) (judges-of numbers given row) in
     let q = judge-exactly numbers given row in
     (λ z. q .0 (p .0 z), λ h. p .1 (q .1 h))
@@ -116,24 +123,46 @@ lines-are : (a : DrainAnswer) (g : Graph) (lines : List Line) → a ≡ drainAns
 unfolding drain.answered drainAnswerOf
 lines-are a g lines e = ap (λ (x : DrainAnswer). x .lines) e
 
+-- what stands in front of a row lies in it
+front-inside : (front rest row : List ℕ) (n : ℕ) → row ≡ front ++ rest → length front ≡ n → n ≤ length row
+front-inside front rest row n e l = omega (arith, ap length e, length-append front rest, l)
+
 pub drain-judged : EveryDrainJudged
+unfolding drain.recordAfter
 drain-judged numbers given a lent after k z =
     let out = drain.outcomeOf numbers given (drain.roomsOf lent) in
     let w = drain-not-refused out (drains-of numbers given (drain.roomsOf lent)) (sym (ap (λ (x : DrainAnswer). x .number) (k .answers)) ∙ z) in
     let n = lines-are a (w .0) (w .1) (k .answers ∙ ap (λ y. drainAnswerOf (drain.answered y)) (w .2)) in
     let r = k .leaves .record-is ∙ ap (λ y. drain.recordAfter y (lent .lines)) (w .2) in
-    zero-of numbers given _ (rw (n, r) (drain-passes numbers given (drain.roomsOf lent) (w .0) (w .1) (w .2) (lent .lines)))
+    (
+      rw n (front-inside (written (w .1)) _ (after .lines) (6 * length (w .1)) r (written-length (w .1))),
+      zero-of numbers given _ (rw (n, r) (drain-passes numbers given (drain.roomsOf lent) (w .0) (w .1) (w .2) (lent .lines))),
+    )
+
+-- the lines of the main stage stand in front of those of both stages
+main-inside : (g : Graph) (row : List ℕ) (lent : List ℕ) (n : ℕ) → row ≡ run.recordAfter (run.done g (runOf g)) lent → n ≡ length (runOf g .main) → 6 * n ≤ length row
+unfolding run.recordAfter
+main-inside g row lent n e l =
+    let both = runOf g .lines in
+    let b = main-begins g in
+    omega (arith, l, ap length (b .1), length-append (runOf g .main) (b .0), front-inside (written both) _ row (6 * length both) e (written-length both))
 
 pub run-judged : EveryRunJudged
 run-judged numbers a lent after k z =
     let g = graphIn numbers in
     let w = run-kept numbers a lent after k z in
-    zero-of numbers _ _ (rw (w .lines-are, w .record-is) (run-passes numbers (run.roomsOf lent) g (runOf g) (w .is-done) (lent .lines) .1))
+    (
+      main-inside g (after .lines) (lent .lines) (a .lines) (w .record-is) (w .lines-are),
+      zero-of numbers _ _ (rw (w .lines-are, w .record-is) (run-passes numbers (run.roomsOf lent) g (runOf g) (w .is-done) (lent .lines) .1)),
+    )
 
 pub starts-judged : EveryStartsJudged
-unfolding starts.recordAfter
+unfolding starts.recordAfter starts.startsAfter
 starts-judged numbers a lent after k z b lent′ after′ j y =
     let w = run-kept numbers a lent after k z in
     let s = starts-kept numbers b lent′ after′ j y in
-    zero-of numbers _ _
-    (rw (w .lines-are, w .record-is, s .count-is, s .starts-are) (starts-given numbers (starts.roomsOf lent′) (graphIn numbers) (s .is-done) .passed (lent′ .starts) (lent .lines)))
+    (
+      rw (s .count-is) (front-inside (triples (ownStartsOnce (graphIn numbers))) _ (after′ .starts) (3 * length (ownStartsOnce (graphIn numbers))) (s .starts-are) (triples-length (ownStartsOnce (graphIn numbers)))),
+      zero-of numbers _ _
+      (rw (w .lines-are, w .record-is, s .count-is, s .starts-are) (starts-given numbers (starts.roomsOf lent′) (graphIn numbers) (s .is-done) .passed (lent′ .starts) (lent .lines))),
+    )

@@ -1,6 +1,6 @@
 -- What a caller knows of a call at the C boundary whose answer has the number 0, from the contracts of `host` alone. The theorems are in
 -- proofs/OfCalls.antt.
-use Prim.Native.Nat.{ℕ, _*_}
+use Prim.Native.Nat.{ℕ, _*_, _≤_}
 use mathlib.Core.Path.{_≡_}
 use mathlib.Core.Logic.{_↔_}
 use mathlib.Core.List.{List}
@@ -16,6 +16,7 @@ use Rattle.run_starts_parts.specs.Operation.{Rows as StartsRows}
 use Rattle.tree_shaking.specs.Own.{runStarts}
 use Rattle.own_starts.specs.Once.{triples}
 use Rattle.judged_records.specs.Operation.{Passes}
+use Rattle.rust_effects.specs.DetermineSideEffects.{SideEffects}
 use Rattle.rust_run.specs.IncludeStatements.{Outcome, Returns}
 use Rattle.rust_run.specs.Boundary.{RowsAgree}
 use Rattle.rust_returns.specs.Following.{Choosing, Follows}
@@ -30,6 +31,7 @@ use Rattle.host.specs.Answers.{KeepRead, KeepEffects, KeepDrain, KeepRun, KeepS
 pub record ReadAnswers (file lent : List ℕ) (a : ReadAnswer) (after : List ℕ) : Type 0 where
   pub numbers : List ℕ
   pub read : readOf file (length lent) ≡ all numbers
+  pub count-is : a .count ≡ length numbers
   pub first : take (a .count) after ≡ numbers
 
 abbrev pub EveryRead : Type 0
@@ -39,11 +41,12 @@ EveryRead = (file lent : List ℕ) (a : ReadAnswer) (after : List ℕ) → KeepR
 abbrev pub EveryCheck : Type 0
 EveryCheck = (numbers : List ℕ) → (refusalOf (checkOf numbers) .number ≡ 0) ↔ (answerOf (checkOf numbers) ≡ Accepted)
 
--- Demand 2: the verdicts that `keep_effects` gives, and the rows that `keep_run` gives, are those of every outcome of the Rust;
+-- Demand 2: the verdicts that `keep_effects` gives are those that the Rust comes to before it includes statements, on every graph, and so those of every
+-- outcome; the rows that `keep_run` gives are those of every outcome;
 abbrev pub EveryEffects : Type 0
 EveryEffects =
     (numbers lent : List ℕ) (a : Refusal) (after : List ℕ) → KeepEffects numbers lent a after → a .number ≡ 0
-    → (o : Outcome) → Returns (graphIn numbers) o → take (graphIn numbers .header .modules) after ≡ o .verdicts
+    → (w : List ℕ) → SideEffects (graphIn numbers) w → take (graphIn numbers .header .modules) after ≡ w
 
 abbrev pub EveryRun : Type 0
 EveryRun =
@@ -61,21 +64,23 @@ EveryRunReturns =
 abbrev pub EveryJudge : Type 1
 EveryJudge = (numbers starts row : List ℕ) → (judgedOf (judgeOf numbers starts row) .number ≡ 0) ↔ Passes numbers starts row
 
--- so for what `keep_drain` leaves in the record, beside the same starts,
+-- so for what `keep_drain` leaves in the record, where it lies whole, beside the same starts,
 abbrev pub EveryDrainJudged : Type 0
 EveryDrainJudged =
     (numbers starts : List ℕ) (a : DrainAnswer) (lent after : Rows) → KeepDrain numbers starts a lent after → a .number ≡ 0
-    → judgedOf (judgeOf numbers starts (take (6 * a .lines) (after .lines))) .number ≡ 0
+    → (6 * a .lines ≤ length (after .lines)) × (judgedOf (judgeOf numbers starts (take (6 * a .lines) (after .lines))) .number ≡ 0)
 
 -- and for the lines of the main stage that `keep_run` leaves there, beside the run's own starts, worked out from the graph,
 abbrev pub EveryRunJudged : Type 0
 EveryRunJudged =
     (numbers : List ℕ) (a : RunAnswer) (lent after : RunRows) → KeepRun numbers a lent after → a .number ≡ 0
-    → judgedOf (judgeOf numbers (triples (runStarts (graphIn numbers) (lastVerdicts (graphIn numbers)))) (take (6 * a .lines) (after .lines))) .number ≡ 0
+    → (6 * a .lines ≤ length (after .lines))
+    × (judgedOf (judgeOf numbers (triples (runStarts (graphIn numbers) (lastVerdicts (graphIn numbers)))) (take (6 * a .lines) (after .lines))) .number ≡ 0)
 
 -- or beside those that `keep_starts` gives.
 abbrev pub EveryStartsJudged : Type 0
 EveryStartsJudged =
     (numbers : List ℕ) (a : RunAnswer) (lent after : RunRows) → KeepRun numbers a lent after → a .number ≡ 0
     → (b : ReadAnswer) (lent′ after′ : StartsRows) → KeepStarts numbers b lent′ after′ → b .number ≡ 0
-    → judgedOf (judgeOf numbers (take (b .count) (after′ .starts)) (take (6 * a .lines) (after .lines))) .number ≡ 0
+    → (b .count ≤ length (after′ .starts))
+    × (judgedOf (judgeOf numbers (take (b .count) (after′ .starts)) (take (6 * a .lines) (after .lines))) .number ≡ 0)

@@ -35,7 +35,7 @@ use Rattle.judged_records.proofs.RunStarts.{run-starts-fit}
 use Rattle.judged_records.proofs.RunOnce.{once-every, once-has, once-only, same-smallest, same-stand}
 
 -- lines go on behind those that are there
-abbrev Begins : List Line → List Line → Type 0
+abbrev pub Begins : List Line → List Line → Type 0
 Begins lines more = (rest : List Line) × (more ≡ lines ++ rest)
 
 begins-on : (a b c : List Line) → Begins a b → Begins b c → Begins a c
@@ -67,7 +67,7 @@ module _ (g : Graph) (v : List ℕ) (base : ℕ) where
       begins-on lines (started g v base lines f) (drainedAll g v base fs (started g v base lines f)) (started-begins lines f) (all-begins fs (started g v base lines f))
 
 -- the record row of a run begins with the lines of its main part
-main-begins : (g : Graph) → Begins (runOf g .main) (runOf g .lines)
+pub main-begins : (g : Graph) → Begins (runOf g .main) (runOf g .lines)
 unfolding runOf withRuntime runtimeStage
 main-begins g = let main = mainPart g (lastVerdicts g) .end .lines in all-begins g (lastVerdicts g) (length main) (runtimeStarts g (lastVerdicts g) (helperUnion g (has g 0 main))) main
 

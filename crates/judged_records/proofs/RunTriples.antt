@@ -23,7 +23,7 @@ use Rattle.closed_choices.proofs.Every.{Every, every-at}
 three-each : (n m : ℕ) → m ≡ 3 * n → (m % 3 ≡ 0) × (m / 3 ≡ n)
 three-each n m e = (omega (arith, e), omega (arith, e))
 
-triples-length : (fs : List Fact) → length (triples fs) ≡ 3 * length fs
+pub triples-length : (fs : List Fact) → length (triples fs) ≡ 3 * length fs
 unfolding triples
 triples-length [] = refl
 triples-length (f ∷ fs) = omega (arith, triples-length fs)
