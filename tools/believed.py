@@ -30,6 +30,8 @@ THEOREMS = [
     "rust_order/specs/*.antt",
     "rust_run/specs/*.antt",
     "rust_returns/specs/*.antt",
+    "rust_listing/specs/*.antt",
+    "host_answers/specs/*.antt",
     "answer_text/specs/*.antt",
     "determine_side_effects/specs/Paths.antt",
     "determine_side_effects/specs/Sequence.antt",

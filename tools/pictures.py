@@ -26,47 +26,52 @@ PICTURES = ROOT / "docs" / "pictures"
 
 # Groups of crates, from those at the top to those that all others use: title, row from the top, left edge, width, kind, crates.
 GROUPS = [
-    ("The Rust as definitions", 0, 20, 220, "theorems", "rust_values rust_effects rust_engine rust_order rust_run rust_returns"),
-    ("Judged records", 0, 260, 200, "theorems", "rule_relation judged_records judged_starts"),
-    ("C boundary", 0, 500, 160, "outside", "host"),
-    ("Smallest choice", 1, 20, 200, "theorems", "closed_choices run_choices"),
+    ("Answers and the Rust", 0, 20, 680, "theorems", "rust_returns rust_listing host_answers"),
+    ("The Rust as definitions", 1, 20, 220, "theorems", "rust_values rust_effects rust_engine rust_order rust_run"),
+    ("Judged records", 1, 260, 200, "theorems", "rule_relation judged_records judged_starts"),
+    ("C boundary", 1, 500, 160, "outside", "host"),
+    ("Smallest choice", 2, 20, 200, "theorems", "closed_choices run_choices"),
     (
-        "A run's own starts", 1, 260, 300, "code",
+        "A run's own starts", 2, 260, 300, "code",
         "own_starts noted_entries noted_run noted_stages run_starts_parts run_starts",
     ),
-    ("Program", 1, 600, 160, "outside", "listing answer_text keep"),
+    ("Program", 2, 600, 160, "outside", "listing answer_text keep"),
     (
-        "Run", 2, 260, 500, "code",
+        "Run", 3, 260, 500, "code",
         "passes next_stage tree_shaking run_rows run_parts whole_run run_sizes run_large run",
     ),
-    ("Drain", 3, 20, 200, "code", "drain_parts drain_sizes drain"),
+    ("Drain", 4, 20, 200, "code", "drain_parts drain_sizes drain"),
     (
-        "Dynamic entries", 3, 240, 320, "code",
+        "Dynamic entries", 4, 240, 320, "code",
         "entry_order entry_starts entry_graph cycles dynamic_entries entry_sizes entry_liveness",
     ),
-    ("Worked cases", 3, 580, 120, "tests", "worked_facts vectors"),
-    ("Judge", 3, 720, 160, "code", "record_form justification completeness line_judgement judge_parts judge"),
-    ("Record and worklist", 4, 20, 860, "code", "keep_record marked fact_marks starts worklist answer_rows rule_tables"),
+    ("Worked cases", 4, 580, 120, "tests", "worked_facts vectors"),
+    ("Judge", 4, 720, 160, "code", "record_form justification completeness line_judgement judge_parts judge"),
+    ("Record and worklist", 5, 20, 860, "code", "keep_record marked fact_marks starts worklist answer_rows rule_tables"),
     (
-        "Keep rules", 5, 20, 860, "code",
+        "Keep rules", 6, 20, 860, "code",
         "keep_rules include_module include_statement include_symbol consequences include_context",
     ),
-    ("Facts and side effects", 6, 20, 860, "code", "facts determine_side_effects on_demand linking_metadata"),
-    ("Graph file", 7, 20, 860, "code", "graph_format tables graph_tables graph_entries graph graph_access"),
-    ("Numbers and bits", 8, 20, 860, "code", "frames leb128 bit_row index rows"),
+    ("Facts and side effects", 7, 20, 860, "code", "facts determine_side_effects on_demand linking_metadata"),
+    ("Graph file", 8, 20, 860, "code", "graph_format tables graph_tables graph_entries graph graph_access"),
+    ("Numbers and bits", 9, 20, 860, "code", "frames leb128 bit_row index rows"),
 ]
 
 # How each arrow goes: down at a place from the left, then along a lane, (row above it, number of the lane), and down again.
 ROUTES = {
+    ("Answers and the Rust", "The Rust as definitions"): [100],
+    ("Answers and the Rust", "Judged records"): [360],
+    ("Answers and the Rust", "C boundary"): [580],
+    ("Answers and the Rust", "Program"): [680],
     ("The Rust as definitions", "Smallest choice"): [100],
-    ("Judged records", "Smallest choice"): [280, (0, 0), 180],
+    ("Judged records", "Smallest choice"): [280, (1, 0), 180],
     ("Judged records", "A run's own starts"): [330],
-    ("Judged records", "Judge"): [440, (0, 2), 800],
+    ("Judged records", "Judge"): [440, (1, 2), 800],
     ("C boundary", "A run's own starts"): [530],
-    ("C boundary", "Drain"): [510, (0, 1), 240, (2, 0), 160],
-    ("C boundary", "Judge"): [640, (0, 0), 850],
+    ("C boundary", "Drain"): [510, (1, 1), 240, (3, 0), 160],
+    ("C boundary", "Judge"): [640, (1, 0), 850],
     ("Smallest choice", "Drain"): [80],
-    ("Smallest choice", "Run"): [200, (1, 0), 290],
+    ("Smallest choice", "Run"): [200, (2, 0), 290],
     ("A run's own starts", "Run"): [410],
     ("Program", "Run"): [680],
     ("Run", "Dynamic entries"): [400],
@@ -87,7 +92,7 @@ KINDS = {
     "theorems": ("#faf0d2", "#80691f", "definitions and theorems only"),
     "tests": ("#ececec", "#6b6b6b", "worked cases"),
 }
-OUTSIDE_CRATES = {"io", "libc"}  # of the toolchain
+OUTSIDE_CRATES = {"io", "libc", "os"}  # of the toolchain
 
 # ---- dead_import.svg and live_import.svg
 
