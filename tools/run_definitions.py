@@ -110,18 +110,15 @@ class Definitions:
         self.translation = Translation(self.library, watched)
         find = self.find
         self.graph_in = find("graph/specs/Check.antt", "graphIn")
-        self.circle = find("rust_run/specs/Circle.antt", "circle")
+        self.circle = find("rust_returns/specs/Example.antt", "circle")
         self.executed = find(EXECUTED, "executed")
-        self.from_entries = find(EXECUTED, "fromEntries")
+        self.entry_graph_made = find(EXECUTED, "entryGraphMade")
         self.depth_first = find(EXECUTED, "depthFirst")
-        self.dynamic_entries = find("rust_run/specs/IncludeStatements.antt", "dynamicEntries")
-        self.no_graph = find(ORDER, "noGraph")
+        self.sorted_by = find(EXECUTED, "sortedBy")
         self.neighbors = find(ORDER, "neighbors")
         self.unentered = find(ORDER, "unentered")
         self.entry_idx = find(ORDER, "entryIdx")
         self.cycled = find(ORDER, "cycledDynamicEntries")
-        self.order_from = find(ORDER, "orderFrom")
-        self.sort_by_key = find(ORDER, "sortByKey")
         self.sorted_entries = find("dynamic_entries/specs/Sorted.antt", "sortedEntries")
         self.on_cycle = find("dynamic_entries/specs/Sorted.antt", "onCycle")
         self.normal = find("graph_access/specs/Words.antt", "normal")
@@ -141,7 +138,7 @@ class Definitions:
 
     def components(self, g):
         """The components of the graph of the dynamic entries."""
-        graph = self.value(self.from_entries(g, BOUND, self.dynamic_entries(g), self.no_graph()))
+        graph = self.value(self.entry_graph_made(g, BOUND))
         walked = self.value(self.depth_first(lambda m: self.neighbors(graph, m), BOUND, graph["nodes"], self.unentered()))
 
         def succs(node):
@@ -153,13 +150,10 @@ class Definitions:
             raise Different(f"components {found} of nodes {nodes}")
         return chain(chain(component) for component in found)
 
-    def check_order(self, g, sccs):
+    def check_order(self, g):
         """By the components the functions of rust_order give the project's order."""
-
-        def key(entry):
-            return self.order_from(0, sccs, self.entry_idx(g, entry))
-
-        if unchained(self.sort_by_key(key, self.dynamic_entries(g))) != unchained(self.sorted_entries(g)):
+        sccs = self.components(g)
+        if unchained(self.sorted_by(g, sccs)) != unchained(self.sorted_entries(g)):
             raise Different("the order of the dynamic entries")
         if set(unchained(self.cycled(sccs))) != {m for m in range(g["header"]["modules"]) if self.on_cycle(g, m)}:
             raise Different("the modules on cycles")
@@ -167,9 +161,8 @@ class Definitions:
     def check_graph(self, numbers, answer):
         """The definitions give the recorded answer."""
         g = self.graph_in(numbers)
-        sccs = self.components(g)
-        self.check_order(g, sccs)
-        given = self.listing(g, self.value(self.executed(g, BOUND, sccs)))
+        self.check_order(g)
+        given = self.listing(g, self.value(self.executed(g, BOUND)))
         if given != answer:
             raise Different(f"the listing\n  {given}\nwhere the Rust gave\n  {answer}")
 
@@ -177,7 +170,7 @@ class Definitions:
         """There is no outcome for the graph on which the Rust does not return."""
         g = self.graph_in(self.circle())
         try:
-            self.value(self.executed(g, CIRCLE_BOUND, self.components(g)))
+            self.value(self.executed(g, CIRCLE_BOUND))
         except NotEnded:
             return
         raise Different("circle has an outcome")
