@@ -8,8 +8,9 @@
 
 The definitions are the texts in `crates/rust_*/specs`, with what they use of other specs. `proofs/Executed.antt` of `rust_run` has
 the relations among them as functions with a bound, and it is proved that what these give the relations have. Each graph of
-`oracle/answers.txt` is decoded by `graphIn`, and `executed` has to give the listing that the Rust gave. On the graph `circle`
-the Rust does not return, and `executed` must not end.
+`oracle/answers.txt` is decoded by `graphIn`, and `rustListing` of what `executed` gives has to be the listing that the Rust gave. On
+the graph `circle` the Rust does not return, and `executed` must not end. The outcomes that the prover finds for two graphs
+(`Printed.antt`) have to be those that are found here.
 
 petgraph's components are found here, and compared with what `TarjanScc` says of them. With them the functions of `rust_order`
 have to give the same order of the dynamic entries and the same modules on cycles as the project's own definitions.
@@ -30,8 +31,9 @@ from graph_file import decoded  # noqa: E402
 
 ROOT = Path(__file__).resolve().parent.parent
 ALLOWED = Path(__file__).with_name("run_definitions.txt")
-CRATES = ["rust_values", "rust_effects", "rust_engine", "rust_order", "rust_run"]
+CRATES = ["rust_values", "rust_effects", "rust_engine", "rust_order", "rust_run", "rust_listing"]
 EXECUTED = "rust_run/proofs/Executed.antt"
+PRINTED = "rust_run/proofs/Printed.antt"
 ORDER = "rust_order/specs/DynamicEntries.antt"
 BOUND = 100_000  # of the items that a drain pops, the calls of a walk, the rounds
 CIRCLE_BOUND = 1_000
@@ -117,13 +119,10 @@ class Definitions:
         self.sorted_by = find(EXECUTED, "sortedBy")
         self.neighbors = find(ORDER, "neighbors")
         self.unentered = find(ORDER, "unentered")
-        self.entry_idx = find(ORDER, "entryIdx")
         self.cycled = find(ORDER, "cycledDynamicEntries")
         self.sorted_entries = find("dynamic_entries/specs/Sorted.antt", "sortedEntries")
         self.on_cycle = find("dynamic_entries/specs/Sorted.antt", "onCycle")
-        self.normal = find("graph_access/specs/Words.antt", "normal")
-        self.entry_of = find("graph_access/specs/Words.antt", "entryOf")
-        self.entry_kind = find("graph_access/specs/Names.antt", "entryKind")
+        self.rust_listing = find("rust_listing/specs/Listing.antt", "rustListing")
         self.ended = self.library.unit(f"crates/{EXECUTED}").find("ended")
 
     def find(self, path, name):
@@ -176,25 +175,21 @@ class Definitions:
         raise Different("circle has an outcome")
 
     def listing(self, g, o):
-        """The lines of an outcome (docs/OPERATIONS.md, Program keep)."""
-        main, last = o["main"], o["context"]
-        kept, verdicts, reasons = set(unchained(last["modules"])), unchained(o["verdicts"]), pairs(main["reasons"])
-        rows = [("rounds", o["rounds"])]
-        rows += [("entry", self.entry_idx(g, e), self.entry_kind(self.entry_of(g, e))) for e in unchained(o["entries"])]
-        for m in range(g["header"]["modules"]):
-            if self.normal(g, m):
-                reason = sum(bit for module, bit in reasons if module == m)
-                rows.append(("module", m, int(m in kept), verdicts[m], reason, o["helpers"](m)))
-        rows += [("statement", *pair) for pair in pairs(last["statements"])]
-        rows += [("used", symbol) for symbol in sorted(set(unchained(last["used"])))]
-        rows += [("external", symbol) for symbol in sorted(set(unchained(last["external"])))]
-        rows += [("json", *pair) for pair in pairs(main["json"])]
-        rows += [("dead", *pair) for pair in pairs(o["dead"])]
-        return "".join(" ".join(map(str, row)) + ";" for row in rows)
+        """The lines of an outcome, as they are recorded: with a semicolon for each line's end."""
+        return bytes(unchained(self.rust_listing(g, o))).decode().replace("\n", ";")
+
+    def check_proved(self, name, bound):
+        """The prover's outcome of a graph is the one that is found here."""
+        g = self.graph_in(self.find(PRINTED, f"{name}Numbers")())
+        proved, found = self.find(PRINTED, f"{name}Outcome")(), self.value(self.executed(g, bound))
+        if plain(proved, g) != plain(found, g):
+            raise Different(f"the outcome {plain(found, g)}\nwhere {plain(proved, g)} is proved")
 
 
-def pairs(xs):
-    return sorted({(pair["first"], pair["second"]) for pair in unchained(xs)})
+def plain(outcome, g):
+    """An outcome with the helper words as a list."""
+    words = [outcome["helpers"](m) for m in range(g["header"]["modules"])]
+    return {**outcome, "helpers": words}
 
 
 def check_all(definitions, answers):
@@ -214,6 +209,8 @@ def check_all(definitions, answers):
         file, _, answer = line.partition(" | ")
         attempt(f"graph {place}", definitions.check_graph, chain(decoded(bytes.fromhex(file))), answer)
     attempt("circle", definitions.check_circle)
+    attempt("the printed case", definitions.check_proved, "case", 20)
+    attempt("the graph of three rounds", definitions.check_proved, "rounds", 60)
     return faults, counts
 
 
@@ -285,7 +282,7 @@ def report(definitions, answers, show_all):
     for fault in faults:
         print(f"fault: {fault}")
     print(
-        f"{len(answers) + 1} graphs, {different} different; {len(called)} of {len(functions(definitions.library))} functions and "
+        f"{len(answers) + 3} graphs, {different} different; {len(called)} of {len(functions(definitions.library))} functions and "
         f"{sum(map(bool, branches.values()))} of {len(branches)} branches executed; {len(faults)} faults"
     )
     return 1 if faults else 0

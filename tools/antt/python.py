@@ -527,7 +527,7 @@ class Writer:
         meaning = self.meaning(head, scope)
         if isinstance(meaning, Delayed):
             return self.value(meaning.expression, meaning.scope)
-        given = [self.value(argument, scope) for argument in arguments]
+        given = [self.shallow(self.value(argument, scope)) for argument in arguments]
         if meaning is None:
             function = scope.variables[head.name] if isinstance(head, Variable) else self.value(head, scope)
             return function + "".join(f"({text})" for text in given)
@@ -538,6 +538,14 @@ class Writer:
         if meaning.arity is None:
             meaning = numbered(meaning.name, len(given), meaning.number)
         return self.saturated(lambda texts: meaning.make.format(*texts), meaning.arity, given)
+
+    def shallow(self, text):
+        """A value by a name of its own if its text has many parentheses: Python nests a hundred at most, a list has one for each element."""
+        if text.count("(") < 50:
+            return text
+        result = self.fresh()
+        self.emit(f"{result} = {text}")
+        return result
 
     def called(self, definition, given, scope):
         """A call of a definition, with the parameters of its block where it is used inside that."""
