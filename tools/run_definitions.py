@@ -93,12 +93,12 @@ def reached(node, succs):
 
 def are_components(nodes, succs, components, completed):
     """What the record `TarjanScc` says; `completed` are the nodes as the walk completed them, the last first."""
+    if not all(components) or not sorted(nodes) == sorted(completed) == sorted(sum(components, [])):
+        return False
     to = {node: reached(node, succs) for node in nodes}
-    connected = [sorted(n for n in nodes if n in to[m] and m in to[n]) for m in nodes]
-    of_nodes = sorted(n for c in components for n in c) == sorted(nodes)
-    places = [[completed.index(node) for node in component] for component in components]
-    ordered = all(min(places[j]) < min(places[i]) for j in range(len(places)) for i in range(j))
-    return of_nodes and all(sorted(c) in connected for c in components) and ordered
+    connected = [{n for n in nodes if n in to[m] and m in to[n]} for m in nodes]
+    last = [min(completed.index(node) for node in component) for component in components]
+    return all(set(component) in connected for component in components) and last == sorted(last, reverse=True)
 
 
 # All graphs
@@ -318,6 +318,8 @@ def own_faults():
             faults.append(f"components in another order than {expected}")
         if expected and are_components(nodes, edges.get, expected[1:], completed):
             faults.append(f"components without the first of {expected}")
+        if nodes and are_components(nodes, edges.get, expected, completed[1:]):
+            faults.append(f"components {expected} where a node is not completed")
     reasons = allowed(LIST)
     if reasons != {"a f: one": "never at all", "a g": "unused"}:
         faults.append(f"list {reasons}")
