@@ -133,8 +133,7 @@ drain-judged numbers given a lent after k z =
     let out = drain.outcomeOf numbers given (drain.roomsOf lent) in
     let w = drain-not-refused out (drains-of numbers given (drain.roomsOf lent)) (sym (ap (λ (x : DrainAnswer). x .number) (k .answers)) ∙ z) in
     let n = lines-are a (w .0) (w .1) (k .answers ∙ ap (λ y. drainAnswerOf (drain.answered y)) (w .2)) in
-    let r = k .leaves .record-is ∙ ap (λ y. drain.recordAfter y (lent .lines)) (w .2) in
-    (
+    let r = k .leaves .record-is ∙ ap (λ y. drain.recordAfter y (lent .lines)) (w .2) in (
       rw n (front-inside (written (w .1)) _ (after .lines) (6 * length (w .1)) r (written-length (w .1))),
       zero-of numbers given _ (rw (n, r) (drain-passes numbers given (drain.roomsOf lent) (w .0) (w .1) (w .2) (lent .lines))),
     )
@@ -150,8 +149,7 @@ main-inside g row lent n e l =
 pub run-judged : EveryRunJudged
 run-judged numbers a lent after k z =
     let g = graphIn numbers in
-    let w = run-kept numbers a lent after k z in
-    (
+    let w = run-kept numbers a lent after k z in (
       main-inside g (after .lines) (lent .lines) (a .lines) (w .record-is) (w .lines-are),
       zero-of numbers _ _ (rw (w .lines-are, w .record-is) (run-passes numbers (run.roomsOf lent) g (runOf g) (w .is-done) (lent .lines) .1)),
     )
@@ -160,9 +158,8 @@ pub starts-judged : EveryStartsJudged
 unfolding starts.recordAfter starts.startsAfter
 starts-judged numbers a lent after k z b lent′ after′ j y =
     let w = run-kept numbers a lent after k z in
-    let s = starts-kept numbers b lent′ after′ j y in
-    (
+    let s = starts-kept numbers b lent′ after′ j y in (
       rw (s .count-is) (front-inside (triples (ownStartsOnce (graphIn numbers))) _ (after′ .starts) (3 * length (ownStartsOnce (graphIn numbers))) (s .starts-are) (triples-length (ownStartsOnce (graphIn numbers)))),
       zero-of numbers _ _
-      (rw (w .lines-are, w .record-is, s .count-is, s .starts-are) (starts-given numbers (starts.roomsOf lent′) (graphIn numbers) (s .is-done) .passed (lent′ .starts) (lent .lines))),
+          (rw (w .lines-are, w .record-is, s .count-is, s .starts-are) (starts-given numbers (starts.roomsOf lent′) (graphIn numbers) (s .is-done) .passed (lent′ .starts) (lent .lines))),
     )
