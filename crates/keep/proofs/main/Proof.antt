@@ -1,116 +1,83 @@
-use borrow.Author.Needs.{needs}
-use Prim.Native.Nat.{ℕ, _≤_}
-use mathlib.Core.Path.{refl, sym}
+use Prim.Native.Nat.{ℕ}
+use mathlib.Core.Path.{sym}
 use native.Mathlib.Omega.{arith}
-use lib.Dec.{ltb}
-use lib.ListN.{length, take, length-replicate}
+use lib.ListN.{length-replicate}
 use lib.Seq.{length-take-le}
-use Rattle.answer_text.specs.Program.{programText}
-use Rattle.keep.proofs.Printing.{left, left-less, left-none}
+use Rattle.keep.proofs.Counted.{input-bytes, read-file}
+use borrow.Author.Needs.{needs}
 use Rattle.keep.proofs.main.Statement.{statement}
 use Rattle.keep.proofs.main.Tie as tie
 
-abbrev Inv-loop : tie.InvT-loop
-Inv-loop file got further skip₀ going₀ skip going = skip₀ ≤ skip
+slice-aggregate-read-file : tie.Need-slice-aggregate-read-file
+slice-aggregate-read-file c = search needs
 
-abbrev μ-loop : tie.MeasureT-loop
-μ-loop file got further skip₀ going₀ skip going = left going (length (programText (take got file) (ltb 0 further))) skip
+slice-aggregate-read-file-2 : tie.Need-slice-aggregate-read-file-2
+slice-aggregate-read-file-2 c = search needs
 
-slice-aggregate-read-full : tie.Need-slice-aggregate-read-full Inv-loop μ-loop
-slice-aggregate-read-full c = refl
+read-file-requires : tie.Need-read-file-requires
+read-file-requires c κs = search needs
 
-read-full-requires : tie.Need-read-full-requires Inv-loop μ-loop
-read-full-requires c κs = search needs
+enum-told : tie.Need-enum-told
+enum-told c = search needs
 
-slice-aggregate-read-full-2 : tie.Need-slice-aggregate-read-full-2 Inv-loop μ-loop
-slice-aggregate-read-full-2 c = refl
+slice-aggregate-fail : tie.Need-slice-aggregate-fail
+slice-aggregate-fail c = search needs
 
-read-full-requires-2 : tie.Need-read-full-requires-2 Inv-loop μ-loop
-read-full-requires-2 c κs = search needs
+fail-requires : tie.Need-fail-requires
+fail-requires c κs = search needs
 
-loop-holds : tie.Need-loop-holds Inv-loop μ-loop
-loop-holds c = omega arith
+enum-known-got : tie.Need-enum-known-got
+enum-known-got c = search needs
 
-array-share-prefix-file : tie.Need-array-share-prefix-file Inv-loop μ-loop
-array-share-prefix-file c = c .before .before .before .before .before .before .read-full .ensures .0
+array-share-prefix-front : tie.Need-array-share-prefix-front
+array-share-prefix-front c = (input-bytes _ _ _ _ (c .before .got .given .1) (c .before .before .before .before .before .read-file .ensures)) .fits
 
-slice-aggregate-text : tie.Need-slice-aggregate-text Inv-loop μ-loop
-slice-aggregate-text c = c .before .before .before .before .before .before .before .read-full .ensures .1
+slice-aggregate-print : tie.Need-slice-aggregate-print
+slice-aggregate-print c = sym (length-take-le _ _ ((input-bytes _ _ _ _ (c .before .before .got .given .1) (c .before .before .before .before .before .before .read-file .ensures)) .fits))
 
-slice-aggregate-text-2 : tie.Need-slice-aggregate-text-2 Inv-loop μ-loop
-slice-aggregate-text-2 c = search needs
+array-share-prefix-behind : tie.Need-array-share-prefix-behind
+array-share-prefix-behind c = (input-bytes _ _ _ _ (c .before .before .got .given .1) (c .before .before .before .before .before .before .read-file .ensures)) .fits-behind
 
-text-requires : tie.Need-text-requires Inv-loop μ-loop
-text-requires c κs = omega (arith, c .before .before .before .before .before .before .before .before .read-full .ensures, c .before .before .before .before .before .before .before .before .read-full .kept .1 .0, length-replicate {A = ℕ} 8192 0)
+slice-aggregate-print-2 : tie.Need-slice-aggregate-print-2
+slice-aggregate-print-2 c = sym (length-take-le _ _ ((input-bytes _ _ _ _ (c .before .before .before .got .given .1) (c .before .before .before .before .before .before .before .read-file .ensures)) .fits-behind))
 
-sub-left : tie.Need-sub-left Inv-loop μ-loop
-sub-left c = omega (arith, c .if1 .taken)
+print-requires : tie.Need-print-requires
+print-requires c κs =
+    read-file _ _ _ _ (omega (arith, c .before .before .before .before .before .before .before .read-file .kept .0, length-replicate {A = ℕ} 8192 0)) (input-bytes _ _ _ _ (c .before .before .before .got .given .1) (c .before .before .before .before .before .before .before .read-file .ensures))
 
-slice-aggregate-write-all : tie.Need-slice-aggregate-write-all Inv-loop μ-loop
-slice-aggregate-write-all c = search needs
+slice-aggregate-fail-2 : tie.Need-slice-aggregate-fail-2
+slice-aggregate-fail-2 c = search needs
 
-write-all-requires : tie.Need-write-all-requires Inv-loop μ-loop
-write-all-requires c κs = search needs
+fail-requires-2 : tie.Need-fail-requires-2
+fail-requires-2 c κs = search needs
 
-add-skip : tie.Need-add-skip Inv-loop μ-loop
-add-skip c = omega (arith, c .before .before .if2 .taken, c .before .before .before .if1 .taken)
-
-loop-less : tie.Need-loop-less Inv-loop μ-loop
-loop-less c = left-less _ _ _ _ _ (c .before .before .before .before .before .before .before .before .loop-test .taken) (omega arith) (omega (arith, c .before .before .if2 .taken, c .before .before .before .if1 .taken, c .before .before .before .before .before .text .ensures .0))
-
-loop-again : tie.Need-loop-again Inv-loop μ-loop
-loop-again c = omega (arith, c .before .before .before .before .before .before .before .before .before .loop .inv)
-
-array-share-prefix-out : tie.Need-array-share-prefix-out Inv-loop μ-loop
-array-share-prefix-out c = omega (arith, c .if2 .left, c .before .before .before .text .kept .1 .1 .1 .0, length-replicate {A = ℕ} 65536 0)
-
-slice-aggregate-write-all-2 : tie.Need-slice-aggregate-write-all-2 Inv-loop μ-loop
-slice-aggregate-write-all-2 c = sym (length-take-le _ _ (omega (arith, c .before .if2 .left, c .before .before .before .before .text .kept .1 .1 .1 .0, length-replicate {A = ℕ} 65536 0)))
-
-write-all-requires-2 : tie.Need-write-all-requires-2 Inv-loop μ-loop
-write-all-requires-2 c κs = search needs
-
-loop-less-2 : tie.Need-loop-less-2 Inv-loop μ-loop
-loop-less-2 c = left-none _ _ _ (c .before .before .before .before .before .before .before .before .loop-test .taken)
-
-loop-again-2 : tie.Need-loop-again-2 Inv-loop μ-loop
-loop-again-2 c = c .before .before .before .before .before .before .before .before .before .loop .inv
-
-loop-less-3 : tie.Need-loop-less-3 Inv-loop μ-loop
-loop-less-3 c = left-none _ _ _ (c .before .before .before .before .before .loop-test .taken)
-
-loop-again-3 : tie.Need-loop-again-3 Inv-loop μ-loop
-loop-again-3 c = c .before .before .before .before .before .before .loop .inv
-
-returns : tie.Need-returns Inv-loop μ-loop
+returns : tie.Need-returns
 returns c = search needs
+
+returns-2 : tie.Need-returns-2
+returns-2 c = search needs
+
+returns-3 : tie.Need-returns-3
+returns-3 c = search needs
 
 pub main-spec : {M : Type 1} → statement M
 main-spec =
     tie.close
     (tie.spec
-    Inv-loop
-    μ-loop
-    slice-aggregate-read-full
-    read-full-requires
-    slice-aggregate-read-full-2
-    read-full-requires-2
-    loop-holds
-    array-share-prefix-file
-    slice-aggregate-text
-    slice-aggregate-text-2
-    text-requires
-    sub-left
-    slice-aggregate-write-all
-    write-all-requires
-    add-skip
-    loop-less
-    loop-again
-    array-share-prefix-out
-    slice-aggregate-write-all-2
-    write-all-requires-2
-    loop-less-2
-    loop-again-2
-    loop-less-3
-    loop-again-3
-    returns)
+    slice-aggregate-read-file
+    slice-aggregate-read-file-2
+    read-file-requires
+    enum-told
+    slice-aggregate-fail
+    fail-requires
+    enum-known-got
+    array-share-prefix-front
+    slice-aggregate-print
+    array-share-prefix-behind
+    slice-aggregate-print-2
+    print-requires
+    slice-aggregate-fail-2
+    fail-requires-2
+    returns
+    returns-2
+    returns-3)

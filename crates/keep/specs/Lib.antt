@@ -1,0 +1,3 @@
+-- The main definitions: `IsFile` of `Input`, `PartOf` of `Output`.
+pub mod Input
+pub mod Output
