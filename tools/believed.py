@@ -33,6 +33,7 @@ THEOREMS = [
     "rust_listing/specs/*.antt",
     "host_answers/specs/*.antt",
     "answer_text/specs/*.antt",
+    "keep/specs/*.antt",
     "determine_side_effects/specs/Paths.antt",
     "determine_side_effects/specs/Sequence.antt",
     "worked_facts/specs/*.antt",
