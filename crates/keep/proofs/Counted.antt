@@ -1,4 +1,4 @@
--- The number that an answer holds is bounded as the answer is.
+-- What the answers of the reading functions say of the numbers in them.
 use Prim.Native.Nat.{ℕ, _≤_}
 use mathlib.Core.Path.{_≡_}
 use mathlib.Core.List.{List}
@@ -7,14 +7,14 @@ use lib.ListN.{length, take}
 use lib.Seq.{length-take-le}
 use Rattle.keep.specs.Input.{FilledUpTo, InOrder, ReadInto, IsFile}
 use Rattle.keep.specs.declared.Filled.{Filled}
-use Rattle.keep.specs.declared.Filled.the-variants as filled
+use Rattle.keep.specs.declared.Filled.the-variants.{Bytes}
 use Rattle.keep.specs.declared.Input.{Input}
-use Rattle.keep.specs.declared.Input.the-variants as input
+use Rattle.keep.specs.declared.Input.the-variants.{Read}
 
-pub filled-bytes : {r : Filled} (room n : ℕ) → r ≡ filled.Bytes n → FilledUpTo room r → n ≤ room
+pub filled-bytes : {r : Filled} (room n : ℕ) → r ≡ Bytes n → FilledUpTo room r → n ≤ room
 filled-bytes room n e f = rw (e) at f
 
-pub input-bytes : {r : Input} (front behind : List ℕ) (got more : ℕ) → r ≡ input.Bytes got more → ReadInto front behind r → InOrder front behind got more
+pub input-bytes : {r : Input} (front behind : List ℕ) (got more : ℕ) → r ≡ Read got more → ReadInto front behind r → InOrder front behind got more
 input-bytes front behind got more e f = rw (e) at f
 
 -- what was read so into a first buffer of 8,192 bytes is a file

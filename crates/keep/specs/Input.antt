@@ -6,7 +6,7 @@ use lib.ListN.{length}
 use Rattle.keep.specs.declared.Filled.{Filled}
 use Rattle.keep.specs.declared.Filled.the-variants.{Bytes, Failed}
 use Rattle.keep.specs.declared.Input.{Input}
-use Rattle.keep.specs.declared.Input.the-variants.{Bytes as InputBytes, Failed as InputFailed}
+use Rattle.keep.specs.declared.Input.the-variants.{Read, Unread}
 
 -- a buffer counts as filled no further than it is long
 abbrev pub FilledUpTo : ℕ → Filled → Type 0
@@ -20,8 +20,8 @@ pub record InOrder (front behind : List ℕ) (got more : ℕ) : Type 0 where
   pub in-order : 0 < more → got ≡ length front
 
 abbrev pub ReadInto : List ℕ → List ℕ → Input → Type 0
-ReadInto front behind (InputBytes got more) = InOrder front behind got more
-ReadInto front behind InputFailed = Unit {0}
+ReadInto front behind (Read got more) = InOrder front behind got more
+ReadInto front behind Unread = Unit {0}
 
 -- Two rows of bytes are one file: the first 8,192 bytes, and what is behind them.
 abbrev pub IsFile : List ℕ → List ℕ → Type 0

@@ -1,7 +1,6 @@
 // The program `keep`: reads a graph file from standard input and prints what its run keeps, or the refusal (docs/OPERATIONS.md, Program keep).
-// No contract can say what `read` and `write` of C move. So what a contract can say stands in functions below `main`: how much of the buffers
-// counts as read, and which bytes of the text each part is that is handed to `write`.
-ghost use Prim.Native.Nat.{ℕ};
+// No contract can say what C's `read` and `write` move. What a contract can say stands in functions that `main` and `print` call: how much of the
+// buffers counts as read, and what is handed to `write` each time.
 ghost use lib.ListN.{length};
 ghost use mathlib.Core.List.{_++_};
 ghost use Rattle.answer_text.specs.Program.{fileText};
@@ -10,7 +9,7 @@ ghost use Rattle.keep.specs.Output.{PartOf};
 use libc::STDIN_FILENO;
 use libc::STDOUT_FILENO;
 
-// The text is printed by parts of so many bytes. One that is longer is formed again for each further part.
+// A text is printed by parts of so many bytes. If it is longer it is formed again for each further part.
 const WINDOW: usize = 65536;
 
 pub enum Filled {
@@ -21,8 +20,8 @@ pub enum Filled {
 
 pub enum Input {
     // So many bytes were read into the first buffer, and so many into the second.
-    Bytes(usize, usize),
-    Failed,
+    Read(usize, usize),
+    Unread,
 }
 
 pub enum Part {
@@ -32,7 +31,7 @@ pub enum Part {
     Last(usize),
 }
 
-// Reads standard input until the buffer is full or the input ends.
+// Reads standard input until the buffer is full or the input ends. A read that fails is no end of the input.
 fn fill(buffer: &mut [u8]) -> Filled
     ensures { λ r. ⌜ FilledUpTo (length (now (buffer .exit))) r ⌝ }
 {
@@ -51,21 +50,21 @@ fn fill(buffer: &mut [u8]) -> Filled
     Filled::Bytes(done)
 }
 
-// Reads standard input into two buffers. The second is filled only if the first is full: else the input has ended, and at a terminal it would have to
-// be ended once more.
+// Reads standard input into two buffers. The second one is read into only if the first is full: otherwise the input has ended, and at a terminal
+// another read would wait until it is ended a second time.
 fn read_file(front: &mut [u8], behind: &mut [u8]) -> Input
     ensures { λ r. ⌜ ReadInto (now (front .exit)) (now (behind .exit)) r ⌝ }
 {
     let Filled::Bytes(got) = fill(front) else {
-        return Input::Failed;
+        return Input::Unread;
     };
     if got < front.len() {
-        return Input::Bytes(got, 0);
+        return Input::Read(got, 0);
     }
     let Filled::Bytes(more) = fill(behind) else {
-        return Input::Failed;
+        return Input::Unread;
     };
-    Input::Bytes(got, more)
+    Input::Read(got, more)
 }
 
 // Puts what follows the first `skip` bytes of the text for a file into `out`, as much as it holds.
@@ -103,13 +102,13 @@ fn print(front: &[u8], behind: &[u8]) -> bool
     }
 }
 
-// A program has no exit code of its own: a failure is told on standard error.
+// A program cannot set its exit code. A failure is told on standard error, and nothing is printed after it; the command ./keep ends with 2 then.
 fn main() {
     let mut front = [0u8; 8192];
     let mut behind = [0u8; 1];
     match read_file(&mut front, &mut behind) {
-        Input::Failed => os::fail(b"keep: standard input"),
-        Input::Bytes(got, more) => {
+        Input::Unread => os::fail(b"keep: standard input"),
+        Input::Read(got, more) => {
             if !print(&front[..got], &behind[..more]) {
                 os::fail(b"keep: standard output");
             }
