@@ -1,9 +1,10 @@
-//! Compares the tree shaking, with several orders of its hash maps, with another side.
+//! Compares the tree shaking, with several orders of its hash maps, with another side. It has to give up exactly where
+//! there is a circle.
 
+use crate::circles::{has_circle, has_circle_anywhere};
 use crate::decide::{decide, Decision};
 use crate::graphs::graph_of;
 use crate::happenings::{happenings, ALL};
-use crate::loops::Cause;
 use crate::model::Graph;
 use crate::reference::check;
 use crate::reference::run::Run;
@@ -12,16 +13,25 @@ use crate::sides::Side;
 use rolldown_common::Budget;
 use std::collections::{BTreeMap, BTreeSet};
 use std::fmt;
+use std::mem::discriminant;
+use std::time::Duration;
 
 /// How many keep rules there are.
 pub const RULES: usize = 14;
 
+/// How many symbols a decision resolves in a comparison until it gives up, unless it is said otherwise.
+pub const CALLS: u64 = 200_000;
+/// What it may take where that does not suffice and there is no circle.
+pub const LARGER: Budget = Budget { calls: 400_000_000, time: Duration::from_secs(120) };
+
 /// What is compared, and how.
 pub struct Comparison<'a> {
     pub other: &'a Side<'a>,
-    /// The seeds of the hash maps; the first decides where the tree shaking gives up.
+    /// The seeds of the hash maps.
     pub hash_seeds: Vec<u64>,
     pub budget: Budget,
+    /// Where that does not suffice and there is no circle.
+    pub larger: Budget,
     /// Whether a refusal of the other side counts as not compared, for one that takes small graphs only.
     pub other_may_refuse: bool,
 }
@@ -31,7 +41,14 @@ pub struct Comparison<'a> {
 pub struct Counts {
     pub graphs: u64,
     pub equal: u64,
-    pub gave_up: BTreeMap<Cause, u64>,
+    /// Of those, the graphs that returned with the larger budget only.
+    pub larger: u64,
+    /// Of those, the graphs with a circle that the run does not reach.
+    pub unreached: u64,
+    /// Graphs with a circle on which the tree shaking gave up, as it has to.
+    pub circles: u64,
+    /// Graphs without a circle on which it gave up even with the larger budget, by seed.
+    pub too_long: Vec<(u64, Graph)>,
     pub refused_by_other: u64,
     /// Graphs that were compared and hold a line of each rule, from rule 0, a start.
     pub rules: [u64; RULES + 1],
@@ -44,20 +61,28 @@ pub struct Counts {
     pub differences: Vec<Difference>,
 }
 
-/// Two answers that are not the same.
+/// Two answers that are not the same, or one where there is a circle.
 pub struct Difference {
     pub seed: u64,
     /// The smallest graph that was found from it.
     pub graph: Graph,
-    pub left: String,
-    pub right: String,
+    /// Whether the tree shaking returned though there is a circle.
+    pub circle: bool,
+    /// The answers.
+    pub text: String,
 }
 
 enum Outcome {
-    Equal(String),
-    GaveUp(Cause),
+    /// The listing, and whether it took the larger budget.
+    Equal(String, bool),
+    /// It gave up with a circle.
+    Circle,
+    /// It gave up without one.
+    TooLong,
+    /// It returned with a circle.
+    Returned(String),
+    Different(String),
     Refused,
-    Different(String, String),
 }
 
 impl Comparison<'_> {
@@ -80,16 +105,22 @@ impl Comparison<'_> {
     fn graph(&self, counts: &mut Counts, seed: u64, graph: Graph) {
         counts.graphs += 1;
         match self.outcome(&graph) {
-            Outcome::Equal(listing) => {
+            Outcome::Equal(listing, larger) => {
                 counts.equal += 1;
+                counts.larger += u64::from(larger);
+                counts.unreached += u64::from(has_circle_anywhere(&graph));
                 counts.note(&graph, &listing);
             }
-            Outcome::GaveUp(cause) => *counts.gave_up.entry(cause).or_default() += 1,
+            Outcome::Circle => counts.circles += 1,
+            Outcome::TooLong => counts.too_long.push((seed, graph)),
             Outcome::Refused => counts.refused_by_other += 1,
-            Outcome::Different(..) => {
-                let graph = shrink(graph, |graph| matches!(self.outcome(graph), Outcome::Different(..)));
-                let Outcome::Different(left, right) = self.outcome(&graph) else { unreachable!("it differs") };
-                counts.differences.push(Difference { seed, graph, left, right });
+            outcome @ (Outcome::Returned(_) | Outcome::Different(_)) => {
+                let kind = discriminant(&outcome);
+                let graph = shrink(graph, |graph| discriminant(&self.outcome(graph)) == kind);
+                let outcome = self.outcome(&graph);
+                let circle = matches!(outcome, Outcome::Returned(_));
+                let (Outcome::Returned(text) | Outcome::Different(text)) = outcome else { unreachable!("it differs") };
+                counts.differences.push(Difference { seed, graph, circle, text });
             }
         }
     }
@@ -99,29 +130,60 @@ impl Comparison<'_> {
         if let Err(refused) = check(&numbers) {
             panic!("a generated graph is {refused}: {numbers:?}");
         }
-        let mut first = None;
+        if has_circle(graph) {
+            self.with_circle(graph)
+        } else {
+            self.without_circle(graph, &numbers)
+        }
+    }
+
+    /// It has to give up in each hash order.
+    fn with_circle(&self, graph: &Graph) -> Outcome {
         for &seed in &self.hash_seeds {
-            match (decide(graph, seed, self.budget), &first) {
-                (Decision::GaveUp(cause), _) => return Outcome::GaveUp(cause),
-                (Decision::Listed(listing), None) => first = Some(listing),
-                (Decision::Listed(listing), Some(first)) => {
-                    if listing != *first {
-                        return Outcome::Different(first.clone(), format!("hash seed {seed}:\n{listing}"));
-                    }
-                }
+            if let Decision::Listed(listing) = decide(graph, seed, self.budget) {
+                let text = format!("with hash seed {seed} it returned, though there is a circle:\n{listing}");
+                return Outcome::Returned(text);
+            }
+        }
+        Outcome::Circle
+    }
+
+    /// It has to return in each hash order, with the other side's listing.
+    fn without_circle(&self, graph: &Graph, numbers: &[u32]) -> Outcome {
+        let (mut first, mut larger) = (None, false);
+        for &seed in &self.hash_seeds {
+            let mut decision = decide(graph, seed, self.budget);
+            if decision == Decision::GaveUp {
+                larger = true;
+                decision = decide(graph, seed, self.larger);
+            }
+            let Decision::Listed(listing) = decision else { return Outcome::TooLong };
+            let first = first.get_or_insert_with(|| listing.clone());
+            if listing != *first {
+                return different(first, &format!("with hash seed {seed}"), &listing);
             }
         }
         let listing = first.expect("there is a hash seed");
-        match (self.other)(&numbers) {
-            Ok(other) if other == listing => Outcome::Equal(listing),
-            Ok(other) => Outcome::Different(listing, other),
+        match (self.other)(numbers) {
+            Ok(other) if other == listing => Outcome::Equal(listing, larger),
+            Ok(other) => different(&listing, "the other side", &other),
             Err(_) if self.other_may_refuse => Outcome::Refused,
-            Err(refused) => Outcome::Different(listing, refused.to_string()),
+            Err(refused) => different(&listing, "the other side", &format!("{refused}\n")),
         }
     }
 }
 
+/// Two listings that are not the same.
+fn different(listing: &str, from: &str, other: &str) -> Outcome {
+    Outcome::Different(format!("the tree shaking:\n{listing}{from}:\n{other}"))
+}
+
 impl Counts {
+    /// Whether all listings are the same and the tree shaking gave up exactly where there is a circle.
+    pub fn is_good(&self) -> bool {
+        self.differences.is_empty() && self.too_long.is_empty()
+    }
+
     /// Counts what occurs in the run of a graph that was compared.
     fn note(&mut self, graph: &Graph, listing: &str) {
         let run = Run::of(graph);
@@ -169,11 +231,14 @@ impl fmt::Display for Counts {
     fn fmt(&self, f: &mut fmt::Formatter) -> fmt::Result {
         writeln!(f, "graphs {}", self.graphs)?;
         writeln!(f, "equal {}", self.equal)?;
-        for (cause, count) in &self.gave_up {
-            writeln!(f, "gave up, {cause} {count}")?;
-        }
+        writeln!(f, "of these with the larger budget only {}", self.larger)?;
+        writeln!(f, "of these with a circle that is not reached {}", self.unreached)?;
+        writeln!(f, "gave up with a circle {}", self.circles)?;
+        writeln!(f, "gave up without a circle {}", self.too_long.len())?;
         writeln!(f, "refused by the other side {}", self.refused_by_other)?;
+        let returned = self.differences.iter().filter(|difference| difference.circle).count();
         writeln!(f, "different {}", self.differences.len())?;
+        writeln!(f, "of these returned with a circle {returned}")?;
         for rule in 0..=RULES {
             let name = if rule == 0 { "start".to_string() } else { format!("K{rule}") };
             writeln!(f, "{name}: {} graphs, {} lines", self.rules[rule], self.lines[rule])?;
@@ -183,6 +248,9 @@ impl fmt::Display for Counts {
         }
         for (name, count) in &self.happenings {
             writeln!(f, "{name}: {count}")?;
+        }
+        for (seed, graph) in &self.too_long {
+            writeln!(f, "seed {seed} gave up without a circle:\n{}", spaced(graph))?;
         }
         for difference in &self.differences {
             write!(f, "{difference}")?;
@@ -194,8 +262,12 @@ impl fmt::Display for Counts {
 impl fmt::Display for Difference {
     fn fmt(&self, f: &mut fmt::Formatter) -> fmt::Result {
         writeln!(f, "seed {} differs; the smallest graph found:", self.seed)?;
-        let numbers: Vec<String> = self.graph.numbers().iter().map(u32::to_string).collect();
-        writeln!(f, "{}", numbers.join(" "))?;
-        write!(f, "the tree shaking:\n{}the other side:\n{}", self.left, self.right)
+        write!(f, "{}\n{}", spaced(&self.graph), self.text)
     }
+}
+
+/// The numbers of a graph in a line.
+fn spaced(graph: &Graph) -> String {
+    let numbers: Vec<String> = graph.numbers().iter().map(u32::to_string).collect();
+    numbers.join(" ")
 }

@@ -1,7 +1,6 @@
 //! The decision of a graph, within a budget, and how long it takes.
 
 use crate::listing::listing;
-use crate::loops::{cause, Cause};
 use crate::model::Graph;
 use crate::reference::check;
 use crate::reference::decode::decode;
@@ -19,7 +18,8 @@ pub const BUDGET: Budget = Budget { calls: 4_000_000, time: Duration::from_secs(
 pub enum Decision {
     /// The listing.
     Listed(String),
-    GaveUp(Cause),
+    /// The budget did not suffice.
+    GaveUp,
 }
 
 /// The decision of an accepted graph, with hash maps in the order of a seed.
@@ -27,7 +27,7 @@ pub fn decide(graph: &Graph, seed: u64, budget: Budget) -> Decision {
     rustc_hash::set_seed(seed);
     let options = options(graph);
     let (mut stage, unreachable) = stage(graph, &options);
-    stage.symbols.watch = Some(Box::new(Watch::new(budget, graph.symbols.len())));
+    stage.symbols.watch = Some(Box::new(Watch::new(budget)));
     let before = rustc_hash::sets_taken_apart();
     let work = AssertUnwindSafe(|| {
         stage.determine_side_effects();
@@ -37,7 +37,7 @@ pub fn decide(graph: &Graph, seed: u64, budget: Budget) -> Decision {
     match panic::catch_unwind(work) {
         Ok(()) => Decision::Listed(listing(graph, &stage, rustc_hash::sets_taken_apart() - before)),
         Err(payload) => match payload.downcast::<GaveUp>() {
-            Ok(gave_up) => Decision::GaveUp(cause(graph, &gave_up.resolved)),
+            Ok(_) => Decision::GaveUp,
             Err(payload) => panic::resume_unwind(payload),
         },
     }
@@ -54,7 +54,7 @@ pub struct Times {
 
 /// The best times of some repetitions, each on a stage of its own. None where the decision gives up.
 pub fn time_decision(graph: &Graph, seed: u64, repetitions: u32) -> Option<Times> {
-    if let Decision::GaveUp(_) = decide(graph, seed, BUDGET) {
+    if decide(graph, seed, BUDGET) == Decision::GaveUp {
         return None;
     }
     (0..repetitions.max(1))

@@ -1,8 +1,8 @@
 //! Random graphs for a comparison. All follows from a seed.
 
+use crate::circles::break_circles;
 use crate::generate::runs::{import_graph, run_graph, small_run_graph, sparse};
 use crate::generate::{graph, Random, Size};
-use crate::loops::break_circles;
 use crate::model::{Graph, Module, Reference, Statement, Symbol};
 
 /// The graph of a seed: mostly one made for runs, at times any graph, a larger one, or one whose uses double.

@@ -1,13 +1,13 @@
 //! `oracle`: the tree shaking's listing of a graph, of many graphs, its times, comparisons, and a list of answers.
 
 use oracle::answers::{answers, read_answer};
-use oracle::compare::Comparison;
+use oracle::compare::{Comparison, CALLS, LARGER};
 use oracle::generate::PRINTED;
 use oracle::loads::{loads, Load};
 use oracle::reference::decode::decode;
 use oracle::reference::{check, leb128};
 use oracle::sides::{self, Side};
-use oracle::{decide, time_decision, Budget, Decision, Refused, BUDGET};
+use oracle::{decide, has_circle, time_decision, Budget, Decision, Refused, BUDGET};
 use std::error::Error;
 use std::fs;
 use std::io::{self, Read, Write};
@@ -27,7 +27,7 @@ oracle replay FILE [OPTIONS]         compares such a list with the tree shaking 
 
 --seed N        order of the hash maps; 0 is the usual one
 --hash-seeds N  in a comparison: so many orders
---calls N       gives up after resolving so many symbols
+--calls N       gives up after resolving so many symbols; a comparison goes on without a circle
 --seconds N     gives up after so long
 --repeat N      times that are taken
 --other WHICH   reference (the usual one), library (if built in), or a program's path
@@ -37,12 +37,20 @@ oracle replay FILE [OPTIONS]         compares such a list with the tree shaking 
 struct Options {
     seed: u64,
     hash_seeds: u64,
-    budget: Budget,
+    calls: Option<u64>,
+    seconds: u64,
     repeat: u32,
     other: String,
     differences: usize,
     time: bool,
     rest: Vec<String>,
+}
+
+impl Options {
+    /// The budget, with so many calls unless it is said otherwise.
+    fn budget(&self, calls: u64) -> Budget {
+        Budget { calls: self.calls.unwrap_or(calls), time: Duration::from_secs(self.seconds) }
+    }
 }
 
 fn main() -> ExitCode {
@@ -60,7 +68,8 @@ fn options() -> Result<Options, Box<dyn Error>> {
     let mut options = Options {
         seed: 0,
         hash_seeds: 4,
-        budget: BUDGET,
+        calls: None,
+        seconds: BUDGET.time.as_secs(),
         repeat: 20,
         other: "reference".to_string(),
         differences: 3,
@@ -73,8 +82,8 @@ fn options() -> Result<Options, Box<dyn Error>> {
         match argument.as_str() {
             "--seed" => options.seed = value()?.parse()?,
             "--hash-seeds" => options.hash_seeds = value()?.parse::<u64>()?.max(1),
-            "--calls" => options.budget.calls = value()?.parse()?,
-            "--seconds" => options.budget.time = Duration::from_secs(value()?.parse()?),
+            "--calls" => options.calls = Some(value()?.parse()?),
+            "--seconds" => options.seconds = value()?.parse()?,
             "--repeat" => options.repeat = value()?.parse()?,
             "--other" => options.other = value()?,
             "--differences" => options.differences = value()?.parse()?,
@@ -127,10 +136,14 @@ fn accepted(file: &[u8]) -> Result<Vec<u32>, Refused> {
 /// What is printed for a file.
 fn answer(options: &Options, file: &[u8]) -> String {
     match accepted(file) {
-        Ok(numbers) => match decide(&decode(&numbers), options.seed, options.budget) {
-            Decision::Listed(listing) => listing,
-            Decision::GaveUp(cause) => format!("gave up, {cause}\n"),
-        },
+        Ok(numbers) => {
+            let graph = decode(&numbers);
+            match decide(&graph, options.seed, options.budget(BUDGET.calls)) {
+                Decision::Listed(listing) => listing,
+                Decision::GaveUp if has_circle(&graph) => "gave up, circle\n".to_string(),
+                Decision::GaveUp => "gave up, doubling\n".to_string(),
+            }
+        }
         Err(refused) => format!("refused {}\n", refused.number),
     }
 }
@@ -170,7 +183,7 @@ fn time_loads(options: &Options) -> Result<bool, Box<dyn Error>> {
     let mut all_equal = true;
     let printed = Load { name: "printed case", graph: decode(&PRINTED) };
     for load in loads().into_iter().chain([printed]) {
-        let Decision::Listed(listing) = decide(&load.graph, options.seed, options.budget) else {
+        let Decision::Listed(listing) = decide(&load.graph, options.seed, options.budget(BUDGET.calls)) else {
             println!("{}: gave up", load.name);
             continue;
         };
@@ -209,12 +222,13 @@ fn compare(options: &Options, first: u64, count: u64) -> Result<bool, Box<dyn Er
     let comparison = Comparison {
         other: &*other,
         hash_seeds: (0..options.hash_seeds).map(|order| options.seed + order).collect(),
-        budget: Budget { calls: options.budget.calls.min(200_000), ..options.budget },
+        budget: options.budget(CALLS),
+        larger: LARGER,
         other_may_refuse: is_program(&options.other),
     };
     let counts = comparison.seeds(first..first.saturating_add(count), options.differences);
     write!(io::stdout(), "{counts}")?;
-    Ok(counts.differences.is_empty())
+    Ok(counts.is_good())
 }
 
 fn replay(options: &Options, list: &str) -> Result<bool, Box<dyn Error>> {
@@ -223,7 +237,8 @@ fn replay(options: &Options, list: &str) -> Result<bool, Box<dyn Error>> {
     for (number, line) in (1..).zip(list.lines()) {
         let (numbers, listing) = read_answer(line).ok_or_else(|| format!("line {number} is out of form"))?;
         check(&numbers)?;
-        let real = decide(&decode(&numbers), options.seed, options.budget) == Decision::Listed(listing.clone());
+        let decision = decide(&decode(&numbers), options.seed, options.budget(BUDGET.calls));
+        let real = decision == Decision::Listed(listing.clone());
         let equal = other(&numbers) == Ok(listing);
         if real && equal {
             good += 1;

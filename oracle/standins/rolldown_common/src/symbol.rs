@@ -50,7 +50,7 @@ impl SymbolRefDb {
     #[inline]
     pub fn canonical_ref_for(&self, symbol: SymbolRef) -> SymbolRef {
         if let Some(watch) = &self.watch {
-            watch.note(self.get(symbol).number);
+            watch.note();
         }
         let mut root = symbol;
         while let Some(next) = self.get(root).link {

@@ -1,6 +1,6 @@
 //! What ends a decision that would take too long: it counts how often a symbol is resolved, which each handled use does.
 
-use std::cell::{Cell, RefCell};
+use std::cell::Cell;
 use std::panic;
 use std::time::{Duration, Instant};
 
@@ -11,39 +11,28 @@ pub struct Budget {
     pub time: Duration,
 }
 
-/// What the decision is left with when its budget is used up.
-#[derive(Clone, Debug)]
-pub struct GaveUp {
-    pub calls: u64,
-    /// By number: the symbols that were resolved.
-    pub resolved: Vec<bool>,
-}
+/// What a decision unwinds with when its budget is used up.
+#[derive(Clone, Copy, Debug)]
+pub struct GaveUp;
 
 #[derive(Debug)]
 pub struct Watch {
     budget: Budget,
     end: Instant,
     calls: Cell<u64>,
-    resolved: RefCell<Vec<bool>>,
 }
 
 impl Watch {
-    pub fn new(budget: Budget, symbols: usize) -> Watch {
-        let end = Instant::now() + budget.time;
-        Watch { budget, end, calls: Cell::new(0), resolved: RefCell::new(vec![false; symbols]) }
+    pub fn new(budget: Budget) -> Watch {
+        Watch { budget, end: Instant::now() + budget.time, calls: Cell::new(0) }
     }
 
-    /// How often a symbol was resolved.
-    pub fn calls(&self) -> u64 {
-        self.calls.get()
-    }
-
-    pub fn note(&self, number: u32) {
+    /// Counts that a symbol was resolved.
+    pub fn note(&self) {
         let calls = self.calls.get() + 1;
         self.calls.set(calls);
-        self.resolved.borrow_mut()[number as usize] = true;
         if calls > self.budget.calls || calls % 1024 == 0 && Instant::now() > self.end {
-            panic::resume_unwind(Box::new(GaveUp { calls, resolved: self.resolved.borrow().clone() }));
+            panic::resume_unwind(Box::new(GaveUp));
         }
     }
 }
