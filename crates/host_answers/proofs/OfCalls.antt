@@ -1,12 +1,12 @@
 -- What a caller knows of a call at the C boundary whose answer has the number 0.
 use Prim.Native.Nat.{ℕ, _*_, _≤_}
-use mathlib.Core.Path.{_≡_, refl, ap, _∙_, sym}
+use mathlib.Core.Path.{_≡_, refl, ap, _∙_, sym, subst}
 use mathlib.Core.Bool.{Bool, true, false}
 use mathlib.Core.List.{List, _++_}
 use native.Mathlib.Omega.{arith}
 use borrow.Author.Tests.{ltb-true, ltb-false}
 use lib.Dec.{ltb}
-use lib.ListN.{length, take, drop, length-append}
+use lib.ListN.{length, getD, take, drop, length-append, List·getD-append}
 use lib.Seq.{take-at}
 use Rattle.leb128.specs.Read.{all, readOf, lentOf}
 use Rattle.rows.specs.Walk.{Parsed, got, fault}
@@ -17,27 +17,39 @@ use Rattle.determine_side_effects.specs.Operation.{effectsAnswer, effectsRow}
 use Rattle.determine_side_effects.proofs.Loading.{last-length, short-answer, long-row}
 use Rattle.keep_record.specs.declared.Line.{Line}
 use Rattle.keep_record.specs.Lines.{written}
-use Rattle.keep_record.proofs.Rows.{written-length}
+use Rattle.keep_record.specs.Held.{linesOf}
+use Rattle.keep_record.proofs.Rows.{written-length, lines-same}
+use Rattle.starts.specs.Starts.{startsOf}
+use Rattle.answer_rows.specs.declared.Row.{Row}
+use Rattle.answer_rows.specs.declared.Row.the-variants.{Modules, Statements, Used, External, Json, NamespaceReason}
+use Rattle.drain_parts.specs.declared.Drained.{Drained}
 use Rattle.drain_parts.specs.Operation as drain
 use Rattle.run_rows.specs.Run.{runOf}
+use Rattle.run_parts.specs.declared.Ran.{Ran}
 use Rattle.run_parts.specs.Operation as run
 use Rattle.judge_parts.specs.declared.Judged.the-variants.{Passed}
 use Rattle.judge_parts.specs.Operation.{judgeOf}
 use Rattle.run_starts_parts.specs.Operation as starts
+use Rattle.closed_choices.specs.Choice.{HasLine}
+use Rattle.closed_choices.specs.Operation.{DrainShows}
+use Rattle.closed_choices.proofs.OfOperation.{drain-shows}
+use Rattle.run_choices.proofs.OfRuns.{run-spares}
 use Rattle.rust_effects.proofs.SameVerdicts.{rust-effects}
 use Rattle.rust_run.proofs.Boundary.{run-shows-rust}
 use Rattle.rust_returns.proofs.OnCircles.{returns-and-agrees}
 use Rattle.own_starts.specs.Once.{triples}
 use Rattle.noted_stages.specs.Stages.{ownStartsOnce}
+use Rattle.judged_records.specs.Choice.{SmallestByRules}
+use Rattle.judged_records.proofs.DrainRows.{written-many, lines-back}
 use Rattle.judged_records.proofs.RunTriples.{triples-length}
 use Rattle.judged_records.proofs.OfRuns.{main-begins}
-use Rattle.judged_records.proofs.OfOperations.{judge-exactly, drain-passes, run-passes}
+use Rattle.judged_records.proofs.OfOperations.{judge-exactly, drain-smallest, drain-passes, run-passes}
 use Rattle.judged_starts.proofs.OfStarts.{starts-given}
 use Rattle.host.specs.declared.DrainAnswer.{DrainAnswer}
 use Rattle.host.specs.declared.ReadAnswer.{ReadAnswer}
 use Rattle.host.specs.declared.Refusal.{Refusal}
 use Rattle.host.specs.Answers.{readAnswerOf, drainAnswerOf, judgedOf}
-use Rattle.host_answers.specs.Answered.{EveryRead, EveryCheck, EveryEffects, EveryRun, EveryRunReturns, EveryJudge, EveryDrainJudged, EveryRunJudged, EveryStartsJudged}
+use Rattle.host_answers.specs.Answered.{rowOfRun, rowOfDrain, DrainAnswers, EveryRead, EveryCheck, EveryEffects, EveryRun, EveryRunReturns, EveryRunSpare, EveryJudge, EveryDrainJudged, EveryRunJudged, EveryStartsJudged, EveryDrain}
 use Rattle.host_answers.proofs.GraphFaults.{check-faults}
 use Rattle.host_answers.proofs.Refusals.{reads-of, effects-in, judges-of}
 use Rattle.host_answers.proofs.Outcomes.{drains-of}
@@ -163,3 +175,62 @@ starts-judged numbers a lent after k z b lent′ after′ j y =
       zero-of numbers _ _
           (rw (w .lines-are, w .record-is, s .count-is, s .starts-are) (starts-given numbers (starts.roomsOf lent′) (graphIn numbers) (s .is-done) .passed (lent′ .starts) (lent .lines))),
     )
+
+-- Rows -----------------------------------------------------------------------------------------------------------------------------------
+
+-- an answer row afterwards, by the row's name
+row-of-run : {o : run.Outcome} {r : Ran} {lent after : run.Rows} → run.Ends o r lent after → (row : Row) → rowOfRun row after ≡ run.rowAfter row o (rowOfRun row lent)
+row-of-run e Modules = e .modules-are
+row-of-run e Statements = e .statements-are
+row-of-run e Used = e .used-are
+row-of-run e External = e .external-are
+row-of-run e Json = e .json-are
+row-of-run e NamespaceReason = e .reasons-are
+
+row-of-drain : {o : drain.Outcome} {r : Drained} {lent after : drain.Rows} → drain.Ends o r lent after → (row : Row) → rowOfDrain row after ≡ drain.rowAfter row o (rowOfDrain row lent)
+row-of-drain e Modules = e .modules-are
+row-of-drain e Statements = e .statements-are
+row-of-drain e Used = e .used-are
+row-of-drain e External = e .external-are
+row-of-drain e Json = e .json-are
+row-of-drain e NamespaceReason = e .reasons-are
+
+pub run-call-spare : EveryRunSpare
+run-call-spare numbers a lent after k z =
+    let g = graphIn numbers in
+    let w = run-kept numbers a lent after k z in
+    let s = run-spares numbers (run.roomsOf lent) g (runOf g) (w .is-done) in
+    record {
+      spare-bits = λ row j l h. rw (row-of-run (k .leaves) row, w .is-done) (s .spare-bits row (rowOfRun row lent) j l h);
+      spare-dead = λ j l h. rw (k .leaves .dead-are, w .is-done) (s .spare-dead (lent .dead) j l h);
+    }
+
+-- the lines that stand in front of a record are read back from it
+lines-read : (lines : List Line) (rest row : List ℕ) (n : ℕ) → n ≡ length lines → row ≡ written lines ++ rest → linesOf n row ≡ lines
+lines-read lines rest row n l e =
+    ap (λ k. linesOf k row) l
+    ∙ lines-same (length lines) row (written lines) (λ j h. ap (λ xs. getD xs j 0) e ∙ List·getD-append (written lines) rest 0 j (omega (arith, h, written-length lines)))
+    ∙ ap (λ k. linesOf k (written lines)) (sym (written-many lines))
+    ∙ lines-back lines
+
+drain-answers : (g : Graph) (given : List ℕ) (lines : List Line) (a : DrainAnswer) (lent after : drain.Rows) → linesOf (a .lines) (after .lines) ≡ lines
+    → ((row : Row) → rowOfDrain row after ≡ drain.rowAfter row (drain.done g lines) (rowOfDrain row lent)) → SmallestByRules g (startsOf given) (HasLine lines) → DrainShows g given lines
+    → DrainAnswers g given a lent after
+drain-answers g given lines a lent after e rows least s =
+    record {
+      smallest = rw e least;
+      rows-show = λ row. rw (e, rows row) (s .rows-show row (rowOfDrain row lent));
+      spare-bits = λ row j l h. rw (rows row) (s .spare-bits row (rowOfDrain row lent) j l h);
+    }
+
+pub drain-call : EveryDrain
+unfolding drain.recordAfter
+drain-call numbers given a lent after k z =
+    let room = drain.roomsOf lent in
+    let w = drain-not-refused (drain.outcomeOf numbers given room) (drains-of numbers given room) (sym (ap (λ (x : DrainAnswer). x .number) (k .answers)) ∙ z) in
+    let n = lines-are a (w .0) (w .1) (k .answers ∙ ap (λ y. drainAnswerOf (drain.answered y)) (w .2)) in
+    let r = k .leaves .record-is ∙ ap (λ y. drain.recordAfter y (lent .lines)) (w .2) in
+    let d = drain-shows numbers given room (w .0) (w .1) (w .2) in
+    subst (λ (g : Graph). DrainAnswers g given a lent after) (d .0)
+    (drain-answers (w .0) given (w .1) a lent after (lines-read (w .1) _ (after .lines) (a .lines) n r)
+    (λ row. row-of-drain (k .leaves) row ∙ ap (λ y. drain.rowAfter row y (rowOfDrain row lent)) (w .2)) (drain-smallest numbers given room (w .0) (w .1) (w .2)) (d .1))

@@ -1,20 +1,31 @@
 -- What a caller knows of a call at the C boundary whose answer has the number 0, from the contracts of `host` alone. The theorems are in
 -- proofs/OfCalls.antt.
-use Prim.Native.Nat.{ℕ, _*_, _≤_}
+use Prim.Native.Nat.{ℕ, _*_, _<_, _≤_}
 use mathlib.Core.Path.{_≡_}
 use mathlib.Core.Logic.{_↔_}
+use mathlib.Core.Bool.{false}
 use mathlib.Core.List.{List}
 use lib.ListN.{length, take}
+use Rattle.bit_row.specs.Row.{bitAt, bytesFor}
 use Rattle.leb128.specs.Read.{all, readOf}
 use Rattle.graph.specs.declared.Checked.the-variants.{Accepted}
-use Rattle.graph.specs.Check.{graphIn, checkOf, answerOf}
+use Rattle.graph.specs.Check.{Graph, graphIn, checkOf, answerOf}
 use Rattle.determine_side_effects.specs.Effects.{lastVerdicts}
+use Rattle.keep_record.specs.Held.{linesOf}
+use Rattle.starts.specs.Starts.{startsOf}
+use Rattle.answer_rows.specs.declared.Row.{Row}
+use Rattle.answer_rows.specs.declared.Row.the-variants.{Modules, Statements, Used, External, Json, NamespaceReason}
+use Rattle.answer_rows.specs.Shown.{rowBytes}
 use Rattle.drain_parts.specs.Operation.{Rows}
+use Rattle.run_rows.specs.Run.{recordCount}
 use Rattle.run_parts.specs.Operation.{Rows as RunRows}
 use Rattle.judge_parts.specs.Operation.{judgeOf}
 use Rattle.run_starts_parts.specs.Operation.{Rows as StartsRows}
 use Rattle.tree_shaking.specs.Own.{runStarts}
 use Rattle.own_starts.specs.Once.{triples}
+use Rattle.closed_choices.specs.Choice.{HasLine, RowShows}
+use Rattle.closed_choices.specs.Operation.{Spare}
+use Rattle.judged_records.specs.Choice.{SmallestByRules}
 use Rattle.judged_records.specs.Operation.{Passes}
 use Rattle.rust_effects.specs.DetermineSideEffects.{SideEffects}
 use Rattle.rust_run.specs.IncludeStatements.{Outcome, Returns}
@@ -60,6 +71,22 @@ EveryRunReturns =
     → (Circle (graphIn numbers) → ⊥) → (ch : Choosing (graphIn numbers))
     → (o : Outcome) × (r : Returns (graphIn numbers) o) × Follows (graphIn numbers) ch o r × RowsAgree (graphIn numbers) o (a .rounds) (a .entries) after
 
+-- Nothing else is set in the rows of a run: a bit that stands for nothing is 0.
+abbrev pub rowOfRun : Row → RunRows → List ℕ
+rowOfRun Modules r = r .modules
+rowOfRun Statements r = r .statements
+rowOfRun Used r = r .used
+rowOfRun External r = r .external
+rowOfRun Json r = r .json
+rowOfRun NamespaceReason r = r .reason
+
+pub record NothingElse (g : Graph) (after : RunRows) : Type 0 where
+  pub spare-bits : (row : Row) (j : ℕ) → j < 8 * rowBytes g row → Spare g row j → bitAt (rowOfRun row after) j ≡ false
+  pub spare-dead : (j : ℕ) → recordCount g ≤ j → j < 8 * bytesFor (recordCount g) → bitAt (after .dead) j ≡ false
+
+abbrev pub EveryRunSpare : Type 0
+EveryRunSpare = (numbers : List ℕ) (a : RunAnswer) (lent after : RunRows) → KeepRun numbers a lent after → a .number ≡ 0 → NothingElse (graphIn numbers) after
+
 -- Demand 3: `keep_judge` answers 0 exactly for the keep records of accepted numbers and good starts,
 abbrev pub EveryJudge : Type 1
 EveryJudge = (numbers starts row : List ℕ) → (judgedOf (judgeOf numbers starts row) .number ≡ 0) ↔ Passes numbers starts row
@@ -84,3 +111,23 @@ EveryStartsJudged =
     → (b : ReadAnswer) (lent′ after′ : StartsRows) → KeepStarts numbers b lent′ after′ → b .number ≡ 0
     → (b .count ≤ length (after′ .starts))
     × (judgedOf (judgeOf numbers (take (b .count) (after′ .starts)) (take (6 * a .lines) (after .lines))) .number ≡ 0)
+
+-- The rows of a drain: the facts of the lines that the record holds are the smallest choice that holds the starts, each answer row shows what they give,
+-- with its spare bits 0 and behind them as lent.
+abbrev pub rowOfDrain : Row → Rows → List ℕ
+rowOfDrain Modules r = r .modules
+rowOfDrain Statements r = r .statements
+rowOfDrain Used r = r .used
+rowOfDrain External r = r .external
+rowOfDrain Json r = r .json
+rowOfDrain NamespaceReason r = r .reason
+
+pub record DrainAnswers (g : Graph) (starts : List ℕ) (a : DrainAnswer) (lent after : Rows) : Type 1 where
+  pub smallest : SmallestByRules g (startsOf starts) (HasLine (linesOf (a .lines) (after .lines)))
+  pub rows-show : (row : Row) → RowShows g row (HasLine (linesOf (a .lines) (after .lines))) (rowOfDrain row lent) (rowOfDrain row after)
+  pub spare-bits : (row : Row) (j : ℕ) → j < 8 * rowBytes g row → Spare g row j → bitAt (rowOfDrain row after) j ≡ false
+
+abbrev pub EveryDrain : Type 1
+EveryDrain =
+    (numbers starts : List ℕ) (a : DrainAnswer) (lent after : Rows) → KeepDrain numbers starts a lent after → a .number ≡ 0
+    → DrainAnswers (graphIn numbers) starts a lent after
