@@ -35,7 +35,7 @@ CRATES = ["rust_values", "rust_effects", "rust_engine", "rust_order", "rust_run"
 EXECUTED = "rust_run/proofs/Executed.antt"
 PRINTED = "rust_run/proofs/Printed.antt"
 ORDER = "rust_order/specs/DynamicEntries.antt"
-BOUND = 100_000  # of the items that a drain pops, the calls of a walk, the rounds
+BOUND = 10_000_000  # of the items that a drain pops, the calls of a walk, the rounds
 CIRCLE_BOUND = 1_000
 
 

@@ -16,7 +16,8 @@ use Rattle.rust_run.specs.Passes.{IncludesExports, IncludesBailouts, collectDep
 use Rattle.rust_run.specs.IncludeStatements.{userDefinedEntries, dynamicEntries, IncludesUserDefined, Rounding, rounding, insertIf, ProcessesDynamic, Round, Rounds, Outcome, Returns}
 
 -- an order for each walk over a hash set or map, from what is at hand: at a pop, of a module's exports, of the bailouts that a round takes, of helpers;
--- and the entries sorted, by any components that are right
+-- and the entries sorted, by any components that are right. That the same context gets the same order takes nothing away (docs/DECISIONS.md, "All orders
+-- chosen at once").
 pub record Choosing (g : Graph) : Type 0 where
   pub at-pop : Context → WorkItem → Orders
   pub at-pop-any : (c : Context) (i : WorkItem) → Reorders (at-pop c i)
