@@ -5,4 +5,6 @@ pub mod Outcomes
 pub mod Numbered
 pub mod NotRefused
 pub mod OfRuns
+pub mod ByRow
 pub mod OfCalls
+pub mod OfRefusals

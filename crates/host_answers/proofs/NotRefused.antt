@@ -50,7 +50,11 @@ effects-passed (Refused n p) f z = absurd (not-zero (f .numbers n p refl) z)
 pub passed-exactly : (j : Judged) → Judges j → (judgedOf j .number ≡ 0) ↔ (j ≡ Passed)
 unfolding judgedOf
 passed-exactly Passed f = (λ z. refl, λ e. refl)
-passed-exactly (JudgeRefused n p) f = (λ z. absurd (not-zero (f .numbers n p refl) z), λ e. let c : _≡_ {A = ℕ} 0 1 = cc in absurd (omega arith))
+passed-exactly (JudgeRefused n p) f = (λ z. absurd (go z (f .numbers n p refl)), λ e. let c : _≡_ {A = ℕ} 0 1 = cc in absurd (omega arith))
+  where
+    go : n ≡ 0 → OneOf 2 4 n ⊎ (n ≡ 6) → ⊥
+    go z (inl o) = not-zero o z
+    go z (inr e) = omega (arith, e, z)
 
 -- the work was done
 pub drain-not-refused : (o : drain.Outcome) → Drains o → drainAnswerOf (drain.answered o) .number ≡ 0 → (g : Graph) × (lines : List Line) × (o ≡ drain.done g lines)

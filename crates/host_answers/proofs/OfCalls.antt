@@ -7,31 +7,34 @@ use native.Mathlib.Omega.{arith}
 use borrow.Author.Tests.{ltb-true, ltb-false}
 use lib.Dec.{ltb}
 use lib.ListN.{length, getD, take, drop, length-append, List·getD-append}
-use lib.Seq.{take-at}
+use lib.Seq.{take-at, drop-at, drop-append-seam}
 use Rattle.leb128.specs.Read.{all, readOf, lentOf}
 use Rattle.rows.specs.Walk.{Parsed, got, fault}
+use Rattle.bit_row.specs.Row.{bytesFor}
 use Rattle.graph.specs.declared.Checked.the-variants.{Accepted, Refused}
 use Rattle.graph.specs.Check.{Graph, graphIn, checkOf, answerOf}
+use Rattle.graph_access.specs.Words.{tabulate}
 use Rattle.determine_side_effects.specs.Effects.{lastVerdicts}
 use Rattle.determine_side_effects.specs.Operation.{effectsAnswer, effectsRow}
 use Rattle.determine_side_effects.proofs.Loading.{last-length, short-answer, long-row}
 use Rattle.keep_record.specs.declared.Line.{Line}
-use Rattle.keep_record.specs.Lines.{written}
+use Rattle.keep_record.specs.Lines.{written, has}
 use Rattle.keep_record.specs.Held.{linesOf}
-use Rattle.keep_record.proofs.Rows.{written-length, lines-same}
+use Rattle.keep_record.proofs.Rows.{tabulate-length, written-length, lines-same}
 use Rattle.starts.specs.Starts.{startsOf}
 use Rattle.answer_rows.specs.declared.Row.{Row}
-use Rattle.answer_rows.specs.declared.Row.the-variants.{Modules, Statements, Used, External, Json, NamespaceReason}
-use Rattle.drain_parts.specs.declared.Drained.{Drained}
+use Rattle.answer_rows.specs.Shown.{bytesOf}
 use Rattle.drain_parts.specs.Operation as drain
-use Rattle.run_rows.specs.Run.{runOf}
-use Rattle.run_parts.specs.declared.Ran.{Ran}
+use Rattle.passes.specs.Helpers.{helperWord}
+use Rattle.tree_shaking.specs.Rounds.{finalEntries}
+use Rattle.run_rows.specs.Run.{runOf, recordCount, isDeadRecord, deadRow, helpersRow, entriesRow}
 use Rattle.run_parts.specs.Operation as run
 use Rattle.judge_parts.specs.declared.Judged.the-variants.{Passed}
 use Rattle.judge_parts.specs.Operation.{judgeOf}
 use Rattle.run_starts_parts.specs.Operation as starts
 use Rattle.closed_choices.specs.Choice.{HasLine}
 use Rattle.closed_choices.specs.Operation.{DrainShows}
+use Rattle.closed_choices.proofs.Showing.{bytes-long, rows-show}
 use Rattle.closed_choices.proofs.OfOperation.{drain-shows}
 use Rattle.run_choices.proofs.OfRuns.{run-spares}
 use Rattle.rust_effects.proofs.SameVerdicts.{rust-effects}
@@ -55,6 +58,7 @@ use Rattle.host_answers.proofs.Refusals.{reads-of, effects-in, judges-o
 use Rattle.host_answers.proofs.Outcomes.{drains-of}
 use Rattle.host_answers.proofs.NotRefused.{read-whole, accepted-exactly, effects-passed, passed-exactly, drain-not-refused}
 use Rattle.host_answers.proofs.OfRuns.{run-kept, starts-kept}
+use Rattle.host_answers.proofs.ByRow.{row-of-run, row-of-drain}
 
 -- A file and a graph ---------------------------------------------------------------------------------------------------------------------
 
@@ -178,31 +182,34 @@ starts-judged numbers a lent after k z b lent′ after′ j y =
 
 -- Rows -----------------------------------------------------------------------------------------------------------------------------------
 
--- an answer row afterwards, by the row's name
-row-of-run : {o : run.Outcome} {r : Ran} {lent after : run.Rows} → run.Ends o r lent after → (row : Row) → rowOfRun row after ≡ run.rowAfter row o (rowOfRun row lent)
-row-of-run e Modules = e .modules-are
-row-of-run e Statements = e .statements-are
-row-of-run e Used = e .used-are
-row-of-run e External = e .external-are
-row-of-run e Json = e .json-are
-row-of-run e NamespaceReason = e .reasons-are
+-- the rows of a run that are no rows of bits by fact
+behind-dead : (g : Graph) (dead : ℕ → Bool) (lent : List ℕ) → drop (bytesFor (recordCount g)) (deadRow g dead lent) ≡ drop (bytesFor (recordCount g)) lent
+unfolding deadRow
+behind-dead g dead lent = drop-at (bytesOf (isDeadRecord g dead) (bytesFor (recordCount g))) _ (bytesFor (recordCount g)) (bytes-long (isDeadRecord g dead) (bytesFor (recordCount g)))
 
-row-of-drain : {o : drain.Outcome} {r : Drained} {lent after : drain.Rows} → drain.Ends o r lent after → (row : Row) → rowOfDrain row after ≡ drain.rowAfter row o (rowOfDrain row lent)
-row-of-drain e Modules = e .modules-are
-row-of-drain e Statements = e .statements-are
-row-of-drain e Used = e .used-are
-row-of-drain e External = e .external-are
-row-of-drain e Json = e .json-are
-row-of-drain e NamespaceReason = e .reasons-are
+behind-helpers : (g : Graph) (main : List Line) (lent : List ℕ) → drop (g .header .modules) (helpersRow g main lent) ≡ drop (g .header .modules) lent
+unfolding helpersRow
+behind-helpers g main lent = drop-at (tabulate (helperWord g (has g 0 main)) 0 (g .header .modules)) _ (g .header .modules) (tabulate-length (helperWord g (has g 0 main)) 0 (g .header .modules))
+
+behind-entries : (g : Graph) (live : ℕ → Bool) (lent : List ℕ) (n : ℕ) → n ≡ length (finalEntries g live) → drop n (entriesRow g live lent) ≡ drop n lent
+unfolding entriesRow
+behind-entries g live lent n e = rw e (drop-append-seam (finalEntries g live) (drop (length (finalEntries g live)) lent))
 
 pub run-call-spare : EveryRunSpare
+unfolding run.rowAfter run.deadAfter run.helpersAfter run.entriesAfter
 run-call-spare numbers a lent after k z =
     let g = graphIn numbers in
     let w = run-kept numbers a lent after k z in
     let s = run-spares numbers (run.roomsOf lent) g (runOf g) (w .is-done) in
+    let e = subst (λ (o : run.Outcome). run.Ends o (run.answered (run.outcomeOf numbers (run.roomsOf lent))) lent after) (w .is-done) (k .leaves) in
     record {
-      spare-bits = λ row j l h. rw (row-of-run (k .leaves) row, w .is-done) (s .spare-bits row (rowOfRun row lent) j l h);
-      spare-dead = λ j l h. rw (k .leaves .dead-are, w .is-done) (s .spare-dead (lent .dead) j l h);
+      spare-bits = λ row j l h. rw (row-of-run e row) (s .spare-bits row (rowOfRun row lent) j l h);
+      spare-dead = λ j l h. rw (e .dead-are) (s .spare-dead (lent .dead) j l h);
+      spare-marks = λ j l. rw (e .marks-are) (s .spare-marks (lent .marks) j l);
+      behind = λ row. rw (row-of-run e row) (rows-show g row (run.linesFor row (runOf g)) (rowOfRun row lent) .behind);
+      behind-dead = rw (e .dead-are) (behind-dead g (runOf g .dead) (lent .dead));
+      behind-helpers = rw (e .helpers-are) (behind-helpers g (runOf g .main) (lent .helpers));
+      behind-entries = rw (e .entries-are) (behind-entries g (runOf g .live) (lent .entries) (a .entries) (w .entries-are));
     }
 
 -- the lines that stand in front of a record are read back from it

@@ -6,6 +6,7 @@ use mathlib.Core.List.{List}
 use lib.ListN.{length}
 use Rattle.graph.specs.declared.Checked.the-variants.{Accepted}
 use Rattle.graph.specs.Check.{Graph, graphIn, checkOf, answerOf}
+use Rattle.tree_shaking.specs.Rounds.{finalEntries}
 use Rattle.run_rows.specs.Run.{Run, runOf}
 use Rattle.run_parts.specs.declared.Ran.{Ran}
 use Rattle.run_parts.specs.declared.Ran.the-variants.{Done}
@@ -25,14 +26,15 @@ pub record RunKept (numbers : List ℕ) (a : RunAnswer) (lent after : run.Rows) 
   pub accepted : answerOf (checkOf numbers) ≡ Accepted
   pub is-done : run.outcomeOf numbers (run.roomsOf lent) ≡ run.done (graphIn numbers) (runOf (graphIn numbers))
   pub lines-are : a .lines ≡ length (runOf (graphIn numbers) .main)
+  pub entries-are : a .entries ≡ length (finalEntries (graphIn numbers) (runOf (graphIn numbers) .live))
   pub record-is : after .lines ≡ run.recordAfter (run.done (graphIn numbers) (runOf (graphIn numbers))) (lent .lines)
   pub runs : run.Runs numbers (Done (a .rounds) (a .lines) (a .«runtime_lines») (a .entries)) lent after
 
 -- the answer of a run that is done, as the boundary gives it
 answer-back : (a : RunAnswer) (g : Graph) (r : Run) → a ≡ runAnswerOf (run.answered (run.done g r))
-    → (run.answered (run.done g r) ≡ Done (a .rounds) (a .lines) (a .«runtime_lines») (a .entries)) × (a .lines ≡ length (r .main))
+    → (run.answered (run.done g r) ≡ Done (a .rounds) (a .lines) (a .«runtime_lines») (a .entries)) × (a .lines ≡ length (r .main)) × (a .entries ≡ length (finalEntries g (r .live)))
 unfolding run.answered runAnswerOf
-answer-back a g r e = (cc, cc)
+answer-back a g r e = (cc, cc, cc)
 
 pub run-kept : (numbers : List ℕ) (a : RunAnswer) (lent after : run.Rows) → KeepRun numbers a lent after → a .number ≡ 0 → RunKept numbers a lent after
 run-kept numbers a lent after k z =
@@ -47,6 +49,7 @@ run-kept numbers a lent after k z =
       accepted = d .accepted;
       is-done = e;
       lines-are = b .1;
+      entries-are = b .2;
       record-is = k .leaves .record-is ∙ ap (λ y. run.recordAfter y (lent .lines)) e;
       runs = subst (λ (y : Ran). run.Ends out y lent after) (ap run.answered e ∙ b .0) (k .leaves);
     }

@@ -35,9 +35,6 @@ same o e = record { least = omega arith; most = omega arith }
 pub to-5 : {n : ℕ} → OneOf 2 4 n → OneOf 2 5 n
 to-5 o = record { least = o .least; most = omega arith }
 
-pub to-6 : {n : ℕ} → OneOf 2 4 n → OneOf 2 6 n
-to-6 o = record { least = o .least; most = omega arith }
-
 pub three : OneOf 2 4 3
 three = record { least = omega arith; most = omega arith }
 
@@ -106,16 +103,16 @@ effects-in numbers room =
 -- Judge ----------------------------------------------------------------------------------------------------------------------------------
 
 pub record Judges (j : Judged) : Type 0 where
-  pub numbers : (n p : ℕ) → j ≡ JudgeRefused n p → OneOf 2 6 n
+  pub numbers : (n p : ℕ) → j ≡ JudgeRefused n p → OneOf 2 4 n ⊎ (n ≡ 6)
 
 judges-passed : Judges Passed
 judges-passed = record { numbers = λ n p e. let z : _≡_ {A = ℕ} 0 1 = cc in absurd (omega arith) }
 
-judges-refused : {m q : ℕ} → OneOf 2 6 m → Judges (JudgeRefused m q)
-judges-refused o = record { numbers = λ n p e. same o (cc) }
+judges-refused : {m q : ℕ} → OneOf 2 4 m → Judges (JudgeRefused m q)
+judges-refused o = record { numbers = λ n p e. inl (same o (cc)) }
 
 judges-6 : {q : ℕ} → Judges (JudgeRefused 6 q)
-judges-6 = judges-refused (record { least = omega arith; most = omega arith })
+judges-6 = record { numbers = λ n p e. inr cc }
 
 judges-whole : (g : Graph) (given : List Fact) (lines : List Line) → Judges (judgedWhole g given lines)
 unfolding judgedWhole
@@ -144,15 +141,15 @@ walks-starts g given =
 
 by-walk : (w : Walk) (j : Judged) → Walks w → Judges j → Judges (elim w [ At p ↦ j | Fault n p ↦ JudgeRefused n p ])
 by-walk (At p) j i h = h
-by-walk (Fault n p) j i h = judges-refused (to-6 (i .numbers n p refl))
+by-walk (Fault n p) j i h = judges-refused (i .numbers n p refl)
 
 judges-in : (g : Graph) (given row : List ℕ) → Judges (judgedIn g given row)
 unfolding judgedIn
 judges-in g given row =
     by-walk (startsWalk g given) _ (walks-starts g given)
-    (by-test Judges (eqb (length row % 6) 0) (judges-lines g (startsOf given) row) (judges-refused (to-6 four)))
+    (by-test Judges (eqb (length row % 6) 0) (judges-lines g (startsOf given) row) (judges-refused four))
 
 pub judges-of : (numbers given row : List ℕ) → Judges (judgeOf numbers given row)
 unfolding judgeOf
 judges-of numbers given row =
-    by-check Judges (checkOf numbers) _ _ (check-faults numbers) (λ g. judges-in g given row) (λ n p o. judges-refused (to-6 o))
+    by-check Judges (checkOf numbers) _ _ (check-faults numbers) (λ g. judges-in g given row) (λ n p o. judges-refused o)

@@ -5,12 +5,13 @@ use mathlib.Core.Path.{_≡_}
 use mathlib.Core.Logic.{_↔_}
 use mathlib.Core.Bool.{false}
 use mathlib.Core.List.{List}
-use lib.ListN.{length, take}
+use lib.ListN.{length, take, drop}
 use Rattle.bit_row.specs.Row.{bitAt, bytesFor}
 use Rattle.leb128.specs.Read.{all, readOf}
 use Rattle.graph.specs.declared.Checked.the-variants.{Accepted}
 use Rattle.graph.specs.Check.{Graph, graphIn, checkOf, answerOf}
 use Rattle.determine_side_effects.specs.Effects.{lastVerdicts}
+use Rattle.facts.specs.Facts.{markCount}
 use Rattle.keep_record.specs.Held.{linesOf}
 use Rattle.starts.specs.Starts.{startsOf}
 use Rattle.answer_rows.specs.declared.Row.{Row}
@@ -71,7 +72,7 @@ EveryRunReturns =
     → (Circle (graphIn numbers) → ⊥) → (ch : Choosing (graphIn numbers))
     → (o : Outcome) × (r : Returns (graphIn numbers) o) × Follows (graphIn numbers) ch o r × RowsAgree (graphIn numbers) o (a .rounds) (a .entries) after
 
--- Nothing else is set in the rows of a run: a bit that stands for nothing is 0.
+-- In the rows of a run nothing else is set: a bit that stands for nothing is 0, and behind its answer a row is as lent.
 abbrev pub rowOfRun : Row → RunRows → List ℕ
 rowOfRun Modules r = r .modules
 rowOfRun Statements r = r .statements
@@ -80,12 +81,17 @@ rowOfRun External r = r .external
 rowOfRun Json r = r .json
 rowOfRun NamespaceReason r = r .reason
 
-pub record NothingElse (g : Graph) (after : RunRows) : Type 0 where
+pub record NothingElse (g : Graph) (a : RunAnswer) (lent after : RunRows) : Type 0 where
   pub spare-bits : (row : Row) (j : ℕ) → j < 8 * rowBytes g row → Spare g row j → bitAt (rowOfRun row after) j ≡ false
   pub spare-dead : (j : ℕ) → recordCount g ≤ j → j < 8 * bytesFor (recordCount g) → bitAt (after .dead) j ≡ false
+  pub spare-marks : (j : ℕ) → markCount g ≤ j → bitAt (after .marks) j ≡ false
+  pub behind : (row : Row) → drop (rowBytes g row) (rowOfRun row after) ≡ drop (rowBytes g row) (rowOfRun row lent)
+  pub behind-dead : drop (bytesFor (recordCount g)) (after .dead) ≡ drop (bytesFor (recordCount g)) (lent .dead)
+  pub behind-helpers : drop (g .header .modules) (after .helpers) ≡ drop (g .header .modules) (lent .helpers)
+  pub behind-entries : drop (a .entries) (after .entries) ≡ drop (a .entries) (lent .entries)
 
 abbrev pub EveryRunSpare : Type 0
-EveryRunSpare = (numbers : List ℕ) (a : RunAnswer) (lent after : RunRows) → KeepRun numbers a lent after → a .number ≡ 0 → NothingElse (graphIn numbers) after
+EveryRunSpare = (numbers : List ℕ) (a : RunAnswer) (lent after : RunRows) → KeepRun numbers a lent after → a .number ≡ 0 → NothingElse (graphIn numbers) a lent after
 
 -- Demand 3: `keep_judge` answers 0 exactly for the keep records of accepted numbers and good starts,
 abbrev pub EveryJudge : Type 1

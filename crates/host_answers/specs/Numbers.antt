@@ -30,5 +30,5 @@ pub record Numbered : Type 0 where
   pub of-effects : (numbers : List ℕ) (room n p : ℕ) → effectsAnswer numbers room ≡ Refused n p → OneOf 2 5 n
   pub of-drain : (numbers starts : List ℕ) (room : Rooms) (n p : ℕ) → answered (outcomeOf numbers starts room) ≡ DrainRefused n p → OneOf 2 5 n
   pub of-run : (numbers : List ℕ) (room : RunRooms) (n p : ℕ) → runAnswered (runOutcomeOf numbers room) ≡ RunRefused n p → OneOf 2 5 n
-  pub of-judge : (numbers starts row : List ℕ) (n p : ℕ) → judgeOf numbers starts row ≡ JudgeRefused n p → OneOf 2 6 n
+  pub of-judge : (numbers starts row : List ℕ) (n p : ℕ) → judgeOf numbers starts row ≡ JudgeRefused n p → OneOf 2 4 n ⊎ (n ≡ 6)
   pub of-starts : (numbers : List ℕ) (room : StartsRooms) (n p : ℕ) → startsAnswered (startsOutcomeOf numbers room) ≡ StartsRefused n p → OneOf 2 5 n

@@ -1,6 +1,7 @@
 -- The keep rules a second time, as a relation: one case for each way in which a rule (docs/RULES.md) gives a fact, each with
 -- its place in the Rust (000, include_statements.rs; 001, on_demand.rs). Nothing is said of an order. `gives` of `keep_rules` lists exactly
--- this for every fact but an external module, which is never kept (`GivesExactly` in Same.antt).
+-- this for every fact but an external module, which is never kept (`GivesExactly` in Same.antt). Where the Rust asks whether the module of a statement
+-- is normal (000:508, 000:1028) nothing is asked here: in an accepted graph an external module has no statement, and its symbols are declared by none.
 use Prim.Native.Nat.{ℕ, suc, _+_, _<_, _≤_}
 use mathlib.Core.Path.{_≡_}
 use mathlib.Core.Bool.{Bool, true, false}

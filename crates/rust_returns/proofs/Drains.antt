@@ -24,7 +24,8 @@ use Rattle.rust_engine.proofs.Handling.{quiet}
 use Rattle.rust_engine.proofs.HandlingStatements.{in-pair}
 use Rattle.rust_engine.proofs.Waiting.{asks-joined}
 use Rattle.rust_returns.specs.Following.{Choosing, DrainsBy}
-use Rattle.rust_returns.specs.Circle.{GivesUse, Ends, ends, Stops, stops}
+use Rattle.rust_returns.specs.Circle.{GivesUse}
+use Rattle.rust_returns.proofs.Ending.{Ends, ends, Stops, stops}
 use Rattle.rust_returns.proofs.Adding.{Adds, adds-none, adds-then, adds-deferred, adds-module, adds-statement}
 use Rattle.rust_returns.proofs.Symbols.{Given, adds-symbol}
 use Rattle.rust_returns.proofs.Left.{isSet, left, left-le, left-lt}

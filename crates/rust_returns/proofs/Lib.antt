@@ -2,6 +2,7 @@ pub mod Adding
 pub mod Uses
 pub mod Symbols
 pub mod Left
+pub mod Ending
 pub mod Drains
 pub mod Searching
 pub mod Loops

@@ -41,7 +41,7 @@ use Rattle.rust_run.proofs.Grouping.{filter-those}
 use Rattle.rust_run.proofs.Starting.{reference-is, module-normal, user-normal, export-none, export-one, same-exports}
 use Rattle.rust_run.proofs.Runtime.{helperUses, uses-moved, effects-same, starts-runtime, starts-helpers}
 use Rattle.rust_returns.specs.Following.{Choosing, DrainsBy, ReferencesBy, EntryBy, UsersBy, ExportsBy, BailoutsBy, HelpersBy, RuntimeBy}
-use Rattle.rust_returns.specs.Circle.{Ends}
+use Rattle.rust_returns.proofs.Ending.{Ends}
 use Rattle.rust_returns.proofs.Drains as engine
 
 -- a choice that is closed but for its base, finite, and all of whose uses end

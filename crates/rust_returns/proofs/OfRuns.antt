@@ -44,7 +44,8 @@ use Rattle.rust_run.proofs.Round.{prefix-line}
 use Rattle.rust_run.proofs.Main.{RoundsEnd, users-good, main-beside}
 use Rattle.rust_run.proofs.Runtime.{module-bit, base-is}
 use Rattle.rust_returns.specs.Following.{Choosing, UsersBy, RoundsBy, RuntimeBy, Follows}
-use Rattle.rust_returns.specs.Circle.{GivesUse, Ends, CircleIn, Circle, ReturnsBy, ReturnsUnlessCircles}
+use Rattle.rust_returns.specs.Circle.{GivesUse, CircleIn, Circle, ReturnsBy, ReturnsUnlessCircles}
+use Rattle.rust_returns.proofs.Ending.{Ends}
 use Rattle.rust_returns.proofs.Uses.{Place, placed}
 use Rattle.rust_returns.proofs.Searching.{search, usesOf, uses-lined, lined-uses, lined-in}
 use Rattle.rust_returns.proofs.Loops as loops

@@ -39,8 +39,9 @@ use Rattle.rust_run.proofs.Main.{RoundsEnd, main-beside}
 use Rattle.rust_run.proofs.Runtime.{base-is, runtime-onward, runtime-exactly}
 use Rattle.rust_run.specs.Agreement.{Agrees}
 use Rattle.rust_run.proofs.OfRuns as agree
-use Rattle.rust_returns.specs.Following.{Choosing, Follows}
-use Rattle.rust_returns.specs.Circle.{GivesUse, Ends, ends, CircleIn, Circle, ReturnsBy, NeverOnCircles, ReturnsExactly, ReturnsAndAgrees}
+use Rattle.rust_returns.specs.Following.{Follows}
+use Rattle.rust_returns.specs.Circle.{GivesUse, CircleIn, Circle, HasChoices, ReturnsBy, NeverOnCircles, ReturnsExactly, ReturnsAndAgrees}
+use Rattle.rust_returns.proofs.Ending.{Ends, ends}
 use Rattle.rust_returns.proofs.Passing.{Safe, passed-ends, Fine, reached-fine, safe-closed}
 use Rattle.rust_returns.proofs.OfRuns.{main, word, fs, all, lines-are, main-closed, stage, of-stage, returns-unless-circles}
 
@@ -143,8 +144,8 @@ never-on-circles numbers ok k o x =
     no-circle numbers ok o (subst (λ (l : List ℕ). IncludeStatements (graphIn numbers) l o) w (x .include-statements)) k
 
 -- the lists' own orders, and the sorted entries of the run
-ownChoices : (numbers : List ℕ) → answerOf (checkOf numbers) ≡ Accepted → Choosing (graphIn numbers)
-ownChoices numbers ok =
+pub has-choices : HasChoices
+has-choices numbers ok =
     let z = rust-order-exists numbers ok in
     record {
       at-pop = λ c i. listed;
@@ -165,7 +166,7 @@ pub returns-exactly : ReturnsExactly
 returns-exactly numbers ok = (λ r k. never-on-circles numbers ok k (r .0) (r .1), λ n. go n (returns-unless-circles numbers ok))
   where
     go : (Circle (graphIn numbers) → ⊥) → ReturnsBy (graphIn numbers) ⊎ Circle (graphIn numbers) → (o : Outcome) × Returns (graphIn numbers) o
-    go n (inl r) = let z = r (ownChoices numbers ok) in (z .0, z .1)
+    go n (inl r) = let z = r (has-choices numbers ok) in (z .0, z .1)
     go n (inr k) = absurd (n k)
 
 pub returns-and-agrees : ReturnsAndAgrees

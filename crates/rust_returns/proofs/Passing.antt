@@ -34,7 +34,7 @@ use Rattle.rust_engine.proofs.HandlingUses.{symbol-grown}
 use Rattle.rust_engine.proofs.Links.{links}
 use Rattle.rust_engine.proofs.Waiting.{marked, asks-joined}
 use Rattle.rust_engine.proofs.Queue.{handle-queue, use-queued}
-use Rattle.rust_returns.specs.Circle.{Ends, ends}
+use Rattle.rust_returns.proofs.Ending.{Ends, ends}
 use Rattle.rust_returns.proofs.Uses.{placed}
 
 module _ (g : Graph) where

@@ -20,7 +20,8 @@ use Rattle.worklist.specs.Drain.{factAt}
 use Rattle.closed_choices.specs.Choice.{Choice, HasLine, nothingGiven}
 use Rattle.rust_values.specs.Values.{Pair, pair, hasPair, In}
 use Rattle.rust_engine.proofs.HandlingStatements.{pair-in, in-pair}
-use Rattle.rust_returns.specs.Circle.{GivesUse, Ends, ends, CircleIn}
+use Rattle.rust_returns.specs.Circle.{GivesUse, CircleIn}
+use Rattle.rust_returns.proofs.Ending.{Ends, ends}
 use Rattle.rust_returns.proofs.Uses.{at-place, placed}
 
 abbrev useOf : Pair → Fact

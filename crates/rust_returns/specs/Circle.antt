@@ -3,7 +3,7 @@
 use Prim.Native.Nat.{ℕ}
 use mathlib.Core.Path.{_≡_}
 use mathlib.Core.Logic.{_⊎_, _↔_}
-use mathlib.Core.List.{List, _∷_}
+use mathlib.Core.List.{List}
 use Rattle.graph.specs.declared.Checked.the-variants.{Accepted}
 use Rattle.graph.specs.Check.{Graph, graphIn, checkOf, answerOf}
 use Rattle.facts.specs.Facts.{useFact}
@@ -12,8 +12,6 @@ use Rattle.run_rows.specs.Run.{runOf}
 use Rattle.closed_choices.specs.Choice.{Choice, HasLine}
 use Rattle.rule_relation.specs.Relation.{Gives}
 use Rattle.rust_values.specs.Values.{Pair, In}
-use Rattle.rust_engine.specs.Context.{Context, WorkItem, rest}
-use Rattle.rust_engine.specs.Engine.{Orders, Reorders, handle}
 use Rattle.rust_run.specs.IncludeStatements.{Outcome, Returns}
 use Rattle.rust_run.specs.Agreement.{Agrees}
 use Rattle.rust_returns.specs.Following.{Choosing, Follows}
@@ -22,15 +20,6 @@ use Rattle.rust_returns.specs.Following.{Choosing, Follows}
 pub data GivesUse (g : Graph) (s x t y : ℕ) : Type 0 where
   by-alias : Gives g (lastVerdicts g) 11 (useFact s x) (useFact t y) → GivesUse g s x t y
   by-wrapper : Gives g (lastVerdicts g) 12 (useFact s x) (useFact t y) → GivesUse g s x t y
-
--- a use from which every way of uses, each given by the one before, comes to an end
-pub data Ends (g : Graph) : ℕ → ℕ → Type 0 where
-  ends : (s x : ℕ) → ((t y : ℕ) → GivesUse g s x t y → Ends g t y) → Ends g s x
-
--- a context from which the engine pops only finitely many items, whatever the hash orders
-pub data Stops (g : Graph) : Context → Type 0 where
-  stops : (c : Context)
-      → ((i : WorkItem) (is : List WorkItem) (order : Orders) → Reorders order → c .pending ≡ i ∷ is → Stops g (handle g (lastVerdicts g) order i (rest is c))) → Stops g c
 
 -- uses of a choice, not none, each of which gives one of them
 pub record CircleIn (g : Graph) (C : Choice) : Type 0 where
@@ -43,6 +32,10 @@ pub record CircleIn (g : Graph) (C : Choice) : Type 0 where
 -- among the lines of the run
 abbrev pub Circle : Graph → Type 0
 Circle g = CircleIn g (HasLine (runOf g .lines))
+
+-- There are choices for every accepted graph, so what is said for each of them is said of some.
+abbrev pub HasChoices : Type 0
+HasChoices = (numbers : List ℕ) → answerOf (checkOf numbers) ≡ Accepted → Choosing (graphIn numbers)
 
 -- the Rust returns, whatever the hash orders and the components
 abbrev pub ReturnsBy : Graph → Type 0

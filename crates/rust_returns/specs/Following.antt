@@ -15,8 +15,8 @@ use Rattle.rust_run.specs.DynamicEntries.{References, IncludesEntry, ProcessAnd
 use Rattle.rust_run.specs.Passes.{IncludesExports, IncludesBailouts, collectDependedRuntimeHelpers, IncludesHelpers, IncludeRuntimeSymbol}
 use Rattle.rust_run.specs.IncludeStatements.{userDefinedEntries, dynamicEntries, IncludesUserDefined, Rounding, rounding, insertIf, ProcessesDynamic, Round, Rounds, Outcome, Returns}
 
--- an order for each walk over a hash set or map, from what is at hand: at a pop, of a module's exports, of the bailouts that a round takes, of helpers;
--- and the entries sorted, by any components that are right. That the same context gets the same order takes nothing away (docs/DECISIONS.md, "All orders
+-- an order for each walk over a hash set or map that pushes items, from what is at hand: at a pop, of a module's exports, of the bailouts that a round
+-- takes; of helpers; and the entries sorted, by any components that are right. That the same context gets the same order takes nothing away (docs/DECISIONS.md, "All orders
 -- chosen at once").
 pub record Choosing (g : Graph) : Type 0 where
   pub at-pop : Context → WorkItem → Orders

@@ -1,6 +1,6 @@
 -- The main definitions of each file.
 -- `Following`: `Choosing`, `Follows`.
--- `Circle`: `GivesUse`, `Circle`, `ReturnsUnlessCircles`, `NeverOnCircles`, `ReturnsExactly`, `ReturnsAndAgrees`.
+-- `Circle`: `GivesUse`, `Circle`, `HasChoices`, `ReturnsUnlessCircles`, `NeverOnCircles`, `ReturnsExactly`, `ReturnsAndAgrees`.
 -- `Example`: `circle`, `NeverReturns`.
 pub mod Following
 pub mod Circle
