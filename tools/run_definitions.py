@@ -6,20 +6,22 @@
     tools/run_definitions.py --root DIR    the definitions and answers of another copy of the project
     tools/run_definitions.py --self-test
 
-The definitions are the texts in `crates/rust_*/specs`, with what they use of other specs. `proofs/Executed.antt` of `rust_run` has
-the relations among them as functions with a bound, and it is proved that what these give the relations have. Each graph of
+The definitions are the texts in `crates/rust_*/specs`, with what they use of other specs. Relations are not read: `proofs/Executed.antt`
+of `rust_run` has them as functions with a bound, and it is proved that what these give the relations have. Each graph of
 `oracle/answers.txt` is decoded by `graphIn`, and `rustListing` of what `executed` gives has to be the listing that the Rust gave. On
 the graph `circle` the Rust does not return, and `executed` must not end. The outcomes that the prover finds for two graphs
 (`Printed.antt`) have to be those that are found here.
 
-petgraph's components are found here, and compared with what `TarjanScc` says of them. With them the functions of `rust_order`
-have to give the same order of the dynamic entries and the same modules on cycles as the project's own definitions.
+petgraph's components are found here; what the record `TarjanScc` says of them is asked by `are_components`, in Python. With them the
+functions of `rust_order` have to give the same order of the dynamic entries and the same modules on cycles as the project's own
+definitions.
 
 A branch is a clause, a branch of `elim` or of `when`, a lambda, or a value of an operand of && or ||. Those that no recorded
 graph executes are in run_definitions.txt, each with the reason; none of them may be executed.
 """
 import sys
 import threading
+from fnmatch import fnmatch
 from pathlib import Path
 
 sys.dont_write_bytecode = True
@@ -31,7 +33,6 @@ from graph_file import decoded  # noqa: E402
 
 ROOT = Path(__file__).resolve().parent.parent
 ALLOWED = Path(__file__).with_name("run_definitions.txt")
-CRATES = ["rust_values", "rust_effects", "rust_engine", "rust_order", "rust_run", "rust_listing"]
 EXECUTED = "rust_run/proofs/Executed.antt"
 PRINTED = "rust_run/proofs/Printed.antt"
 ORDER = "rust_order/specs/DynamicEntries.antt"
@@ -41,7 +42,7 @@ CIRCLE_BOUND = 1_000
 
 def watched(unit):
     """Whether the branches of a file are counted."""
-    return unit == f"crates/{EXECUTED}" or any(unit.startswith(f"crates/{crate}/specs/") for crate in CRATES)
+    return unit == f"crates/{EXECUTED}" or fnmatch(unit, "crates/rust_*/specs/*")
 
 
 class Different(Exception):
@@ -161,7 +162,9 @@ class Definitions:
         """The definitions give the recorded answer."""
         g = self.graph_in(numbers)
         self.check_order(g)
-        given = self.listing(g, self.value(self.executed(g, BOUND)))
+        outcome = self.value(self.executed(g, BOUND))
+        plain(outcome, g)  # the listing asks for the helper words of normal modules only
+        given = self.listing(g, outcome)
         if given != answer:
             raise Different(f"the listing\n  {given}\nwhere the Rust gave\n  {answer}")
 
@@ -225,7 +228,7 @@ def is_value(definition):
 
 def functions(library):
     """The definitions of the watched files that have values."""
-    paths = [p for crate in CRATES for p in sorted((library.root / "crates" / crate / "specs").glob("*.antt"))]
+    paths = sorted(library.root.glob("crates/rust_*/specs/*.antt"))
     units = [library.unit(path) for path in [*paths, library.root / "crates" / EXECUTED]]
     return [d for unit in units for d in unit.definitions.values() if is_value(d)]
 
@@ -339,8 +342,11 @@ def self_test():
 def main(arguments):
     if arguments == ["--self-test"]:
         return self_test()
-    root = Path(arguments.pop()) if arguments[-2:-1] == ["--root"] else ROOT
-    if arguments not in ([], ["--branches"], ["--root"], ["--branches", "--root"]):
+    root = ROOT
+    if arguments[-2:-1] == ["--root"]:
+        root = Path(arguments.pop())
+        arguments.pop()
+    if arguments not in ([], ["--branches"]):
         print(__doc__)
         return 2
     try:

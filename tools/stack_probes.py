@@ -1,7 +1,7 @@
 #!/usr/bin/env python3
-"""Fails where a stack probe of a compiled library stands anywhere but at a function's entry.
+"""Fails where a stack probe of a compiled library or program stands anywhere but at a function's entry.
 
-    tools/stack_probes.py ARCHIVE
+    tools/stack_probes.py FILE
     tools/stack_probes.py --self-test
 
 A frame of more than a page is touched page by page before it is used. LLVM does so with a loop that takes register r11:

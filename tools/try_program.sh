@@ -61,6 +61,32 @@ to_full() {
     "$@" >/dev/full
 }
 
+to_closed() {
+    "$@" >&-
+}
+
+from_closed() {
+    "$@" <&-
+}
+
+# Standard output is a pipe whose reader is gone.
+to_no_reader() {
+    python3 -c '
+import os, subprocess, sys
+reader, writer = os.pipe()
+os.close(reader)
+sys.exit(subprocess.run(sys.argv[1:], stdout=writer).returncode)' "$@"
+}
+
+# Standard input is a terminal at which the end of input is typed, once.
+from_terminal() {
+    python3 -c '
+import os, pty, subprocess, sys
+typed, terminal = pty.openpty()
+os.write(typed, b"\x04")
+sys.exit(subprocess.run(sys.argv[1:], stdin=terminal, timeout=10).returncode)' "$@"
+}
+
 for graph in "$folder"/*.graph; do
     name=$(basename "$graph" .graph)
     listing=$folder/$name.listing
@@ -80,6 +106,17 @@ expect 'a folder as file, command' 2 $nothing "$failure" "$keep" "$folder"
 expect 'no such file, command' 2 $nothing "$failure" "$keep" "$folder/none"
 expect 'output to a full device' 0 $nothing "$write_failure" to_full "$program" <"$graph"
 expect 'output to a full device, command' 2 $nothing "$failure" to_full "$keep" "$graph"
+expect 'standard input closed' 0 $nothing "$read_failure" from_closed "$program"
+expect 'standard input closed, command' 2 $nothing "$failure" from_closed "$keep" -
+expect 'standard output closed' 0 $nothing "$write_failure" to_closed "$program" <"$graph"
+expect 'standard output closed, command' 2 $nothing "$failure" to_closed "$keep" "$graph"
+expect 'no reader, command' 2 $nothing "$failure" to_no_reader "$keep" "$graph"
+if python3 -c 'import pty; pty.openpty()' 2>/dev/null; then
+    expect 'the end of input at a terminal' 0 "$folder/empty.listing" "$quiet" from_terminal "$program"
+    expect 'the end of input at a terminal, command' 1 "$folder/empty.listing" "$quiet" from_terminal "$keep" -
+else
+    printf 'no terminal is to be had here: two tries are left out\n'
+fi
 KEEP_PROGRAM=$(type -P true)
 expect 'a program that prints nothing, command' 2 $nothing "$failure" "$keep" "$graph"
 KEEP_PROGRAM=$(type -P false)

@@ -79,13 +79,17 @@ impl Chosen {
         }
     }
 
-    /// Whether there is an answer to add.
+    /// Whether there is an answer to add, which is not there yet.
     fn add(&mut self, graph: &Graph) -> bool {
         let Decision::Listed(listing) = decide(graph, 0, BUDGET) else { return false };
+        let line = answer(graph, &listing);
+        if self.lines.contains(&line) {
+            return false;
+        }
         for name in occurrences(graph) {
             *self.occurred.entry(name).or_default() += 1;
         }
-        self.lines.push(answer(graph, &listing));
+        self.lines.push(line);
         true
     }
 }

@@ -86,7 +86,7 @@ enum Outcome {
 }
 
 impl Comparison<'_> {
-    /// Compares the graphs of some seeds; ends after so many differences.
+    /// Compares the graphs of some seeds; ends after so many that are not as they have to be.
     pub fn seeds(&self, seeds: impl Iterator<Item = u64>, most_differences: usize) -> Counts {
         let mut counts = Counts::default();
         for &name in &ALL {
@@ -95,7 +95,7 @@ impl Comparison<'_> {
         for seed in seeds {
             let graph = graph_of(seed);
             self.graph(&mut counts, seed, graph);
-            if counts.differences.len() >= most_differences {
+            if counts.differences.len() + counts.too_long.len() >= most_differences {
                 break;
             }
         }

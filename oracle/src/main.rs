@@ -86,7 +86,7 @@ fn options() -> Result<Options, Box<dyn Error>> {
             "--seconds" => options.seconds = value()?.parse()?,
             "--repeat" => options.repeat = value()?.parse()?,
             "--other" => options.other = value()?,
-            "--differences" => options.differences = value()?.parse()?,
+            "--differences" => options.differences = value()?.parse::<usize>()?.max(1),
             "--time" => options.time = true,
             "--help" | "-h" => return Err(USAGE.into()),
             other if other.starts_with("--") => return Err(format!("{other} is no option\n{USAGE}").into()),
@@ -248,7 +248,7 @@ fn replay(options: &Options, list: &str) -> Result<bool, Box<dyn Error>> {
     }
     let all = list.lines().count();
     println!("{good} of {all} answers are the same");
-    Ok(good == all)
+    Ok(good == all && all > 0)
 }
 
 fn is_program(which: &str) -> bool {

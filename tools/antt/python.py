@@ -315,6 +315,8 @@ class Writer:
                 raise Fault(f"{place}: {len(patterns)} patterns for {len(values)} values")
             conditions, variables = self.match_all(scope, patterns, values)
             last = not conditions or complete and index == len(alternatives) - 1
+            if last and index < len(alternatives) - 1:  # a constructor that is not known is taken for a variable
+                raise Fault(f"{place}: nothing is left for what follows {' '.join(shown(p.tokens) for p in patterns)}")
             if last and index == 0:
                 return write(scope.bind(self.bound(variables, used)))
             self.emit("else:" if last else f"{'elif' if index else 'if'} {' and '.join(conditions)}:")

@@ -165,6 +165,7 @@ WRONG = [
     ("wrong n = elim n [ zero ↦ 0 | suc k ↦ k", "expected"),
     ("wrong n = do n", "do is not known"),
     ("wrong (line a) = a", "parts of line"),
+    ("wrong n = elim n [ none ↦ 0 | suc k ↦ k ]", "nothing is left"),
 ]
 # What is executed where a function is computed at a number: of a side that is not needed nothing, not even an argument.
 BRANCHES = [

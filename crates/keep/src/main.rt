@@ -10,7 +10,7 @@ use libc::STDIN_FILENO;
 use libc::STDOUT_FILENO;
 
 // A text is printed by parts of so many bytes. If it is longer it is formed again for each further part.
-const WINDOW: usize = 65536;
+const WINDOW: usize = 8192;
 
 pub enum Filled {
     // So many bytes were read, until the buffer was full or the input ended.

@@ -44,7 +44,7 @@ enum-known-next : tie.Need-enum-known-next Inv-loop μ-loop
 enum-known-next c = search needs
 
 slice-aggregate-write-all-2 : tie.Need-slice-aggregate-write-all-2 Inv-loop μ-loop
-slice-aggregate-write-all-2 c = omega (arith, c .before .before .before .before .before .form-part .kept .1 .1 .1 .0, length-replicate {A = ℕ} 65536 0)
+slice-aggregate-write-all-2 c = omega (arith, c .before .before .before .before .before .form-part .kept .1 .1 .1 .0, length-replicate {A = ℕ} 8192 0)
 
 write-all-requires-2 : tie.Need-write-all-requires-2 Inv-loop μ-loop
 write-all-requires-2 c κs = search needs
@@ -54,7 +54,7 @@ returns-2 c = search needs
 
 loop-less : tie.Need-loop-less Inv-loop μ-loop
 loop-less c =
-    omega (arith, next-behind _ _ _ _ (c .before .before .before .before .next .given .1) (c .before .before .before .before .before .before .before .form-part .ensures), c .before .before .before .before .before .before .before .form-part .kept .1 .1 .1 .0, length-replicate {A = ℕ} 65536 0)
+    omega (arith, next-behind _ _ _ _ (c .before .before .before .before .next .given .1) (c .before .before .before .before .before .before .before .form-part .ensures), c .before .before .before .before .before .before .before .form-part .kept .1 .1 .1 .0, length-replicate {A = ℕ} 8192 0)
 
 loop-again : tie.Need-loop-again Inv-loop μ-loop
 loop-again c = search needs
