@@ -51,13 +51,12 @@ use Rattle.judged_starts.proofs.OfStarts.{starts-given}
 use Rattle.host.specs.declared.DrainAnswer.{DrainAnswer}
 use Rattle.host.specs.declared.ReadAnswer.{ReadAnswer}
 use Rattle.host.specs.declared.Refusal.{Refusal}
-use Rattle.host.specs.Answers.{readAnswerOf, drainAnswerOf, judgedOf}
+use Rattle.host.specs.Answers.{readAnswerOf, judgedOf}
 use Rattle.host_answers.specs.Answered.{rowOfRun, rowOfDrain, DrainAnswers, EveryRead, EveryCheck, EveryEffects, EveryRun, EveryRunReturns, EveryRunSpare, EveryJudge, EveryDrainJudged, EveryRunJudged, EveryStartsJudged, EveryDrain}
 use Rattle.host_answers.proofs.GraphFaults.{check-faults}
 use Rattle.host_answers.proofs.Refusals.{reads-of, effects-in, judges-of}
-use Rattle.host_answers.proofs.Outcomes.{drains-of}
-use Rattle.host_answers.proofs.NotRefused.{read-whole, accepted-exactly, effects-passed, passed-exactly, drain-not-refused}
-use Rattle.host_answers.proofs.OfRuns.{run-kept, starts-kept}
+use Rattle.host_answers.proofs.NotRefused.{read-whole, accepted-exactly, effects-passed, passed-exactly}
+use Rattle.host_answers.proofs.OfRuns.{drain-kept, run-kept, starts-kept}
 use Rattle.host_answers.proofs.ByRow.{row-of-run, row-of-drain}
 
 -- A file and a graph ---------------------------------------------------------------------------------------------------------------------
@@ -135,23 +134,20 @@ judge-call numbers given row =
     let q = judge-exactly numbers given row in
     (λ z. q .0 (p .0 z), λ h. p .1 (q .1 h))
 
-lines-are : (a : DrainAnswer) (g : Graph) (lines : List Line) → a ≡ drainAnswerOf (drain.answered (drain.done g lines)) → a .lines ≡ length lines
-unfolding drain.answered drainAnswerOf
-lines-are a g lines e = ap (λ (x : DrainAnswer). x .lines) e
-
 -- what stands in front of a row lies in it
 front-inside : (front rest row : List ℕ) (n : ℕ) → row ≡ front ++ rest → length front ≡ n → n ≤ length row
 front-inside front rest row n e l = omega (arith, ap length e, length-append front rest, l)
 
 pub drain-judged : EveryDrainJudged
 unfolding drain.recordAfter
-drain-judged numbers given a lent after k z =
-    let out = drain.outcomeOf numbers given (drain.roomsOf lent) in
-    let w = drain-not-refused out (drains-of numbers given (drain.roomsOf lent)) (sym (ap (λ (x : DrainAnswer). x .number) (k .answers)) ∙ z) in
-    let n = lines-are a (w .0) (w .1) (k .answers ∙ ap (λ y. drainAnswerOf (drain.answered y)) (w .2)) in
-    let r = k .leaves .record-is ∙ ap (λ y. drain.recordAfter y (lent .lines)) (w .2) in (
-      rw n (front-inside (written (w .1)) _ (after .lines) (6 * length (w .1)) r (written-length (w .1))),
-      zero-of numbers given _ (rw (n, r) (drain-passes numbers given (drain.roomsOf lent) (w .0) (w .1) (w .2) (lent .lines))),
+drain-judged numbers given a lent after k z = let w = drain-kept numbers given a lent after k z in go (w .graph) (w .lines) (w .is-done) (w .lines-are) (w .record-is)
+  where
+    go : (g : Graph) (lines : List Line) → drain.outcomeOf numbers given (drain.roomsOf lent) ≡ drain.done g lines → a .lines ≡ length lines
+        → after .lines ≡ drain.recordAfter (drain.done g lines) (lent .lines)
+        → (6 * a .lines ≤ length (after .lines)) × (judgedOf (judgeOf numbers given (take (6 * a .lines) (after .lines))) .number ≡ 0)
+    go g lines e n r = (
+      rw n (front-inside (written lines) _ (after .lines) (6 * length lines) r (written-length lines)),
+      zero-of numbers given _ (ap (λ m. judgeOf numbers given (take (6 * m) (after .lines))) n ∙ ap (λ xs. judgeOf numbers given (take (6 * length lines) xs)) r ∙ drain-passes numbers given (drain.roomsOf lent) g lines e (lent .lines)),
     )
 
 -- the lines of the main stage stand in front of those of both stages
@@ -234,10 +230,9 @@ pub drain-call : EveryDrain
 unfolding drain.recordAfter
 drain-call numbers given a lent after k z =
     let room = drain.roomsOf lent in
-    let w = drain-not-refused (drain.outcomeOf numbers given room) (drains-of numbers given room) (sym (ap (λ (x : DrainAnswer). x .number) (k .answers)) ∙ z) in
-    let n = lines-are a (w .0) (w .1) (k .answers ∙ ap (λ y. drainAnswerOf (drain.answered y)) (w .2)) in
-    let r = k .leaves .record-is ∙ ap (λ y. drain.recordAfter y (lent .lines)) (w .2) in
-    let d = drain-shows numbers given room (w .0) (w .1) (w .2) in
+    let w = drain-kept numbers given a lent after k z in
+    let d = drain-shows numbers given room (w .graph) (w .lines) (w .is-done) in
     subst (λ (g : Graph). DrainAnswers g given a lent after) (d .0)
-    (drain-answers (w .0) given (w .1) a lent after (lines-read (w .1) _ (after .lines) (a .lines) n r)
-    (λ row. row-of-drain (k .leaves) row ∙ ap (λ y. drain.rowAfter row y (rowOfDrain row lent)) (w .2)) (drain-smallest numbers given room (w .0) (w .1) (w .2)) (d .1))
+    (drain-answers (w .graph) given (w .lines) a lent after (lines-read (w .lines) _ (after .lines) (a .lines) (w .lines-are) (w .record-is))
+    (λ row. row-of-drain (k .leaves) row ∙ ap (λ y. drain.rowAfter row y (rowOfDrain row lent)) (w .is-done))
+    (drain-smallest numbers given room (w .graph) (w .lines) (w .is-done)) (d .1))

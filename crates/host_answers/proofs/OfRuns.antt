@@ -1,11 +1,13 @@
--- What is known of a run and of a run's own starts at the C boundary, where they are not refused: the graph and the run are those of the numbers, and
--- the answer's counts are theirs.
+-- What is known of a drain, a run and a run's own starts at the C boundary, where they are not refused: the graph and the run are those of the numbers,
+-- and the answer's counts are theirs.
 use Prim.Native.Nat.{ℕ, _*_}
 use mathlib.Core.Path.{_≡_, ap, _∙_, sym, subst}
 use mathlib.Core.List.{List}
 use lib.ListN.{length}
 use Rattle.graph.specs.declared.Checked.the-variants.{Accepted}
 use Rattle.graph.specs.Check.{Graph, graphIn, checkOf, answerOf}
+use Rattle.keep_record.specs.declared.Line.{Line}
+use Rattle.drain_parts.specs.Operation as drain
 use Rattle.tree_shaking.specs.Rounds.{finalEntries}
 use Rattle.run_rows.specs.Run.{Run, runOf}
 use Rattle.run_parts.specs.declared.Ran.{Ran}
@@ -15,11 +17,36 @@ use Rattle.run_choices.proofs.Done.{run-done}
 use Rattle.noted_stages.specs.Stages.{ownStartsOnce}
 use Rattle.run_starts_parts.specs.Operation as starts
 use Rattle.judged_starts.proofs.Done.{starts-done}
+use Rattle.host.specs.declared.DrainAnswer.{DrainAnswer}
 use Rattle.host.specs.declared.ReadAnswer.{ReadAnswer}
 use Rattle.host.specs.declared.RunAnswer.{RunAnswer}
-use Rattle.host.specs.Answers.{KeepRun, KeepStarts, runAnswerOf, startsAnswerOf}
-use Rattle.host_answers.proofs.Outcomes.{runs-of, starts-of}
-use Rattle.host_answers.proofs.NotRefused.{run-not-refused, starts-not-refused}
+use Rattle.host.specs.Answers.{KeepDrain, KeepRun, KeepStarts, drainAnswerOf, runAnswerOf, startsAnswerOf}
+use Rattle.host_answers.proofs.Outcomes.{drains-of, runs-of, starts-of}
+use Rattle.host_answers.proofs.NotRefused.{drain-not-refused, run-not-refused, starts-not-refused}
+
+-- a drain
+pub record DrainKept (numbers given : List ℕ) (a : DrainAnswer) (lent after : drain.Rows) : Type 0 where
+  pub graph : Graph
+  pub lines : List Line
+  pub is-done : drain.outcomeOf numbers given (drain.roomsOf lent) ≡ drain.done graph lines
+  pub lines-are : a .lines ≡ length lines
+  pub record-is : after .lines ≡ drain.recordAfter (drain.done graph lines) (lent .lines)
+
+lines-back : (a : DrainAnswer) (g : Graph) (lines : List Line) → a ≡ drainAnswerOf (drain.answered (drain.done g lines)) → a .lines ≡ length lines
+unfolding drain.answered drainAnswerOf
+lines-back a g lines e = ap (λ (x : DrainAnswer). x .lines) e
+
+pub drain-kept : (numbers given : List ℕ) (a : DrainAnswer) (lent after : drain.Rows) → KeepDrain numbers given a lent after → a .number ≡ 0 → DrainKept numbers given a lent after
+drain-kept numbers given a lent after k z =
+    let out = drain.outcomeOf numbers given (drain.roomsOf lent) in
+    let w = drain-not-refused out (drains-of numbers given (drain.roomsOf lent)) (sym (ap (λ (x : DrainAnswer). x .number) (k .answers)) ∙ z) in
+    record {
+      graph = w .0;
+      lines = w .1;
+      is-done = w .2;
+      lines-are = lines-back a (w .0) (w .1) (k .answers ∙ ap (λ y. drainAnswerOf (drain.answered y)) (w .2));
+      record-is = k .leaves .record-is ∙ ap (λ y. drain.recordAfter y (lent .lines)) (w .2);
+    }
 
 -- a run
 pub record RunKept (numbers : List ℕ) (a : RunAnswer) (lent after : run.Rows) : Type 0 where
