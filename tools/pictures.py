@@ -29,17 +29,11 @@ GROUPS = [
     ("Answers and the Rust", 0, 20, 680, "theorems", "rust_returns rust_listing host_answers"),
     ("The Rust as definitions", 1, 20, 220, "theorems", "rust_values rust_effects rust_engine rust_order rust_run"),
     ("Judged records", 1, 260, 200, "theorems", "rule_relation judged_records judged_starts"),
-    ("C boundary", 1, 500, 160, "outside", "host"),
+    ("C boundary", 1, 500, 160, "outside", "answers host"),
     ("Smallest choice", 2, 20, 200, "theorems", "closed_choices run_choices"),
-    (
-        "A run's own starts", 2, 260, 300, "code",
-        "own_starts noted_entries noted_run noted_stages run_starts_parts run_starts",
-    ),
+    ("A run's own starts", 2, 260, 300, "code", "own_starts run_starts"),
     ("Program", 2, 600, 160, "outside", "listing answer_text keep"),
-    (
-        "Run", 3, 260, 500, "code",
-        "passes next_stage tree_shaking run_rows run_parts whole_run run_sizes run_large run",
-    ),
+    ("Run", 3, 260, 500, "code", "passes next_stage tree_shaking run_rows run_parts run_sizes run"),
     ("Drain", 4, 20, 200, "code", "drain_parts drain_sizes drain"),
     (
         "Dynamic entries", 4, 240, 320, "code",

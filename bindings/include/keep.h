@@ -333,12 +333,15 @@ struct keep_refusal keep_judge(const uint32_t *numbers, size_t numbers_length, c
 
 /*
  * Writes the starts of a graph's run, as keep_drain and keep_judge take them: each fact that the main stage starts,
- * once, in the order of starting. The run is worked out anew for this.
+ * once. First what the user-defined entries start, in their order; then the exports of bailouts, by record line; then
+ * what live dynamic entries start, by module. The main stage is worked out anew for this, the runtime stage is not.
  *
- * `starts` begins with `count` numbers, three for each start. Marks and record are left as keep_run leaves them.
+ * `starts` begins with `count` numbers, three for each start. The record is left with the lines of the main stage and
+ * zeros behind them, the marks with the bits of their facts.
  *
- * Refused as by keep_check; then KEEP_REFUSED_TOO_SHORT for marks, record or starts. If record or starts were found too
- * short during the work, marks and record are all zero; after any other refusal they are as lent.
+ * Refused as by keep_check; then KEEP_REFUSED_TOO_SHORT for marks, record or starts. The record needs room for the lines
+ * of the main stage alone. If record or starts were found too short during the work, marks and record are all zero;
+ * after any other refusal they are as lent.
  */
 struct keep_read_answer keep_starts(const uint32_t *numbers, size_t numbers_length, uint8_t *marks,
                                     size_t marks_length, uint32_t *record, size_t record_length, uint32_t *starts,
@@ -491,8 +494,9 @@ static inline size_t keep_drain_record_length(const struct keep_counts *counts) 
 }
 
 /*
- * A record that suffices for a run and for keep_starts, in numbers. That was compared on many graphs, not proved; twice
- * keep_drain_record_length is proved to suffice. A record that is too short is refused, not overrun.
+ * A record that suffices for a run, in numbers. That was compared on many graphs, not proved; twice
+ * keep_drain_record_length is proved to suffice. A record that is too short is refused, not overrun. The same length
+ * suffices for keep_starts, which writes the lines of the main stage alone: `lines` of a run's answer.
  */
 static inline size_t keep_run_record_length(const struct keep_counts *counts) {
     return KEEP_LINE_NUMBERS * (3 * counts->modules + counts->statements + 20 * counts->symbols);

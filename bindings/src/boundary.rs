@@ -492,12 +492,14 @@ pub fn judge(numbers: &[u32], starts: &[u32], record: &[u32]) -> Refusal {
 }
 
 /// Writes the starts that the run of a graph has of itself into `starts`: triples as [`drain`] and [`judge`] take them,
-/// each fact that was started before the runtime stage once, in the order of starting.
+/// each fact that is started before the runtime stage once. First what the user-defined entries start, in their order;
+/// then the exports of bailouts, by record line; then what live dynamic entries start, by module.
 ///
-/// If it is not refused, `count` numbers were written, those past them are as lent, and marks and record are as [`run`]
-/// leaves them. Refused as by [`check`]; then 5 at place 0 for `marks` below 2M + S + 63Y bits (modules, statements,
-/// symbols), for a record shorter than the lines of both stages, and for `starts` that are too short. A refusal leaves
-/// all as lent, except that marks and record are all zero if record or starts were found short.
+/// If it is not refused, `count` numbers were written, those past them are as lent, the record has the lines of the main
+/// stage and zeros behind them, and the marks are of the facts of these lines. Refused as by [`check`]; then 5 at place 0
+/// for `marks` below 2M + S + 63Y bits (modules, statements, symbols), for a record shorter than the lines of the main
+/// stage, and for `starts` that are too short. A refusal leaves all as lent, except that marks and record are all zero if
+/// record or starts were found short.
 ///
 /// ```
 /// lizdakk::with_stack(|| {

@@ -152,8 +152,9 @@ pub fn effects_here(graph: &Graph) -> Result<Vec<SideEffects>, Refused> {
     verdicts(&checked(graph)?, graph)
 }
 
-/// The starts that the run of a graph has of itself: what a judge needs beside the record of [`decide`]. On a thread with
-/// enough stack.
+/// The starts that the run of a graph has of itself: what a judge needs beside the record of [`decide`]. Each once: those
+/// of the user-defined entries, then those of bailouts by record line, then those of live dynamic entries by module. On a
+/// thread with enough stack.
 ///
 /// ```
 /// let mut graph = lizdakk::Graph::new();

@@ -95,7 +95,8 @@ pub struct Lengths {
     pub marks: usize,
     /// A record that is proved to be enough for a drain: a line for each mark.
     pub drain_record: usize,
-    /// A record that was enough for every run and its starts that was tried. Twice `drain_record` is proved to be enough.
+    /// A record that was enough for every run that was tried. Twice `drain_record` is proved to be enough. The starts of a
+    /// run need room for the lines of its main stage alone.
     pub run_record: usize,
     /// The row `modules`.
     pub modules: usize,

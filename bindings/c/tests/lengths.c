@@ -64,6 +64,7 @@ static void run_exactly(const struct graph *graph, size_t record) {
     EXPECT(keep_run_with(graph->numbers, graph->length, &rows).number == KEEP_PASSED);
 }
 
+/* How many numbers the record of the main stage has. */
 static size_t run(const struct graph *graph) {
     struct keep_size size = keep_run_rows_size(&graph->counts);
     struct keep_run_rows rows;
@@ -77,7 +78,7 @@ static size_t run(const struct graph *graph) {
     record = KEEP_LINE_NUMBERS * (size_t)(answer.lines + answer.runtime_lines);
     EXPECT(record <= keep_run_record_length(&graph->counts));
     run_exactly(graph, record);
-    return record;
+    return KEEP_LINE_NUMBERS * (size_t)answer.lines;
 }
 
 static int drain_rows_are_lent(const struct keep_drain_rows *rows) {
@@ -126,7 +127,10 @@ static void drain(const struct graph *graph) {
     EXPECT(answer.number == KEEP_REFUSED_LENGTH && answer.place == count - 1);
 }
 
-/* The starts with marks, record and starts that are just long enough; with any of them one shorter they are refused. */
+/*
+ * The starts with marks, a record of the main stage and starts that are just long enough; with any of them one shorter
+ * they are refused.
+ */
 static void starts(const struct graph *graph, size_t record_length) {
     size_t lengths[3], row, count;
     uint8_t *marks = fenced_bytes(keep_marks_length(&graph->counts));

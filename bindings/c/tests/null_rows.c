@@ -41,18 +41,18 @@ static void no_rows(const struct graph *graph) {
     EXPECT(starts.number == KEEP_REFUSED_TOO_SHORT);
 }
 
-/* How many record lines a run writes. */
-static uint64_t run_lines(const struct graph *graph) {
+/* What a run answers. */
+static struct keep_run_answer run_of(const struct graph *graph) {
     struct keep_run_rows rows = fenced_run_rows(&graph->counts, keep_run_record_length(&graph->counts));
     struct keep_run_answer answer = keep_run_with(graph->numbers, graph->length, &rows);
     EXPECT(answer.number == KEEP_PASSED);
-    return answer.lines + answer.runtime_lines;
+    return answer;
 }
 
 /* One empty row of a run at a time: refused if the graph needs it. */
 static void run_row(const struct graph *graph, size_t row) {
     struct keep_run_rows rows = fenced_run_rows(&graph->counts, keep_run_record_length(&graph->counts));
-    struct keep_run_answer answer;
+    struct keep_run_answer whole = run_of(graph), answer;
     int needed = 1;
     switch (row) {
     case 0: rows.marks = NULL, rows.marks_length = 0; break;
@@ -67,7 +67,7 @@ static void run_row(const struct graph *graph, size_t row) {
     case 9: rows.helpers = NULL, rows.helpers_length = 0; break;
     default: rows.entries = NULL, rows.entries_length = 0;
     }
-    if (row == 1) needed = run_lines(graph) > 0;
+    if (row == 1) needed = whole.lines + whole.runtime_lines > 0;
     if (row == 8) needed = graph->counts.import_records > 0;
     if (row == 10) needed = graph->counts.entries > 0;
     answer = keep_run_with(graph->numbers, graph->length, &rows);
@@ -101,7 +101,7 @@ static void starts_row(const struct graph *graph, size_t row) {
     struct keep_read_answer answer;
     int needed = 1;
     own_starts(graph, &count);
-    if (row == 1) needed = run_lines(graph) > 0;
+    if (row == 1) needed = run_of(graph).lines > 0;
     if (row == 2) needed = count > 0;
     if (row == 0) marks = NULL, marks_length = 0;
     if (row == 1) record = NULL, record_length = 0;

@@ -14,6 +14,7 @@ use peer::generate::{self, Random, Size};
 use peer::listing::{first_records, first_statement_bytes, is_set};
 use peer::reference::drain;
 use peer::reference::run::Run;
+use peer::reference::starts::Starts;
 use seeds::for_seeds;
 
 const CASES: u64 = 20_000;
@@ -101,7 +102,7 @@ fn decided_alike() {
             let starts = own_starts_here(&graph).expect("it was accepted");
             assert_eq!(
                 starts.iter().map(|start| start.numbers()).collect::<Vec<_>>(),
-                run.starts.iter().map(|start| start.parts()).collect::<Vec<_>>()
+                Starts::of(&model).facts.iter().map(|start| start.parts()).collect::<Vec<_>>()
             );
             assert_eq!(judge_here(&graph, &starts, &kept.record()), Ok(()), "seed {seed}");
         }

@@ -11,7 +11,7 @@ use peer::reference::judge::{judge, Judge};
 use peer::reference::judge_by_rules::{judge_by_rules, judge_record};
 use peer::reference::rules::Rules;
 use peer::reference::run::Run;
-use peer::reference::starts::{starts, triples};
+use peer::reference::starts::{starts, Starts};
 use peer::reference::{check, drain};
 use peer::{ReadAnswer, Refusal, Refused};
 use std::collections::BTreeMap;
@@ -549,12 +549,12 @@ fn records_of_drains_and_runs() {
     assert_eq!(judge(&PRINTED, &[4, 1, 2], &answer.record()), Ok(()));
     for seed in 1..=CASES {
         let graph = run_graph(&mut Random::new(seed));
-        let run = Run::of(&graph);
+        let (run, starts) = (Run::of(&graph), Starts::of(&graph).triples());
         let main: Vec<u32> = run.lines.iter().flat_map(|line| line.numbers()).collect();
         let numbers = graph.numbers();
-        assert_eq!(judge_by_rules(&numbers, &triples(&run), &main), Ok(()), "seed {seed}");
+        assert_eq!(judge_by_rules(&numbers, &starts, &main), Ok(()), "seed {seed}");
         if numbers.len() <= 600 {
-            assert_eq!(judge(&numbers, &triples(&run), &main), Ok(()), "seed {seed}");
+            assert_eq!(judge(&numbers, &starts, &main), Ok(()), "seed {seed}");
         }
     }
 }
@@ -584,8 +584,8 @@ fn own_starts_of_the_printed_case() {
     let written = [6, 1, 0, 0, 0, 0, 1, 1, 0, 0, 0, 0, 2, 1, 1, 2, 2, 0];
     let (answer, marks, record, row) = starts_of_printed(EXACT);
     assert_eq!((answer, &record[..], &row[..]), (passed, &written[..], &[6, 1, 0, 1, 1, 0][..]));
-    // The runtime stage has no bailout: of the main stage module 1 and its statement 1 stay.
-    assert_eq!(marks, [2 + 64, 0, 0, 0, 0, 0, 0, 0, 0, 0, 0, 0, 0, 0, 0, 0, 0]);
+    // Module 1, its bailout and its statement 1: all facts of the main stage.
+    assert_eq!(marks, [2 + 8 + 64, 0, 0, 0, 0, 0, 0, 0, 0, 0, 0, 0, 0, 0, 0, 0, 0]);
     let (answer, longer_marks, longer_record, row) = starts_of_printed(LONGER);
     assert_eq!((answer, &row[..6], &row[6..]), (passed, &[6, 1, 0, 1, 1, 0][..], &[u32::MAX; 2][..]));
     assert_eq!((&longer_marks[..17], &longer_marks[17..]), (&marks[..], &[0; 2][..]));
@@ -625,7 +625,7 @@ fn own_starts_of_no_graph() {
 fn own_starts_are_few() {
     for seed in 1..=10 * CASES {
         let graph = run_graph(&mut Random::new(seed));
-        let starts = Run::of(&graph).starts;
+        let starts = Starts::of(&graph).facts;
         let statements: usize = graph.modules.iter().map(|module| module.statements.len()).sum();
         assert!(starts.len() <= 2 * graph.modules.len() + statements + 2 * graph.symbols.len(), "seed {seed}");
         let once: std::collections::HashSet<_> = starts.iter().collect();

@@ -2,7 +2,7 @@
 //! in the generated graphs, and cases made by hand.
 
 use peer::generate::runs::{import_graph, run_graph, small_run_graph};
-use peer::generate::{Random, PRINTED};
+use peer::generate::{self, Random, Size, PRINTED};
 use peer::happenings::{happenings, ALL};
 use peer::listing::{first_records, is_set};
 use peer::model::{Entry, Graph, Module, Record, Reference, Statement, Symbol};
@@ -16,6 +16,7 @@ use peer::reference::rows::{Answer, MarkLayout};
 use peer::reference::rules::{Fact, Rules};
 use peer::reference::run::{self, Run};
 use peer::reference::run_by_sets::{order, run_by_sets, Decided};
+use peer::reference::starts::Starts;
 use peer::{loads, reference, RunAnswer, RunRows};
 use std::collections::{BTreeMap, BTreeSet, HashSet};
 
@@ -127,6 +128,16 @@ fn check_rows(graph: &Graph, run: &Run, decided: &Decided) {
     assert_eq!(reason.map(|(module, &reason)| (module, reason)).collect::<BTreeMap<u32, u8>>(), decided.shown.reason);
 }
 
+/// The starts by kind are the same set; the marks beside them are of all facts of the main stage.
+fn check_starts(graph: &Graph, decided: &Decided) {
+    let starts = Starts::of(graph);
+    assert_eq!(starts.facts.iter().copied().collect::<HashSet<Fact>>(), decided.starts);
+    let layout = MarkLayout::new(graph);
+    let mut marks = vec![0; layout.bits().div_ceil(8)];
+    decided.facts.iter().for_each(|&fact| marks[layout.bit(fact) / 8] |= 1 << (layout.bit(fact) % 8));
+    assert_eq!(starts.marks, marks);
+}
+
 /// Lines, order and rows against sets and definitions.
 #[test]
 fn runs_decide_what_sets_decide() {
@@ -141,6 +152,171 @@ fn runs_decide_what_sets_decide() {
         assert_eq!(decided(&graph, &run), expected, "seed {seed}, {graph:?}");
         check_rows(&graph, &run, &expected);
         assert_eq!(run.lines, drain::lines(&Rules::new(&graph), &run.starts), "seed {seed}, {graph:?}");
+        check_starts(&graph, &expected);
+    }
+}
+
+/// What is started, as lists: by user-defined entry, by taken bailout, by live module.
+#[derive(Clone)]
+struct Lists {
+    users: Vec<Vec<Fact>>,
+    exports: Vec<Vec<Fact>>,
+    live: Vec<Vec<Fact>>,
+}
+
+/// What an entry's module starts, without a bailout.
+fn started_by(graph: &Graph, module: u32) -> Vec<Fact> {
+    let Module { normal, entry_references, .. } = &graph.modules[module as usize];
+    if !normal {
+        return Vec::new();
+    }
+    let mut started = Vec::new();
+    for &reference in entry_references {
+        let Symbol { owner, declaring, .. } = &graph.symbols[reference as usize];
+        if graph.modules[*owner as usize].normal {
+            started.extend(declaring.iter().map(|&statement| Fact::Statement(*owner, statement)));
+            started.push(Fact::CheckedUse(reference, 2));
+        }
+    }
+    started.push(Fact::Module(module));
+    started
+}
+
+/// The exports of the bailouts among these lines.
+fn exports_of(graph: &Graph, lines: &[Line]) -> Vec<Vec<Fact>> {
+    let bailouts = lines.iter().filter_map(|line| match line.fact {
+        Fact::Bailout(module) => Some(&graph.modules[module as usize]),
+        _ => None,
+    });
+    let exports = |module: &Module| {
+        let from_commonjs = module.resolved_exports.iter().filter(|row| row[2] == 1);
+        from_commonjs.map(|row| Fact::CheckedUse(row[1], 1)).collect()
+    };
+    bailouts.map(exports).collect()
+}
+
+impl Lists {
+    fn of(graph: &Graph, run: &Run) -> Lists {
+        let user = |&entry: &u32| {
+            let module = graph.entries[entry as usize].module;
+            let started = started_by(graph, module);
+            let bailout = (!started.is_empty()).then_some(Fact::Bailout(module));
+            bailout.into_iter().chain(started).collect()
+        };
+        let taken = *run.course.begins.last().expect("there is a round");
+        let live = (0..).zip(&run.course.live).filter(|(_, live)| **live);
+        Lists {
+            users: parted(graph).0.iter().map(user).collect(),
+            exports: exports_of(graph, &run.lines[..taken]),
+            live: live.map(|(module, _)| started_by(graph, module)).collect(),
+        }
+    }
+
+    fn by_kind(self) -> Vec<Fact> {
+        once([self.users, self.exports, self.live].concat().concat())
+    }
+
+    /// With a change to what each user-defined entry and each live module starts.
+    fn by_entry(mut self, change: impl Fn(&mut Vec<Fact>)) -> Vec<Fact> {
+        self.users.iter_mut().chain(&mut self.live).for_each(change);
+        self.by_kind()
+    }
+}
+
+/// Each fact where it stands first.
+fn once(mut facts: Vec<Fact>) -> Vec<Fact> {
+    let mut seen = HashSet::new();
+    facts.retain(|&fact| seen.insert(fact));
+    facts
+}
+
+fn reversed<T>(mut list: Vec<T>) -> Vec<T> {
+    list.reverse();
+    list
+}
+
+/// The graph with every list of a kind the other way round.
+fn turned(graph: &Graph, turn: impl Fn(&mut Graph)) -> Graph {
+    let mut graph = graph.clone();
+    turn(&mut graph);
+    graph
+}
+
+/// Orders in which the starts could stand and must not.
+fn wrong_orders(graph: &Graph, run: &Run) -> [(&'static str, Vec<Fact>); 17] {
+    let lists = Lists::of(graph, run);
+    let Lists { users, exports, live } = lists.clone();
+    let module_of = |&entry: &u32| graph.entries[entry as usize].module;
+    let ungrouped = (0..graph.entries.len() as u32).filter(|&entry| graph.entries[entry as usize].kind < 2);
+    let grouped: Vec<u32> = parted(graph).0.iter().map(module_of).collect();
+    let as_listed = ungrouped.map(|entry| grouped.iter().position(|&module| module == module_of(&entry)));
+    let as_listed = as_listed.map(|place| users[place.expect("it is user-defined")].clone()).collect();
+    let tried = run.course.order.iter().map(module_of).filter(|&module| run.course.live[module as usize]);
+    let references = turned(graph, |graph| graph.modules.iter_mut().for_each(|at| at.entry_references.reverse()));
+    let declaring = turned(graph, |graph| graph.symbols.iter_mut().for_each(|at| at.declaring.reverse()));
+    let resolved = turned(graph, |graph| graph.modules.iter_mut().for_each(|at| at.resolved_exports.reverse()));
+    let bailouts: BTreeSet<u32> = run.lines[..*run.course.begins.last().expect("there is a round")]
+        .iter()
+        .filter_map(|line| if let Fact::Bailout(module) = line.fact { Some(module) } else { None })
+        .collect();
+    let bailouts: Vec<Line> =
+        bailouts.into_iter().map(|module| Line { fact: Fact::Bailout(module), rule: 0, names: [0; 2] }).collect();
+    let all = [users.clone(), exports.clone(), live.clone()].concat().concat();
+    [
+        ("as started", run.starts.clone()),
+        ("exports in front of user-defined entries", once([&exports[..], &users, &live].concat().concat())),
+        ("live modules in front of user-defined entries", once([&live[..], &users, &exports].concat().concat())),
+        ("live modules in front of exports", once([&users[..], &live, &exports].concat().concat())),
+        ("user-defined entries as listed", Lists { users: as_listed, ..lists.clone() }.by_kind()),
+        ("user-defined entries from the last", Lists { users: reversed(users), ..lists.clone() }.by_kind()),
+        ("bailouts from the last line", Lists { exports: reversed(exports), ..lists.clone() }.by_kind()),
+        ("bailouts by module", Lists { exports: exports_of(graph, &bailouts), ..lists.clone() }.by_kind()),
+        ("bailouts of the last round too", {
+            Lists { exports: exports_of(graph, &run.lines), ..lists.clone() }.by_kind()
+        }),
+        ("exports of a bailout from the last", Lists::of(&resolved, run).by_kind()),
+        ("live modules from the last", Lists { live: reversed(live), ..lists.clone() }.by_kind()),
+        ("live modules as tried", {
+            Lists { live: tried.map(|module| started_by(graph, module)).collect(), ..lists.clone() }.by_kind()
+        }),
+        ("entry references from the last", Lists::of(&references, run).by_kind()),
+        ("declaring statements from the last", Lists::of(&declaring, run).by_kind()),
+        ("a checked use in front of its statements", {
+            lists.clone().by_entry(|list| list.sort_by_key(|fact| matches!(fact, Fact::Statement(..))))
+        }),
+        ("a module in front of its references", {
+            lists.by_entry(|list| list.sort_by_key(|fact| !matches!(fact, Fact::Module(_))))
+        }),
+        ("a fact where it stands last", reversed(once(reversed(all)))),
+    ]
+}
+
+/// The starts by kind are the facts that the steps start, and stand as OPERATIONS.md says. Each other order is told from
+/// this one by many generated graphs, so that a comparison with these graphs finds it.
+#[test]
+fn starts_by_kind() {
+    /// Of a thousand graphs, at least so many.
+    const LEAST: u64 = 5;
+    let mut counts: BTreeMap<&str, u64> = BTreeMap::new();
+    for seed in 1..=CASES {
+        let mut random = Random::new(seed);
+        let size = Size::usual(&mut random);
+        let graph = if seed % 2 == 0 { generate::graph(&mut random, size) } else { run_graph(&mut random) };
+        let (run, starts) = (Run::of(&graph), Starts::of(&graph));
+        assert_eq!(starts.facts, Lists::of(&graph, &run).by_kind(), "seed {seed}, {graph:?}");
+        assert_eq!(starts.facts.len(), run.starts.len(), "seed {seed}, {graph:?}");
+        let by_steps: HashSet<Fact> = run.starts.iter().copied().collect();
+        assert_eq!(starts.facts.iter().copied().collect::<HashSet<Fact>>(), by_steps, "seed {seed}, {graph:?}");
+        assert_eq!(starts.lines, run.lines, "seed {seed}, {graph:?}");
+        for (name, order) in wrong_orders(&graph, &run) {
+            *counts.entry(name).or_default() += u64::from(order != starts.facts);
+        }
+    }
+    for (name, count) in &counts {
+        println!("{:>6.1} of 1,000 graphs: {name}", *count as f64 / CASES as f64 * 1_000.0);
+    }
+    for (name, count) in &counts {
+        assert!(1_000 * count >= LEAST * CASES, "{name}: {count}");
     }
 }
 
@@ -215,9 +391,15 @@ fn symbol(graph: &mut Graph, owner: u32, statement: u32) -> u32 {
 
 fn run_of(graph: &Graph) -> Run {
     assert_eq!(check(&graph.numbers()), Ok(()), "{graph:?}");
-    let run = Run::of(graph);
-    assert_eq!(decided(graph, &run), run_by_sets(graph));
+    let (run, expected) = (Run::of(graph), run_by_sets(graph));
+    assert_eq!(decided(graph, &run), expected);
+    check_starts(graph, &expected);
     run
+}
+
+/// The starts as the operation gives them.
+fn given(graph: &Graph) -> Vec<Fact> {
+    Starts::of(graph).facts
 }
 
 /// Nodes and edges of the ordering graph, as modules.
@@ -563,6 +745,48 @@ fn a_bailout_of_the_last_round_is_dropped() {
     assert!(run.lines.iter().any(|line| line.fact == Fact::Bailout(2)));
     assert_eq!((run.rounds, run.modules.as_slice()), (1, &[0b11][..]));
     assert!(!run.starts.contains(&Fact::CheckedUse(export, 1)));
+    assert_eq!(given(&graph), run.starts);
+}
+
+/// Modules 3 and 1 are found live in round 1, in this order; what module 1 uses is given first.
+#[test]
+fn live_modules_are_given_by_index() {
+    let mut graph = modules(4);
+    user_defined(&mut graph, 0);
+    let shared = symbol(&mut graph, 2, 0);
+    for module in [3, 1] {
+        graph.modules[module as usize].entry_references = vec![shared];
+        let row = related(&mut graph, 0, module, 0);
+        dynamic(&mut graph, module, &[row]);
+    }
+    let users = [Fact::Bailout(0), Fact::Module(0)];
+    let shared = [Fact::Statement(2, 0), Fact::CheckedUse(shared, 2)];
+    assert_eq!(run_of(&graph).starts, [&users[..], &shared, &[Fact::Module(3), Fact::Module(1)]].concat());
+    assert_eq!(given(&graph), [&users[..], &shared, &[Fact::Module(1), Fact::Module(3)]].concat());
+    // A module that is user-defined too is given with the user-defined ones.
+    user_defined(&mut graph, 3);
+    let users = [&users[..], &[Fact::Bailout(3)], &shared, &[Fact::Module(3)]].concat();
+    assert_eq!(run_of(&graph).starts, [&users[..], &[Fact::Module(1)]].concat());
+    assert_eq!(given(&graph), [&users[..], &[Fact::Module(1)]].concat());
+}
+
+/// Module 1 is found live in round 1 and bails out module 2, whose exports round 2 uses: they are given before module 1.
+#[test]
+fn exports_are_given_before_live_modules() {
+    let mut graph = modules(3);
+    user_defined(&mut graph, 0);
+    let row = related(&mut graph, 0, 1, 0);
+    dynamic(&mut graph, 1, &[row]);
+    let record = import(&mut graph, 1, 2, REQUIRE, 0);
+    graph.modules[1].statements[1].records.push(record);
+    let exports = [symbol(&mut graph, 2, 0), symbol(&mut graph, 2, 1)];
+    graph.modules[2].exports = 1;
+    graph.modules[2].resolved_exports = vec![[7, exports[1], 1], [8, 0, 0], [9, exports[0], 1]];
+    let run = run_of(&graph);
+    let users = [Fact::Bailout(0), Fact::Module(0)];
+    let uses = [Fact::CheckedUse(exports[1], 1), Fact::CheckedUse(exports[0], 1)];
+    assert_eq!((run.rounds, run.starts), (3, [&users[..], &[Fact::Module(1)], &uses].concat()));
+    assert_eq!(given(&graph), [&users[..], &uses, &[Fact::Module(1)]].concat());
 }
 
 /// Helpers of a module: of its kept statements; all if the module is not kept, except for the runtime.

@@ -12,12 +12,16 @@ use peer::generate::{self, Random, Size, PRINTED};
 use peer::loads::{self, loads};
 use peer::reference::drain::{self, LINE};
 use peer::reference::rows::Answer;
-use peer::reference::run::{self, Run};
-use peer::reference::starts::{put, triples};
+use peer::reference::run::Run;
+use peer::reference::starts::{self, triples, Starts};
 use peer::{ReadAnswer, Refusal, Refused, Rows};
 use seeds::for_seeds;
+use std::collections::HashSet;
+use std::sync::atomic::{AtomicU64, Ordering};
 
 const CASES: u64 = 100_000;
+/// How many numbers a start has.
+const START: usize = 3;
 /// Elements on either side of a lent row that no one may touch.
 const GUARD: usize = 9;
 const TOO_SHORT: ReadAnswer = ReadAnswer::refused(Refused { number: 5, place: 0 });
@@ -35,10 +39,15 @@ struct Lengths {
 }
 
 impl Lengths {
-    /// Exactly enough.
-    fn of(run: &Run) -> Lengths {
-        let lines = run.lines.len() + run.runtime_lines.len();
-        Lengths { marks: run.marks.len(), record: LINE * lines, starts: 3 * run.starts.len() }
+    /// Exactly enough: a record for the lines of the main stage alone.
+    fn of(starts: &Starts) -> Lengths {
+        let Starts { facts, lines, marks } = starts;
+        Lengths { marks: marks.len(), record: LINE * lines.len(), starts: START * facts.len() }
+    }
+
+    /// The answer if no row is too short.
+    fn passed(self) -> ReadAnswer {
+        ReadAnswer { number: 0, place: 0, count: self.starts as u64 }
     }
 
     fn longer(self, random: &mut Random) -> Lengths {
@@ -46,17 +55,17 @@ impl Lengths {
         Lengths { marks: self.marks + more(), record: self.record + more(), starts: self.starts + more() }
     }
 
-    /// Each row one too short, if it has an element, and empty.
+    /// Each row one element too short, if it has one; a line or a start too short; and empty.
     fn shorter(self) -> Vec<Lengths> {
         let mut all = Vec::new();
         if self.marks > 0 {
             all.extend([self.marks - 1, 0].map(|marks| Lengths { marks, ..self }));
         }
         if self.record > 0 {
-            all.extend([self.record - 1, 0].map(|record| Lengths { record, ..self }));
+            all.extend([self.record - 1, self.record - LINE, 0].map(|record| Lengths { record, ..self }));
         }
         if self.starts > 0 {
-            all.extend([self.starts - 1, 0].map(|starts| Lengths { starts, ..self }));
+            all.extend([self.starts - 1, self.starts - START, 0].map(|starts| Lengths { starts, ..self }));
         }
         all
     }
@@ -104,21 +113,21 @@ impl Lent {
     }
 }
 
-/// A graph's numbers, and its run by the reference.
+/// A graph's numbers, and the starts of its run by the reference.
 struct Case {
     numbers: Vec<u32>,
-    expected: Result<Run, Refused>,
+    expected: Result<Starts, Refused>,
     from: &'static str,
     seed: u64,
 }
 
 impl Case {
     fn new(numbers: Vec<u32>, from: &'static str, seed: u64) -> Case {
-        let expected = run::answer(&numbers);
+        let expected = starts::answer(&numbers);
         Case { numbers, expected, from, seed }
     }
 
-    fn run(&self) -> &Run {
+    fn starts(&self) -> &Starts {
         self.expected.as_ref().expect("a good graph")
     }
 
@@ -130,13 +139,13 @@ impl Case {
         let answer = library::starts(&self.numbers, marks, record, starts);
         let (marks, record, starts) = reference.rows();
         let expected = match &self.expected {
-            Ok(run) => put(run, marks, record, starts),
+            Ok(expected) => expected.put(marks, record, starts),
             Err(refused) => ReadAnswer::refused(*refused),
         };
         assert_eq!(answer, expected, "{}", self.say(lengths));
         self.assert_equal(&library, &reference, lengths);
         if answer.number != 0 {
-            let worked = answer == TOO_SHORT && self.run().marks.len() <= lengths.marks;
+            let worked = answer == TOO_SHORT && self.starts().marks.len() <= lengths.marks;
             self.assert_equal(&library, &if worked { lent.cleared() } else { lent }, lengths);
         }
         answer
@@ -159,8 +168,8 @@ impl Case {
 
     /// Exactly enough room, more than that, and each row too short.
     fn compare_rooms(&self, random: &mut Random) {
-        let exact = Lengths::of(self.run());
-        let passed = ReadAnswer { number: 0, place: 0, count: exact.starts as u64 };
+        let exact = Lengths::of(self.starts());
+        let passed = exact.passed();
         assert_eq!(self.compare(random, exact), passed, "{}", self.say(exact));
         let longer = exact.longer(random);
         assert_eq!(self.compare(random, longer), passed, "{}", self.say(longer));
@@ -205,26 +214,48 @@ fn graphs_of_many_rules() {
     });
 }
 
-/// Short records down to none, with room for the main stage and without, and short starts down to none.
+/// Short records down to none, and short starts down to none.
 #[test]
 fn every_length_too_short() {
     for_seeds("short rows", cases() / 20, |seed| {
         let mut random = Random::new(seed);
         let case = Case::new(run_graph(&mut random).numbers(), "short", seed);
-        let exact = Lengths::of(case.run());
+        let exact = Lengths::of(case.starts());
         for record in (0..exact.record).step_by(exact.record / 32 + 1) {
             assert_eq!(case.compare(&mut random, Lengths { record, ..exact }), TOO_SHORT);
         }
         for starts in (0..exact.starts).step_by(exact.starts / 32 + 1) {
             assert_eq!(case.compare(&mut random, Lengths { starts, ..exact }), TOO_SHORT);
         }
-        for line in case.run().lines.len()..exact.record / LINE {
-            let record = LINE * line + random.index(LINE);
-            assert_eq!(case.compare(&mut random, Lengths { record, ..exact }), TOO_SHORT);
-        }
         case.compare(&mut random, Lengths { marks: 0, record: 0, starts: 0 });
         1
     });
+}
+
+/// Where the runtime stage has lines, a record for the main stage's is enough, and none of the others is written.
+#[test]
+fn no_room_for_the_runtime_stage() {
+    let with_runtime = AtomicU64::new(0);
+    for_seeds("own starts without room for the runtime stage", cases() / 20, |seed| {
+        let mut random = Random::new(seed);
+        let graph = run_graph(&mut random);
+        let (run, case) = (Run::of(&graph), Case::new(graph.numbers(), "runtime", seed));
+        let (exact, lines) = (Lengths::of(case.starts()), run.lines.len());
+        assert_eq!(exact.record, LINE * lines, "{}", case.say(exact));
+        for line in lines..=lines + run.runtime_lines.len() {
+            let record = LINE * line + random.index(LINE);
+            assert_eq!(case.compare(&mut random, Lengths { record, ..exact }), exact.passed());
+        }
+        if lines > 0 {
+            let one_fewer = Lengths { record: exact.record - LINE, ..exact };
+            assert_eq!(case.compare(&mut random, one_fewer), TOO_SHORT, "{}", case.say(one_fewer));
+        }
+        with_runtime.fetch_add(u64::from(!run.runtime_lines.is_empty() && lines > 0), Ordering::Relaxed);
+        1
+    });
+    let with_runtime = with_runtime.into_inner();
+    println!("{with_runtime} of them with lines of both stages");
+    assert!(cases() < CASES || with_runtime > cases() / 200, "{with_runtime}");
 }
 
 #[test]
@@ -240,7 +271,7 @@ fn damaged_numbers() {
                 1 => length + random.index(9),
                 _ => length,
             };
-            let Lengths { marks, record, starts } = Lengths::of(whole.run());
+            let Lengths { marks, record, starts } = Lengths::of(whole.starts());
             let lengths = Lengths { marks: length(marks), record: length(record), starts: length(starts) };
             let answer = case.compare(&mut random, lengths);
             if let Err(refused) = case.expected {
@@ -305,22 +336,32 @@ fn runs_are_judged() {
         let graph = if seed % 4 == 0 { small_run_graph(&mut random) } else { run_graph(&mut random) };
         let numbers = graph.numbers();
         judge_run(&numbers, &format!("seed {seed}"));
-        assert_eq!(own_starts(&numbers), Ok(triples(&Run::of(&graph))), "seed {seed}");
+        let starts = own_starts(&numbers).unwrap_or_else(|refused| panic!("{refused}, seed {seed}"));
+        assert_eq!(starts, Starts::of(&graph).triples(), "seed {seed}");
+        let by_steps = triples(&Run::of(&graph).starts);
+        assert_eq!(starts.len(), by_steps.len(), "each once, seed {seed}");
+        assert_eq!(set_of(&starts), set_of(&by_steps), "seed {seed}");
         let damaged = generate::damaged(&mut random, &graph.encode());
-        assert_eq!(own_starts(&damaged).err(), run::answer(&damaged).err(), "seed {seed}");
+        assert_eq!(own_starts(&damaged).err(), starts::answer(&damaged).err(), "seed {seed}");
         1
     });
 }
 
-/// The record that the library's drain writes.
-fn drained(numbers: &[u32], starts: &[u32], answer: &Answer) -> Vec<u32> {
+/// The facts of triples, without order.
+fn set_of(triples: &[u32]) -> HashSet<&[u32]> {
+    triples.chunks(START).collect()
+}
+
+/// The marks and the record that the library's drain writes.
+fn drained(numbers: &[u32], starts: &[u32], answer: &Answer) -> (Vec<u8>, Vec<u32>) {
     let Answer { lines, marks, modules, statements, used, external, json, reason } = answer;
     let mut record = vec![0; LINE * lines.len()];
     let mut rows = [marks, modules, statements, used, external, json, reason].map(|row| vec![0; row.len()]);
     let [marks, modules, statements, used, external, json, reason] = rows.each_mut().map(Vec::as_mut_slice);
-    let rows = &mut Rows { marks, record: &mut record, modules, statements, used, external, json, reason };
-    library::drain(numbers, starts, rows).result().expect("rows that are long enough");
-    record
+    let lent = &mut Rows { marks, record: &mut record, modules, statements, used, external, json, reason };
+    library::drain(numbers, starts, lent).result().expect("rows that are long enough");
+    let [marks, ..] = rows;
+    (marks, record)
 }
 
 #[test]
@@ -331,15 +372,16 @@ fn drains_are_judged() {
         let graph = generate::graph(&mut random, size);
         let (numbers, starts) = (graph.numbers(), generate::starts(&mut random, &graph));
         let answer = drain::answer(&numbers, &starts).expect("good starts of a good graph");
-        let record = drained(&numbers, &starts, &answer);
+        let (_, record) = drained(&numbers, &starts, &answer);
         assert_eq!(library::judge(&numbers, &starts, &record), Refusal::PASSED, "seed {seed}, {numbers:?}");
         1
     });
 }
 
-/// Marks and record beside the starts are as the library's run leaves them.
+/// The record beside the starts has the main lines of the library's run and zeros behind them; the marks are those that
+/// the library's drain of these starts leaves.
 #[test]
-fn marks_and_record_are_those_of_the_run() {
+fn marks_and_record_are_those_of_the_main_stage() {
     for_seeds("marks and record beside starts", cases() / 4, |seed| {
         let mut random = Random::new(seed);
         let numbers = run_graph(&mut random).numbers();
@@ -349,7 +391,13 @@ fn marks_and_record_are_those_of_the_run() {
         let mut starts = vec![0; numbers.len()];
         let answer = library::starts(&numbers, &mut marks, &mut record, &mut starts);
         assert_eq!(answer.number, 0, "seed {seed}");
-        assert_eq!((&marks[..], &record[..]), (run.marks(), run.record()), "seed {seed}");
+        let (lines, behind) = record.split_at(run.main_record().len());
+        assert_eq!(lines, run.main_record(), "seed {seed}");
+        assert!(behind.iter().all(|&number| number == 0), "seed {seed}");
+        let starts = &starts[..answer.count as usize];
+        let expected = drain::answer(&numbers, starts).expect("good starts of a good graph");
+        let (drained_marks, _) = drained(&numbers, starts, &expected);
+        assert_eq!(marks, drained_marks, "seed {seed}");
         1
     });
 }

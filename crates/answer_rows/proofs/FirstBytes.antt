@@ -12,7 +12,7 @@ use Rattle.bit_row.specs.Row.{bytesFor}
 use Rattle.bit_row.proofs.Size.{bytes-hold, bytes-at-most}
 use Rattle.rows.specs.Walk.{Item}
 use Rattle.graph_format.specs.declared.Header.{Header}
-use Rattle.tables.specs.Layout.{sizes, startOf, firstBytesIn, Laid, Kept}
+use Rattle.tables.specs.Layout.{sizes, startOf, firstBytesIn, Laid, Kept, atFirstBytes, allSections}
 use Rattle.tables.proofs.Sections.{ends-inside, section-length, kept-none, kept-set, laid-kept, laid-less}
 use Rattle.tables.proofs.Writing.{section-set}
 use Rattle.graph_tables.specs.Tables.{headerIn}
@@ -87,18 +87,18 @@ module _ {numbers tables : List ℕ} (t : Loaded numbers tables) (h : Header) (i
 
 -- the section's words so far
 pub record Filling (numbers before after : List ℕ) (m total : ℕ) : Type 0 where
-  pub kept : Kept (startOf (headerIn numbers) 9) before after
+  pub kept : Kept (startOf (headerIn numbers) atFirstBytes) before after
   pub few : m ≤ headerIn numbers .modules
   pub total-is : total ≡ bytesBefore (graphIn numbers .statements) m
   pub has : (k : ℕ) → k < m → getD (firstBytesIn after) k 0 ≡ bytesBefore (graphIn numbers .statements) k
 
-module _ (numbers before : List ℕ) (p : Loaded numbers before) (t : Laid (headerIn numbers) 10 before) where
+module _ (numbers before : List ℕ) (p : Loaded numbers before) (t : Laid (headerIn numbers) allSections before) where
   pub filling-none : Filling numbers before before 0 0
   unfolding bytesBefore
   filling-none = record { kept = kept-none; few = omega arith; total-is = refl; has = λ k l. absurd (omega arith) }
 
   module _ (after : List ℕ) (m total : ℕ) (f : Filling numbers before after m total) where
-    laid-after : Laid (headerIn numbers) 10 after
+    laid-after : Laid (headerIn numbers) allSections after
     laid-after = laid-kept t 9 (omega arith) (f .kept)
 
     long : length (firstBytesIn after) ≡ headerIn numbers .modules
@@ -114,8 +114,8 @@ module _ (numbers before : List ℕ) (p : Loaded numbers before) (t : Laid (head
       unfolding sizes
       word-there = omega (arith, t .starts 9 (omega arith), ends-inside laid-after 9 (omega arith), l)
 
-      written : Kept (startOf (headerIn numbers) 9) before (set after (getD before 9 0 + m) total)
-      written = kept-set (startOf (headerIn numbers) 9) (getD before 9 0 + m) total (omega (arith, t .starts 9 (omega arith))) (f .kept)
+      written : Kept (startOf (headerIn numbers) atFirstBytes) before (set after (getD before 9 0 + m) total)
+      written = kept-set (startOf (headerIn numbers) atFirstBytes) (getD before 9 0 + m) total (omega (arith, t .starts 9 (omega arith))) (f .kept)
 
       pub still-loaded : Loaded numbers (set after (getD before 9 0 + m) total)
       still-loaded = loaded-kept p 9 (omega arith) (laid-less (omega arith) t) written

@@ -7,3 +7,4 @@ pub mod InRow
 pub mod Turned
 pub mod Enough
 pub mod OtherKinds
+pub mod Fitting

@@ -1,4 +1,7 @@
--- The main definitions of `Shown`: `shows`, `shownRow`, `rowsEnough`.
+-- The main definitions of each file.
+-- `Shown`: `shows`, `shownRow`, `rowsEnough`.
+-- `Together`: `RowsShown`.
 pub mod Shown
+pub mod Together
 pub mod Tabled
 pub mod Kinds

@@ -3,7 +3,7 @@ use Prim.Native.Nat.{ℕ, _<_, _≤_}
 use mathlib.Core.Path.{_≡_}
 use mathlib.Core.List.{List}
 use lib.ListN.{length, getD}
-use Rattle.tables.specs.Layout.{Laid, firstBytesIn}
+use Rattle.tables.specs.Layout.{Laid, firstBytesIn, allSections}
 use Rattle.graph_tables.specs.Tables.{headerIn}
 use Rattle.graph.specs.Check.{Graph, graphIn}
 use Rattle.answer_rows.specs.Shown.{bytesBefore}
@@ -14,5 +14,5 @@ pub record FirstByteTable (g : Graph) (table : List ℕ) : Type 0 where
 
 -- as a part of the one slice
 pub record FirstBytes (numbers tables : List ℕ) : Type 0 where
-  pub laid : Laid (headerIn numbers) 10 tables
+  pub laid : Laid (headerIn numbers) allSections tables
   pub of-bytes : FirstByteTable (graphIn numbers) (firstBytesIn tables)

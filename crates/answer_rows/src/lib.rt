@@ -17,8 +17,9 @@ ghost use Rattle.keep_record.specs.Lines.{elem};
 ghost use Rattle.keep_record.specs.Held.{lineAt, linesOf, Held};
 ghost use Rattle.answer_rows.specs.Shown.{bytesBefore, usedBy, externalBy, jsonBy, reasonBy, shows, rowBytes, shown, shownRow, onlyIf, rowsEnough};
 ghost use Rattle.answer_rows.specs.Kinds.{oneKind, otherKind};
+ghost use Rattle.answer_rows.specs.Together.{sixRows, lengthsOf, RowsShown};
 ghost use Rattle.answer_rows.specs.Tabled.{FirstByteTable, FirstBytes};
-ghost use Rattle.tables.specs.Layout.{startOf, Laid, Kept, firstBytesIn};
+ghost use Rattle.tables.specs.Layout.{startOf, Laid, Kept, firstBytesIn, atFirstBytes, allSections};
 ghost use Rattle.graph_access.specs.Names.{owner as ownerIn};
 ghost use Rattle.graph_access.specs.Words.{symbolOf};
 ghost use Rattle.facts.specs.declared.Fact.the-variants.{Module, Statement, Use};
@@ -56,8 +57,8 @@ pub struct Lengths {
 // Fills the section of the modules' first bytes in the statement row.
 pub fn fill_first_bytes(numbers: &[u32], tables: &mut [usize])
     requires { ⌜ Loaded (now numbers) (now tables) ⌝ }
-    requires { ⌜ Laid (headerIn (now numbers)) 10 (now tables) ⌝ }
-    ensures { λ _. ⌜ FirstByteTable (graphIn (now (numbers .entry))) (firstBytesIn (now (tables .exit))) × Kept (startOf (headerIn (now (numbers .entry))) 9) (now (tables .entry)) (now (tables .exit)) ⌝ }
+    requires { ⌜ Laid (headerIn (now numbers)) allSections (now tables) ⌝ }
+    ensures { λ _. ⌜ FirstByteTable (graphIn (now (numbers .entry))) (firstBytesIn (now (tables .exit))) × Kept (startOf (headerIn (now (numbers .entry))) atFirstBytes) (now (tables .entry)) (now (tables .exit)) ⌝ }
 {
     let h = graph::header_of(numbers);
     let base = tables[FIRST_BYTE_OF];
@@ -383,14 +384,7 @@ pub fn are_long_enough(numbers: &[u32], tables: &[usize], lengths: Lengths) -> b
 }
 
 // Writes a row of the answer: the bits that the lines show; what is behind them stays as lent.
-pub fn show(
-    numbers: &[u32],
-    tables: &[usize],
-    row: Row,
-    lines: &[u32],
-    count: usize,
-    bits: &mut [u8],
-)
+fn show(numbers: &[u32], tables: &[usize], row: Row, lines: &[u32], count: usize, bits: &mut [u8])
     requires { ⌜ Prepared (now numbers) (now tables) × FirstBytes (now numbers) (now tables) ⌝ }
     requires { ⌜ rowBytes (graphIn (now numbers)) row ≤ length (now bits) ⌝ }
     requires { ⌜ (6 * count ≤ length (now lines)) × ((k : ℕ) → k < count → Good (graphIn (now numbers)) (lineAt (now lines) k .fact)) ⌝ }
@@ -398,4 +392,38 @@ pub fn show(
 {
     bit_row::clear(bits, row_bytes(numbers, tables, row));
     show_lines(numbers, tables, row, lines, count, bits);
+}
+
+// Writes the six answer rows of a record of `total` lines, of which the first `main` are those of the main part.
+pub fn show_all(
+    numbers: &[u32],
+    tables: &[usize],
+    lines: &[u32],
+    main: usize,
+    total: usize,
+    modules_row: &mut [u8],
+    statements_row: &mut [u8],
+    used: &mut [u8],
+    external: &mut [u8],
+    json: &mut [u8],
+    reason: &mut [u8],
+)
+    requires { ⌜ Prepared (now numbers) (now tables) × FirstBytes (now numbers) (now tables) ⌝ }
+    requires { ⌜ rowsEnough (graphIn (now numbers)) (lengthsOf (sixRows (now «modules_row») (now «statements_row») (now used) (now external) (now json) (now reason))) ≡ true ⌝ }
+    requires { ⌜ (main ≤ total) × (6 * total ≤ length (now lines)) × ((k : ℕ) → k < total → Good (graphIn (now numbers)) (lineAt (now lines) k .fact)) ⌝ }
+    ensures { λ _. ⌜ RowsShown (graphIn (now (numbers .entry))) (linesOf main (now (lines .entry))) (linesOf total (now (lines .entry))) (sixRows (now («modules_row» .entry)) (now («statements_row» .entry)) (now (used .entry)) (now (external .entry)) (now (json .entry)) (now (reason .entry))) (sixRows (now («modules_row» .exit)) (now («statements_row» .exit)) (now (used .exit)) (now (external .exit)) (now (json .exit)) (now (reason .exit))) ⌝ }
+{
+    show(numbers, tables, Row::Modules, lines, total, modules_row);
+    show(
+        numbers,
+        tables,
+        Row::Statements,
+        lines,
+        total,
+        statements_row,
+    );
+    show(numbers, tables, Row::Used, lines, total, used);
+    show(numbers, tables, Row::External, lines, total, external);
+    show(numbers, tables, Row::Json, lines, main, json);
+    show(numbers, tables, Row::NamespaceReason, lines, main, reason);
 }

@@ -7,10 +7,10 @@ use Rattle.graph.specs.Check.{graphIn}
 use Rattle.graph.specs.Loaded.{Loaded}
 use Rattle.determine_side_effects.specs.Effects.{lastVerdicts}
 use Rattle.run_rows.specs.Run.{runOf}
+use Rattle.run_parts.specs.declared.Totals.{Totals}
 use Rattle.run_parts.specs.declared.Ran.{Ran}
 use Rattle.run_parts.specs.declared.Ran.the-variants.{Done, Refused}
 use Rattle.run_parts.specs.Operation.{Rows, roomsOf, outcomeOf, answered, Ends}
-use Rattle.run_parts.proofs.Ending.{fits}
 use Rattle.listing.specs.Listing.{Shown, shown, Fits, listingOf, refusedText}
 use Rattle.answer_text.specs.Program.{programRooms, outcomeText}
 use Rattle.answer_text.proofs.Outcomes.{IsDone, text-refused, done-is}
@@ -21,21 +21,21 @@ abbrev pub shownBy : List ℕ → ℕ → ℕ → Rows → Shown
 shownBy numbers rounds count r =
     shown rounds count (lastVerdicts (graphIn numbers)) (r .entries) (r .modules) (r .statements) (r .used) (r .external) (r .json) (r .reason) (r .dead) (r .helpers)
 
-module _ {numbers tables : List ℕ} (t : Loaded numbers tables) {x : Ran} {a b c d : ℕ} (is : x ≡ Done a b c d) (after : Rows) (e : Ends (outcomeOf numbers (roomsOf lentRows)) x lentRows after) where
-  ended : IsDone numbers (roomsOf lentRows) a d
+module _ {numbers tables : List ℕ} (t : Loaded numbers tables) {x : Ran} {totals : Totals} (is : x ≡ Done totals) (after : Rows) (e : Ends (outcomeOf numbers (roomsOf lentRows)) x lentRows after) where
+  ended : IsDone numbers (roomsOf lentRows) totals
   ended = done-is numbers (t .accepted) (roomsOf lentRows) (sym is ∙ e .answer)
 
   pub ran-fits : length (after .modules) ≡ length (lentRows .modules) → length (after .statements) ≡ length (lentRows .statements) → length (after .used) ≡ length (lentRows .used)
       → length (after .external) ≡ length (lentRows .external) → length (after .json) ≡ length (lentRows .json) → length (after .reason) ≡ length (lentRows .reason)
-      → length (after .dead) ≡ length (lentRows .dead) → length (after .helpers) ≡ length (lentRows .helpers) → Fits (graphIn numbers) (shownBy numbers a d after)
+      → length (after .dead) ≡ length (lentRows .dead) → length (after .helpers) ≡ length (lentRows .helpers) → Fits (graphIn numbers) (shownBy numbers (totals .rounds) (totals .entries) after)
   ran-fits i j k l m n o p =
-      rows-fit t lentRows (fits (graphIn numbers) lentRows (ended .has-room) .1) a d (after .entries) (after .modules) (after .statements) (after .used) (after .external) (after .json)
+      rows-fit t lentRows (ended .has-room) (totals .rounds) (totals .entries) (after .entries) (after .modules) (after .statements) (after .used) (after .external) (after .json)
       (after .reason) (after .dead) (after .helpers) (ended .made) (ended .final)
       (entries-done (graphIn numbers) (runOf (graphIn numbers)) (outcomeOf numbers (roomsOf lentRows)) (lentRows .entries) (after .entries) (ended .is) (e .entries-are)) i j k l m n o p
 
-  pub ran-text : listingOf (graphIn numbers) (shownBy numbers a d after) ≡ outcomeText (outcomeOf numbers programRooms)
+  pub ran-text : listingOf (graphIn numbers) (shownBy numbers (totals .rounds) (totals .entries) after) ≡ outcomeText (outcomeOf numbers programRooms)
   ran-text =
-      shown-is (graphIn numbers) (runOf (graphIn numbers)) (outcomeOf numbers (roomsOf lentRows)) (ended .is) a d (after .entries) (after .modules) (after .statements) (after .used)
+      shown-is (graphIn numbers) (runOf (graphIn numbers)) (outcomeOf numbers (roomsOf lentRows)) (ended .is) (totals .rounds) (totals .entries) (after .entries) (after .modules) (after .statements) (after .used)
       (after .external) (after .json) (after .reason) (after .dead) (after .helpers) (ended .made) (ended .final) (e .entries-are) (e .modules-are) (e .statements-are) (e .used-are)
       (e .external-are) (e .json-are) (e .reasons-are) (e .dead-are) (e .helpers-are)
       ∙ rooms-text numbers

@@ -1,7 +1,8 @@
 -- The rows of an answer are long enough for its listing, and show what the program shows.
-use Prim.Native.Nat.{ℕ, _+_, _*_, _<_, _≤_}
-use mathlib.Core.Path.{_≡_, refl, ap, _∙_, sym}
-use mathlib.Core.List.{List, _++_}
+use Prim.Native.Nat.{ℕ, _<_, _≤_}
+use mathlib.Core.Path.{_≡_, ap, _∙_, sym}
+use mathlib.Core.Bool.{true}
+use mathlib.Core.List.{List}
 use native.Mathlib.Omega.{arith}
 use lib.ListN.{length, getD, drop, replicate, length-append, List·getD-append}
 use Rattle.bit_row.proofs.Size.{bytes-hold}
@@ -11,15 +12,16 @@ use Rattle.determine_side_effects.specs.Effects.{lastVerdicts}
 use Rattle.determine_side_effects.proofs.Loading.{last-length}
 use Rattle.answer_rows.specs.declared.Row.the-variants.{Modules, Statements, Used, External, Json, NamespaceReason}
 use Rattle.answer_rows.specs.Shown.{rowBytes}
+use Rattle.answer_rows.proofs.Fitting.{fits as six-fit}
 use Rattle.tree_shaking.specs.Rounds.{finalEntries}
 use Rattle.run_rows.specs.Run.{Run, runOf, recordCount, entriesRow}
-use Rattle.run_parts.specs.Operation.{Rows, Outcome, done, rowAfter, deadAfter, helpersAfter, entriesAfter}
-use Rattle.run_parts.specs.Steps.{RowsFit}
-use Rattle.listing.specs.Listing.{Shown, shown, Fits, listingOf}
+use Rattle.run_parts.specs.Operation.{Rows, roomsOf, enough, Outcome, done, rowAfter, deadAfter, helpersAfter, entriesAfter}
+use Rattle.run_parts.proofs.Ending.{fits}
+use Rattle.listing.specs.Listing.{shown, Fits, listingOf}
 use Rattle.answer_text.specs.Program.{shownOf, outcomeText}
 use Rattle.answer_text.proofs.Finals.{final-below, final-few, run-rounds}
 
-module _ {numbers tables : List ℕ} (t : Loaded numbers tables) (lent : Rows) (f : RowsFit (graphIn numbers) lent) where
+module _ {numbers tables : List ℕ} (t : Loaded numbers tables) (lent : Rows) (has-room : enough (graphIn numbers) (roomsOf lent) ≡ true) where
   abbrev g : Graph
   g = graphIn numbers
 
@@ -43,20 +45,22 @@ module _ {numbers tables : List ℕ} (t : Loaded numbers tables) (lent : Rows) (
   unfolding rowBytes recordCount entriesRow
   rows-fit rounds count entries modules statements used external json reason dead helpers i j k a b c d e h l m =
       let final = finalEntries g (runOf g .live) in
+      let w = fits g lent has-room in
+      let s = six-fit g _ (w .1) in
       record {
         few-rounds = omega (arith, i, run-rounds g, few);
         count-few = omega (arith, j, final-few t (runOf g .live));
         entries-long = omega (arith, j, ap length k, length-append final (drop (length final) (lent .entries)));
         entries-below = λ x y. entry-is x entries k (omega (arith, j, y));
         verdicts-long = omega (arith, last-length g);
-        modules-long = omega (arith, a, f .modules-fit, bytes-hold (g .header .modules));
-        statements-long = omega (arith, b, f .statements-fit);
-        used-long = omega (arith, c, f .used-fit, bytes-hold (g .header .symbols));
-        external-long = omega (arith, d, f .external-fit, bytes-hold (g .header .symbols));
-        json-long = omega (arith, e, f .json-fit, bytes-hold (g .header .symbols));
-        reason-long = omega (arith, h, f .reason-fit);
-        dead-long = omega (arith, l, f .dead-fit, bytes-hold (recordCount g));
-        helpers-long = omega (arith, m, f .helpers-fit);
+        modules-long = omega (arith, a, s .modules-fit, bytes-hold (g .header .modules));
+        statements-long = omega (arith, b, s .statements-fit);
+        used-long = omega (arith, c, s .used-fit, bytes-hold (g .header .symbols));
+        external-long = omega (arith, d, s .external-fit, bytes-hold (g .header .symbols));
+        json-long = omega (arith, e, s .json-fit, bytes-hold (g .header .symbols));
+        reason-long = omega (arith, h, s .reason-fit);
+        dead-long = omega (arith, l, w .2 .dead-fit, bytes-hold (recordCount g));
+        helpers-long = omega (arith, m, w .2 .helpers-fit);
       }
 
 -- the rows by the outcome

@@ -93,11 +93,11 @@ fn ran(numbers: &[u32], tables: &[usize], skip: usize, out: &mut [u8]) -> usize
         &mut entries,
     ) {
         Ran::Refused(n, _) => listing::refuse(n, skip, out),
-        Ran::Done(rounds, _, _, count) => listed(
+        Ran::Done(t) => listed(
             numbers,
             tables,
-            rounds,
-            count,
+            t.rounds,
+            t.entries,
             &entries,
             &modules_row,
             &statements_row,

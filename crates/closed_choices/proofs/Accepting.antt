@@ -12,7 +12,7 @@ use Rattle.rows.proofs.Cells.{then-got}
 use Rattle.rows.proofs.Items.{many-first, many-length, rows-end, plain-plain}
 use Rattle.graph_format.specs.declared.Header.{Header}
 use Rattle.graph_format.specs.Format.{headerRules, modulesAt, symbolsAt, statementsAt, entriesAt, moduleStatements, statementsOf}
-use Rattle.tables.specs.Layout.{sizes, startFrom, startOf, firstStatements, statementPlaces, Laid}
+use Rattle.tables.specs.Layout.{sizes, startFrom, startOf, firstStatements, statementPlaces, Laid, atModules, atSymbols, atFirstStatements, atStatements, atEntries, atVerdicts}
 use Rattle.tables.proofs.Sections.{start-five, section-has}
 use Rattle.graph_tables.specs.Tables.{itemsOf, endOf, headerIn, modulesRead, modulesIn, symbolsRead, statementsRead, firstOf}
 use Rattle.graph_tables.specs.Places.{Filled, StatementsPlaced, StatementsFilled, ModuleTable}
@@ -96,26 +96,26 @@ filled-by x {xs} e s = rw e (λ i h. s .has i (omega (arith, places-long xs, h))
 
 -- five lists as the sections of tables
 record Sections (h : Header) (a b c d e tables : List ℕ) : Type 0 where
-  laid : Laid h 5 tables
-  first : Holds (startOf h 0) a tables
-  second : Holds (startOf h 1) b tables
-  third : Holds (startOf h 2) c tables
-  fourth : Holds (startOf h 3) d tables
-  fifth : Holds (startOf h 4) e tables
+  laid : Laid h atVerdicts tables
+  first : Holds (startOf h atModules) a tables
+  second : Holds (startOf h atSymbols) b tables
+  third : Holds (startOf h atFirstStatements) c tables
+  fourth : Holds (startOf h atStatements) d tables
+  fifth : Holds (startOf h atEntries) e tables
 
 -- they are, one behind another, behind the words of the layout
 abbrev joined : Header → List ℕ → List ℕ → List ℕ → List ℕ → List ℕ → List ℕ
 joined h a b c d e = tabulate (startOf h) 0 11 ++ (a ++ (b ++ (c ++ (d ++ e))))
 
 module _ (h : Header) (a b c d e : List ℕ) (la : length a ≡ h .modules) (lb : length b ≡ h .symbols) (lc : length c ≡ h .modules) (ld : length d ≡ h .statements) (le : length e ≡ h .entries)
-    (few : startOf h 5 < 4294967296) where
+    (few : startOf h atVerdicts < 4294967296) where
   abbrev all : List ℕ
   all = joined h a b c d e
 
   layout-long : length (tabulate (startOf h) 0 11) ≡ 11
   layout-long = length-tabulate (startOf h) 0 11
 
-  all-long : length all ≡ startOf h 5
+  all-long : length all ≡ startOf h atVerdicts
   all-long =
       omega (
         arith,
@@ -143,18 +143,18 @@ module _ (h : Header) (a b c d e : List ℕ) (la : length a ≡ h .modules) (lb 
   joined-sections : Sections h a b c d e all
   unfolding startOf startFrom sizes
   joined-sections =
-      let p : drop (startOf h 0) all ≡ a ++ (b ++ (c ++ (d ++ e))) = drop-at (tabulate (startOf h) 0 11) (a ++ (b ++ (c ++ (d ++ e)))) 11 layout-long in
-      let q : drop (startOf h 1) all ≡ b ++ (c ++ (d ++ e)) = part-next (startOf h 0) a (b ++ (c ++ (d ++ e))) all p (h .modules) la in
-      let r : drop (startOf h 2) all ≡ c ++ (d ++ e) = part-next (startOf h 1) b (c ++ (d ++ e)) all q (h .symbols) lb in
-      let s : drop (startOf h 3) all ≡ d ++ e = part-next (startOf h 2) c (d ++ e) all r (h .modules) lc in
-      let t : drop (startOf h 4) all ≡ e = part-next (startOf h 3) d e all s (h .statements) ld in
+      let p : drop (startOf h atModules) all ≡ a ++ (b ++ (c ++ (d ++ e))) = drop-at (tabulate (startOf h) 0 11) (a ++ (b ++ (c ++ (d ++ e)))) 11 layout-long in
+      let q : drop (startOf h atSymbols) all ≡ b ++ (c ++ (d ++ e)) = part-next (startOf h atModules) a (b ++ (c ++ (d ++ e))) all p (h .modules) la in
+      let r : drop (startOf h atFirstStatements) all ≡ c ++ (d ++ e) = part-next (startOf h atSymbols) b (c ++ (d ++ e)) all q (h .symbols) lb in
+      let s : drop (startOf h atStatements) all ≡ d ++ e = part-next (startOf h atFirstStatements) c (d ++ e) all r (h .modules) lc in
+      let t : drop (startOf h atEntries) all ≡ e = part-next (startOf h atStatements) d e all s (h .statements) ld in
       record {
         laid = record { known = omega arith; few = omega (arith, all-long, few); starts = starts; fits = omega (arith, all-long) };
-        first = part-held (startOf h 0) a (b ++ (c ++ (d ++ e))) all p;
-        second = part-held (startOf h 1) b (c ++ (d ++ e)) all q;
-        third = part-held (startOf h 2) c (d ++ e) all r;
-        fourth = part-held (startOf h 3) d e all s;
-        fifth = part-held (startOf h 4) e [] all (t ∙ sym (append-nil e));
+        first = part-held (startOf h atModules) a (b ++ (c ++ (d ++ e))) all p;
+        second = part-held (startOf h atSymbols) b (c ++ (d ++ e)) all q;
+        third = part-held (startOf h atFirstStatements) c (d ++ e) all r;
+        fourth = part-held (startOf h atStatements) d e all s;
+        fifth = part-held (startOf h atEntries) e [] all (t ∙ sym (append-nil e));
       }
 
 -- each module's statements are as many as its count says
@@ -293,7 +293,7 @@ module _ (numbers : List ℕ) (ok : answerOf (checkOf numbers) ≡ Accepted) whe
               let v : firstOf ms m + length (getD ss m []) ≤ h .statements = omega (arith, s, lists m u, fit (m + 1)) in
               placed-section (sections .laid) 3 (omega arith) (firstOf ms m) (getD ss m []) v
               (λ i n.
-              let e : startOf h 3 + firstOf ms m + i ≡ startOf h 3 + (firstOf ms m + i) = omega arith in
+              let e : startOf h atStatements + firstOf ms m + i ≡ startOf h atStatements + (firstOf ms m + i) = omega arith in
               ap (λ j. getD tables j 0) e
               ∙ sections .fourth .has (firstOf ms m + i) (omega (arith, n, v, long-statements))
               ∙ flat-at ms ss zeros (omega (arith, many-modules, many-lists)) lists m i u n);

@@ -6,7 +6,7 @@ use mathlib.Core.List.{List}
 use native.Mathlib.Omega.{arith}
 use lib.ListN.{length, getD, set}
 use Rattle.graph_format.specs.declared.Header.{Header}
-use Rattle.tables.specs.Layout.{sizes, startOf, section, Laid, Kept, verdictsIn}
+use Rattle.tables.specs.Layout.{sizes, startOf, section, Laid, Kept, verdictsIn, atVerdicts, atOnDemand}
 use Rattle.tables.proofs.Sections.{ends-inside, section-length, section-has, section-kept, kept-set, laid-kept, laid-more, laid-less}
 use Rattle.tables.proofs.Writing.{section-set}
 use Rattle.graph_tables.specs.Tables.{headerIn}
@@ -33,17 +33,17 @@ module _ {h : Header} {n : ℕ} {xs ys : List ℕ} (t : Laid h n xs) (k : ℕ) (
   word-read = ap (λ at. getD ys (at + i) 0) base ∙ sym (section-has (laid-kept t k (omega (arith, l)) q) k l i b)
 
 -- a verdict for each module
-pub verdicts-long : {h : Header} {tables : List ℕ} → Laid h 6 tables → length (verdictsIn tables) ≡ h .modules
+pub verdicts-long : {h : Header} {tables : List ℕ} → Laid h atOnDemand tables → length (verdictsIn tables) ≡ h .modules
 unfolding sizes
 verdicts-long t = section-length t 5 (omega arith)
 
 -- where verdicts were written
-pub verdicts-kept : {numbers xs ys : List ℕ} → HasVerdicts numbers xs → Kept (startOf (headerIn numbers) 5) xs ys → HasVerdicts numbers ys
+pub verdicts-kept : {numbers xs ys : List ℕ} → HasVerdicts numbers xs → Kept (startOf (headerIn numbers) atVerdicts) xs ys → HasVerdicts numbers ys
 verdicts-kept o q = record { loaded = loaded-kept (o .loaded) 5 (omega arith) (o .loaded .laid) q; laid = laid-kept (o .laid) 5 (omega arith) q }
 
 -- the graph is loaded into tables with room for the verdicts
-pub verdicts-fit : {numbers after : List ℕ} {h : Header} {n : ℕ} → HeaderRead numbers h → startOf h 6 ≤ n → length after ≡ n → Loaded numbers after → HasVerdicts numbers after
-verdicts-fit r f e o = record { loaded = o; laid = laid-more (o .laid) 6 (omega arith) (omega (arith, f, e, ap (λ q. startOf q 6) (r .is))) }
+pub verdicts-fit : {numbers after : List ℕ} {h : Header} {n : ℕ} → HeaderRead numbers h → startOf h atOnDemand ≤ n → length after ≡ n → Loaded numbers after → HasVerdicts numbers after
+verdicts-fit r f e o = record { loaded = o; laid = laid-more (o .laid) 6 (omega arith) (omega (arith, f, e, ap (λ q. startOf q atOnDemand) (r .is))) }
 
 -- where only sections behind the verdicts were written
 pub settled-kept : {numbers xs ys : List ℕ} → Settled numbers xs → (j : ℕ) → 6 ≤ j → Laid (headerIn numbers) j xs → Kept (startOf (headerIn numbers) j) xs ys → Settled numbers ys

@@ -4,7 +4,7 @@ ghost use Prim.Native.Nat.{ℕ, _+_, _-_, _<_, _≤_};
 ghost use mathlib.Core.List.{List, [], _∷_, _++_};
 ghost use mathlib.Core.Bool.{Bool, true, false};
 ghost use lib.ListN.{length, getD, drop};
-ghost use Rattle.tables.specs.Layout.{startOf, Laid, Kept, verdictsIn, FitsSize};
+ghost use Rattle.tables.specs.Layout.{startOf, Laid, Kept, verdictsIn, FitsSize, atVerdicts, atOnDemand};
 ghost use Rattle.tables.specs.declared.Size.the-variants.{Small, Middle, Large};
 ghost use Rattle.graph_tables.specs.Tables.{headerIn};
 ghost use Rattle.graph.specs.Check.{graphIn, checkOf, answerOf, OnceAccepted, HeaderRead};
@@ -139,7 +139,7 @@ fn moves(numbers: &[u32], tables: &[usize], m: ModuleIdx) -> bool
 // Every module once, the last first. Whether one moved.
 fn pass(numbers: &[u32], tables: &mut [usize]) -> bool
     requires { ⌜ HasVerdicts (now numbers) (now tables) ⌝ }
-    ensures { λ r. ⌜ (verdictsIn (now (tables .exit)) ≡ passOf (graphIn (now (numbers .entry))) ((headerIn (now (numbers .entry))) .modules) (verdictsIn (now (tables .entry)))) × (r ≡ false → verdictsIn (now (tables .exit)) ≡ verdictsIn (now (tables .entry))) × Kept (startOf (headerIn (now (numbers .entry))) 5) (now (tables .entry)) (now (tables .exit)) ⌝ }
+    ensures { λ r. ⌜ (verdictsIn (now (tables .exit)) ≡ passOf (graphIn (now (numbers .entry))) ((headerIn (now (numbers .entry))) .modules) (verdictsIn (now (tables .entry)))) × (r ≡ false → verdictsIn (now (tables .exit)) ≡ verdictsIn (now (tables .entry))) × Kept (startOf (headerIn (now (numbers .entry))) atVerdicts) (now (tables .entry)) (now (tables .exit)) ⌝ }
 {
     let h = graph::header_of(numbers);
     let base = tables[VERDICTS];
@@ -158,7 +158,7 @@ fn pass(numbers: &[u32], tables: &mut [usize]) -> bool
 // Passes until nothing moves.
 fn settle(numbers: &[u32], tables: &mut [usize])
     requires { ⌜ HasVerdicts (now numbers) (now tables) ⌝ }
-    ensures { λ _. ⌜ (verdictsIn (now (tables .exit)) ≡ settleOf (graphIn (now (numbers .entry))) (verdictsIn (now (tables .entry)))) × Kept (startOf (headerIn (now (numbers .entry))) 5) (now (tables .entry)) (now (tables .exit)) ⌝ }
+    ensures { λ _. ⌜ (verdictsIn (now (tables .exit)) ≡ settleOf (graphIn (now (numbers .entry))) (verdictsIn (now (tables .entry)))) × Kept (startOf (headerIn (now (numbers .entry))) atVerdicts) (now (tables .entry)) (now (tables .exit)) ⌝ }
 {
     let h = graph::header_of(numbers);
     let mut left = h.modules;
@@ -244,7 +244,7 @@ fn first_verdict(numbers: &[u32], tables: &[usize], again: bool, m: ModuleIdx) -
 // The verdicts before the settling: as they were given, or recomputed.
 fn first_verdicts(numbers: &[u32], tables: &mut [usize])
     requires { ⌜ HasVerdicts (now numbers) (now tables) ⌝ }
-    ensures { λ _. ⌜ (verdictsIn (now (tables .exit)) ≡ firstVerdicts (graphIn (now (numbers .entry)))) × Kept (startOf (headerIn (now (numbers .entry))) 5) (now (tables .entry)) (now (tables .exit)) ⌝ }
+    ensures { λ _. ⌜ (verdictsIn (now (tables .exit)) ≡ firstVerdicts (graphIn (now (numbers .entry)))) × Kept (startOf (headerIn (now (numbers .entry))) atVerdicts) (now (tables .entry)) (now (tables .exit)) ⌝ }
 {
     let h = graph::header_of(numbers);
     let again = relaxed(numbers, tables);
@@ -259,7 +259,7 @@ fn first_verdicts(numbers: &[u32], tables: &mut [usize])
 // The last verdicts, in their section.
 pub fn last_verdicts(numbers: &[u32], tables: &mut [usize])
     requires { ⌜ HasVerdicts (now numbers) (now tables) ⌝ }
-    ensures { λ _. ⌜ (verdictsIn (now (tables .exit)) ≡ lastVerdicts (graphIn (now (numbers .entry)))) × Kept (startOf (headerIn (now (numbers .entry))) 5) (now (tables .entry)) (now (tables .exit)) ⌝ }
+    ensures { λ _. ⌜ (verdictsIn (now (tables .exit)) ≡ lastVerdicts (graphIn (now (numbers .entry)))) × Kept (startOf (headerIn (now (numbers .entry))) atVerdicts) (now (tables .entry)) (now (tables .exit)) ⌝ }
 {
     first_verdicts(numbers, tables);
     settle(numbers, tables);
@@ -283,7 +283,7 @@ fn write_row(numbers: &[u32], tables: &[usize], row: &mut [u32])
 // The operation with tables that hold a graph of the header's counts.
 fn effects_in(numbers: &[u32], h: Header, tables: &mut [usize], row: &mut [u32]) -> Checked
     requires { ⌜ HeaderRead (now numbers) h ⌝ }
-    requires { ⌜ (startOf h 6 ≤ length (now tables)) × (length (now tables) < 4294967296) ⌝ }
+    requires { ⌜ (startOf h atOnDemand ≤ length (now tables)) × (length (now tables) < 4294967296) ⌝ }
     ensures { λ r. ⌜ (r ≡ effectsAnswer (now (numbers .entry)) (length (now (row .entry)))) × (now (row .exit) ≡ effectsRow (now (numbers .entry)) (now (row .entry))) ⌝ }
 {
     match graph::load(numbers, h, tables) {

@@ -1,25 +1,24 @@
-// The drain's parts: getting ready, working and showing what was kept, and both in their order.
-// Getting ready is handed the lengths of the lent rows, not the rows. No answer row is written before the last refusal is excluded.
+// The drain's parts: whether it may begin, its work, and both in their order.
+// Whether it may begin is told from the lengths of the lent rows, without the rows. No answer row is written before the last refusal is excluded.
 ghost use mathlib.Core.Path.{_≡_};
 ghost use Prim.Native.Nat.{ℕ, _+_, _*_, _-_, _/_, _%_, _<_, _≤_};
 ghost use mathlib.Core.Bool.{Bool, true, false};
 ghost use mathlib.Core.List.{List, [], _∷_};
 ghost use lib.ListN.{length, getD, replicate};
 ghost use Rattle.bit_row.specs.Row.{bytesFor};
-ghost use Rattle.tables.specs.Layout.{startOf};
+ghost use Rattle.tables.specs.Layout.{startOf, allSections};
 ghost use Rattle.graph_tables.specs.Tables.{headerIn};
 ghost use Rattle.graph.specs.Check.{graphIn, HeaderRead};
 ghost use Rattle.determine_side_effects.specs.Effects.{lastVerdicts};
-ghost use Rattle.facts.specs.Facts.{Good, markCount};
+ghost use Rattle.facts.specs.Facts.{markCount};
 ghost use Rattle.keep_rules.specs.Prepared.{Prepared};
-ghost use Rattle.keep_record.specs.Held.{lineAt, linesOf};
 ghost use Rattle.starts.specs.Starts.{startsOf, StartsGood};
+ghost use Rattle.worklist.specs.Links.{partnersSize};
 ghost use Rattle.worklist.specs.Drain.{drainOf};
 ghost use Rattle.answer_rows.specs.Tabled.{FirstBytes};
 ghost use Rattle.drain_parts.specs.Operation.{rows as rowsOf, roomsOf, enough, worked, Ends, Drains};
-ghost use Rattle.drain_parts.specs.Parts.{Readied, Worked, RowsFit, RowsShown};
+ghost use Rattle.drain_parts.specs.Parts.{MayBegin, Worked};
 use answer_rows::Lengths;
-use answer_rows::Row;
 use graph::Checked;
 use graph_format::Header;
 use keep_record::Added;
@@ -31,38 +30,31 @@ pub enum Drained {
     Refused(u32, usize),
 }
 
-// Whether a drain may begin: its tables are filled and all lengths but the record's are enough; or it is refused.
-pub enum Readiness {
-    Good,
-    Refused(u32, usize),
-}
-
-// Gets ready: loads and checks the graph, checks the starts, fills the tables, and compares the lengths of marks and answer rows.
-pub fn ready(
+// Whether a drain may begin: the graph is accepted and its tables are filled, the starts are good, and all lengths but the record's are enough.
+fn may_begin(
     numbers: &[u32],
     starts: &[u32],
     h: Header,
     marks: usize,
     lengths: Lengths,
     tables: &mut [usize],
-) -> Readiness
+) -> Checked
     requires { ⌜ HeaderRead (now numbers) h ⌝ }
-    requires { ⌜ (startOf h 10 ≤ length (now tables)) × (length (now tables) < 4294967296) ⌝ }
-    ensures { λ r. ⌜ Readied (now (numbers .entry)) (now (starts .entry)) marks lengths (now (tables .exit)) r ⌝ }
+    requires { ⌜ (startOf h allSections ≤ length (now tables)) × (length (now tables) < 4294967296) ⌝ }
+    ensures { λ r. ⌜ MayBegin (now (numbers .entry)) (now (starts .entry)) marks lengths (now (tables .exit)) r ⌝ }
 {
-    match graph::load(numbers, h, tables) {
-        Checked::Refused(n, p) => Readiness::Refused(n, p),
+    match rule_tables::ready(numbers, h, tables) {
+        Checked::Refused(n, p) => Checked::Refused(n, p),
         Checked::Accepted => match starts::check(numbers, tables, starts) {
-            Walk::Fault(n, p) => Readiness::Refused(n, p),
+            Walk::Fault(n, p) => Checked::Refused(n, p),
             Walk::At(_) => {
-                rule_tables::fill(numbers, tables);
                 if marks < bit_row::bytes_for(facts::mark_count(numbers, tables)) {
-                    return Readiness::Refused(5, 0);
+                    return Checked::Refused(5, 0);
                 }
                 if !answer_rows::are_long_enough(numbers, tables, lengths) {
-                    return Readiness::Refused(5, 0);
+                    return Checked::Refused(5, 0);
                 }
-                Readiness::Good
+                Checked::Accepted
             }
         },
     }
@@ -78,7 +70,7 @@ fn work(
     lines: &mut [u32],
 ) -> Added
     requires { ⌜ Prepared (now numbers) (now tables) ⌝ }
-    requires { ⌜ (bytesFor (markCount (graphIn (now numbers))) ≤ length (now marks)) × (3 * headerIn (now numbers) .modules + headerIn (now numbers) .symbols ≤ length (now partners)) × ((i : ℕ) → getD (now partners) i 0 ≡ 0) ⌝ }
+    requires { ⌜ (bytesFor (markCount (graphIn (now numbers))) ≤ length (now marks)) × (partnersSize (headerIn (now numbers)) ≤ length (now partners)) × ((i : ℕ) → getD (now partners) i 0 ≡ 0) ⌝ }
     requires { ⌜ StartsGood (graphIn (now numbers)) (startsOf (now starts)) ⌝ }
     ensures { λ r. ⌜ Worked (graphIn (now (numbers .entry))) (drainOf (graphIn (now (numbers .entry))) (lastVerdicts (graphIn (now (numbers .entry)))) (startsOf (now (starts .entry)))) (now (marks .entry)) (now (lines .entry)) (now (marks .exit)) (now (lines .exit)) r ⌝ }
 {
@@ -92,41 +84,8 @@ fn work(
     }
 }
 
-// Writes the six answer rows.
-fn show_all(
-    numbers: &[u32],
-    tables: &[usize],
-    lines: &[u32],
-    count: usize,
-    modules_row: &mut [u8],
-    statements_row: &mut [u8],
-    used: &mut [u8],
-    external: &mut [u8],
-    json: &mut [u8],
-    reason: &mut [u8],
-)
-    requires { ⌜ Prepared (now numbers) (now tables) × FirstBytes (now numbers) (now tables) ⌝ }
-    requires { ⌜ RowsFit (graphIn (now numbers)) (length (now «modules_row»)) (length (now «statements_row»)) (length (now used)) (length (now external)) (length (now json)) (length (now reason)) ⌝ }
-    requires { ⌜ (6 * count ≤ length (now lines)) × ((k : ℕ) → k < count → Good (graphIn (now numbers)) (lineAt (now lines) k .fact)) ⌝ }
-    ensures { λ _. ⌜ RowsShown (graphIn (now (numbers .entry))) (linesOf count (now (lines .entry))) (rowsOf [] [] (now («modules_row» .entry)) (now («statements_row» .entry)) (now (used .entry)) (now (external .entry)) (now (json .entry)) (now (reason .entry))) (rowsOf [] [] (now («modules_row» .exit)) (now («statements_row» .exit)) (now (used .exit)) (now (external .exit)) (now (json .exit)) (now (reason .exit))) ⌝ }
-{
-    answer_rows::show(numbers, tables, Row::Modules, lines, count, modules_row);
-    answer_rows::show(
-        numbers,
-        tables,
-        Row::Statements,
-        lines,
-        count,
-        statements_row,
-    );
-    answer_rows::show(numbers, tables, Row::Used, lines, count, used);
-    answer_rows::show(numbers, tables, Row::External, lines, count, external);
-    answer_rows::show(numbers, tables, Row::Json, lines, count, json);
-    answer_rows::show(numbers, tables, Row::NamespaceReason, lines, count, reason);
-}
-
 // The drain of good starts into rows that are long enough, but perhaps the record.
-pub fn work_and_show(
+fn work_and_show(
     numbers: &[u32],
     tables: &[usize],
     starts: &[u32],
@@ -141,17 +100,18 @@ pub fn work_and_show(
     reason: &mut [u8],
 ) -> Drained
     requires { ⌜ Prepared (now numbers) (now tables) × FirstBytes (now numbers) (now tables) × StartsGood (graphIn (now numbers)) (startsOf (now starts)) ⌝ }
-    requires { ⌜ (3 * headerIn (now numbers) .modules + headerIn (now numbers) .symbols ≤ length (now partners)) × ((i : ℕ) → getD (now partners) i 0 ≡ 0) ⌝ }
+    requires { ⌜ (partnersSize (headerIn (now numbers)) ≤ length (now partners)) × ((i : ℕ) → getD (now partners) i 0 ≡ 0) ⌝ }
     requires { ⌜ enough (graphIn (now numbers)) (roomsOf (rowsOf (now marks) (now lines) (now «modules_row») (now «statements_row») (now used) (now external) (now json) (now reason))) ≡ true ⌝ }
     ensures { λ r. ⌜ Ends (worked (graphIn (now (numbers .entry))) (drainOf (graphIn (now (numbers .entry))) (lastVerdicts (graphIn (now (numbers .entry)))) (startsOf (now (starts .entry)))) (length (now (lines .entry)))) r (rowsOf (now (marks .entry)) (now (lines .entry)) (now («modules_row» .entry)) (now («statements_row» .entry)) (now (used .entry)) (now (external .entry)) (now (json .entry)) (now (reason .entry))) (rowsOf (now (marks .exit)) (now (lines .exit)) (now («modules_row» .exit)) (now («statements_row» .exit)) (now (used .exit)) (now (external .exit)) (now (json .exit)) (now (reason .exit))) ⌝ }
 {
     match work(numbers, tables, starts, partners, marks, lines) {
         Added::Full => Drained::Refused(5, 0),
         Added::Lines(n) => {
-            show_all(
+            answer_rows::show_all(
                 numbers,
                 tables,
                 lines,
+                n,
                 n,
                 modules_row,
                 statements_row,
@@ -203,14 +163,14 @@ pub fn drain_in(
     reason: &mut [u8],
 ) -> Drained
     requires { ⌜ HeaderRead (now numbers) h ⌝ }
-    requires { ⌜ (startOf h 10 ≤ length (now tables)) × (length (now tables) < 4294967296) ⌝ }
-    requires { ⌜ (3 * h .modules + h .symbols ≤ length (now partners)) × ((i : ℕ) → getD (now partners) i 0 ≡ 0) ⌝ }
+    requires { ⌜ (startOf h allSections ≤ length (now tables)) × (length (now tables) < 4294967296) ⌝ }
+    requires { ⌜ (partnersSize h ≤ length (now partners)) × ((i : ℕ) → getD (now partners) i 0 ≡ 0) ⌝ }
     ensures { λ r. ⌜ Drains (now (numbers .entry)) (now (starts .entry)) r (rowsOf (now (marks .entry)) (now (lines .entry)) (now («modules_row» .entry)) (now («statements_row» .entry)) (now (used .entry)) (now (external .entry)) (now (json .entry)) (now (reason .entry))) (rowsOf (now (marks .exit)) (now (lines .exit)) (now («modules_row» .exit)) (now («statements_row» .exit)) (now (used .exit)) (now (external .exit)) (now (json .exit)) (now (reason .exit))) ⌝ }
 {
     let lengths = lengths_of(modules_row, statements_row, used, external, json, reason);
-    match ready(numbers, starts, h, marks.len(), lengths, tables) {
-        Readiness::Refused(n, p) => Drained::Refused(n, p),
-        Readiness::Good => work_and_show(
+    match may_begin(numbers, starts, h, marks.len(), lengths, tables) {
+        Checked::Refused(n, p) => Drained::Refused(n, p),
+        Checked::Accepted => work_and_show(
             numbers,
             tables,
             starts,

@@ -5,13 +5,12 @@ use mathlib.Core.List.{List, [], _∷_, _++_}
 use native.Mathlib.Omega.{arith}
 use lib.ListN.{length, getD, take, drop, length-append, length-drop}
 use lib.Seq.{drop-at, take-add, length-take-le, getD-drop}
-use mir.Val.{Fits}
-use mir.Syntax.{w64}
 use Rattle.graph_format.specs.declared.Header.{Header}
 use Rattle.graph_tables.specs.Tables.{headerIn}
 use Rattle.graph.specs.Check.{Graph, graphIn}
 use Rattle.entry_order.specs.Order.{userEntries, dynamicEntries}
 use Rattle.entry_order.specs.Chains.{Entries}
+use Rattle.entry_order.specs.Plan.{planSize}
 use Rattle.dynamic_entries.specs.Parts.{Parted, Cycled}
 
 module _ (g : Graph) (plan : List ℕ) (users : ℕ) (p : Parted g plan users) where
@@ -58,9 +57,9 @@ module _ (numbers plan : List ℕ) (users : ℕ) (p : Parted (graphIn numbers) p
   unfolding graphIn
   part-read = rw is (part-entries (graphIn numbers) plan users p)
 
-pub at-fits : (numbers plan : List ℕ) → Cycled (graphIn numbers) plan → (h : Header) → h ≡ headerIn numbers → Fits w64 (2 * h .entries + h .modules)
+pub plan-fits : (numbers plan : List ℕ) → Cycled (graphIn numbers) plan → (h : Header) → h ≡ headerIn numbers → planSize h < 18446744073709551616
 unfolding graphIn
-at-fits numbers plan c h is = let l = c .long in let f = c .few in rw is (record { fits = omega (arith, l, f) })
+plan-fits numbers plan c h is = let l = c .long in let f = c .few in rw is (omega (arith, l, f))
 
 pub part-below : (numbers plan : List ℕ) (users : ℕ) → Parted (graphIn numbers) plan users → (h : Header) → h ≡ headerIn numbers
     → (h .entries - users ≤ length (drop users plan)) × ((i : ℕ) → i < h .entries - users → getD (drop users plan) i 0 < headerIn numbers .entries)

@@ -10,8 +10,6 @@ use borrow.Author.Tests.{eqb-true, eqb-false, eq-eqb, ne-eqb, ltb-true, ltb-fals
 use lib.Dec.{eqb, ltb}
 use lib.ListN.{length, getD, take}
 use lib.Seq.{ext-getD, length-take-le, getD-take}
-use mir.Val.{Fits}
-use mir.Syntax.{w64}
 use Rattle.graph_format.specs.declared.Header.{Header}
 use Rattle.graph_tables.specs.Tables.{headerIn}
 use Rattle.graph.specs.Check.{Graph, graphIn}
@@ -172,9 +170,9 @@ module _ (g : Graph) (cap : ℕ) (nodes : List ℕ) (n : ℕ) (outs succs edges 
 
 module _ (numbers : List ℕ) (h : Header) (is : h ≡ headerIn numbers) (plan₀ : List ℕ) (users cap : ℕ) (nodes : List ℕ) (n : ℕ) (outs succs edges : List ℕ)
     (p : Parted (graphIn numbers) plan₀ users × Cleared (graphIn numbers) plan₀ × Holds (graphIn numbers) cap nodes n outs succs edges) where
-  pub search-fits : Fits w64 (2 * h .entries) × Fits w64 (2 * h .entries + h .modules)
+  pub search-fits : planSize h < 18446744073709551616
   unfolding graphIn
-  search-fits = let l = p .1 .long in let f = p .1 .few in rw is (record { fits = omega (arith, l, f) }, record { fits = omega (arith, l, f) })
+  search-fits = let l = p .1 .long in let f = p .1 .few in rw is (omega (arith, l, f))
 
   pub search-ready : (order : List ℕ) → headerIn numbers .modules ≤ length order → Stored (h .modules) cap nodes n outs succs edges
       × ((h .modules ≤ length order) × (2 * h .entries + h .modules + h .modules ≤ length plan₀) × (length plan₀ < 4294967296) × ((m : ℕ) → m < h .modules → getD plan₀ (2 * h .entries + h .modules + m) 0 ≡ 0))

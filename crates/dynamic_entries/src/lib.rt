@@ -52,7 +52,7 @@ fn take_first(
 {
     let h = graph::header_of(numbers);
     let count = h.entries;
-    let at = 2 * count + h.modules;
+    let at = entry_order::cycled_at(h);
     let mut n: usize = 0;
     let mut i = users;
     while i < count {
@@ -86,7 +86,7 @@ fn take_by_completion(
 {
     let h = graph::header_of(numbers);
     let count = h.entries;
-    let at = 2 * count + h.modules;
+    let at = entry_order::cycled_at(h);
     let mut total = n;
     let mut k = found;
     while k > 0 {
@@ -166,7 +166,7 @@ fn sort_by_graph(
     ensures { λ _. ⌜ Planned (graphIn (now (numbers .entry))) (now (plan .exit)) users × Unlived (graphIn (now (numbers .entry))) (now (plan .exit)) ⌝ }
 {
     let h = graph::header_of(numbers);
-    let at = 2 * h.entries + h.modules;
+    let at = entry_order::cycled_at(h);
     let found = cycles::find_cycles(
         h.modules,
         cap,

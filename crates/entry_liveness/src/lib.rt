@@ -84,13 +84,16 @@ pub fn next_live(
     ensures { λ r. ⌜ PassedOver (graphIn (now (numbers .entry))) (now (marks .entry)) (now (plan .entry)) (now (plan .exit)) from r ⌝ }
 {
     let h = graph::header_of(numbers);
+    let live = entry_order::live_at(h);
+    let cycled = entry_order::cycled_at(h);
+    let dead = entry_order::dead_at(h);
     let mut i = from;
     'entries: while i < h.entries {
         let e = plan[i];
         let m = entries::entry_module(numbers, tables, EntryIdx(e));
         let u = m.0;
-        if plan[h.entries + u] != 1 {
-            if plan[2 * h.entries + h.modules + u] == 1 {
+        if plan[live + u] != 1 {
+            if plan[cycled + u] == 1 {
                 break 'entries;
             }
             let unused = facts::flag(
@@ -105,7 +108,7 @@ pub fn next_live(
                 }
                 k += 1;
             }
-            plan[h.entries + h.modules + e] = 1;
+            plan[dead + e] = 1;
         }
         i += 1;
     }

@@ -10,8 +10,9 @@ ghost use Rattle.graph_access.specs.Words.{tabulate};
 ghost use Rattle.entry_order.specs.Order.{those, grouped, moduleOfEntry, userEntries, dynamicEntries};
 ghost use Rattle.entry_order.specs.Kinds.{ofKind};
 ghost use Rattle.entry_order.specs.Chains.{Chained, Entries, ofModule};
-ghost use Rattle.entry_order.specs.Plan.{Untouched};
+ghost use Rattle.entry_order.specs.Plan.{Untouched, liveAt, deadAt, cycledAt, wordsAt, planSize};
 use graph_access::entries;
+use graph_format::Header;
 use index::EntryIdx;
 use index::ModuleIdx;
 
@@ -161,4 +162,36 @@ pub fn split_entries(
     let users = copy_kind(numbers, tables, list, count, false, plan, 0);
     copy_kind(numbers, tables, list, count, true, plan, users);
     users
+}
+
+// Where in the plan the live modules begin.
+pub fn live_at(h: Header) -> usize
+    requires { ⌜ planSize h < 18446744073709551616 ⌝ }
+    ensures { λ r. ⌜ r ≡ liveAt h ⌝ }
+{
+    h.entries
+}
+
+// Where in the plan the dead entries begin.
+pub fn dead_at(h: Header) -> usize
+    requires { ⌜ planSize h < 18446744073709551616 ⌝ }
+    ensures { λ r. ⌜ r ≡ deadAt h ⌝ }
+{
+    h.entries + h.modules
+}
+
+// Where in the plan the modules on a cycle begin.
+pub fn cycled_at(h: Header) -> usize
+    requires { ⌜ planSize h < 18446744073709551616 ⌝ }
+    ensures { λ r. ⌜ r ≡ cycledAt h ⌝ }
+{
+    2 * h.entries + h.modules
+}
+
+// Where in the plan the words of helpers begin.
+pub fn words_at(h: Header) -> usize
+    requires { ⌜ planSize h < 18446744073709551616 ⌝ }
+    ensures { λ r. ⌜ r ≡ wordsAt h ⌝ }
+{
+    2 * h.entries + 2 * h.modules
 }

@@ -3,25 +3,18 @@ use Prim.Native.Nat.{ℕ, _+_, _*_, _<_, _≤_}
 use mathlib.Core.Path.{_≡_}
 use mathlib.Core.Bool.{Bool, true, false, _&&_}
 use mathlib.Core.List.{List}
-use native.Mathlib.Decide.{decLt}
 use native.Mathlib.Nat.{mul-le-mul, mul-le-mul-right}
 use native.Mathlib.Omega.{arith}
 use borrow.Author.Tests.{leb-true}
 use lib.Dec.{leb}
-use lib.ListN.{length, getD, replicate, length-replicate, getD-replicate, List·getD-eq-default}
+use lib.ListN.{length, getD, replicate, length-replicate}
 use Rattle.bit_row.proofs.Cleared.{zeros-unset}
 use Rattle.graph_format.specs.declared.Header.{Header}
+use Rattle.tables.proofs.Zeros.{zeros-everywhere}
 use Rattle.graph_tables.specs.Tables.{headerIn}
 use Rattle.determine_side_effects.proofs.Lists.{both}
 use Rattle.entry_graph.specs.Memory.{Stored}
 use Rattle.entry_graph.proofs.Entries.{stored-none}
-
-zeros-everywhere : (n i : ℕ) → getD (replicate {A = ℕ} n 0) i 0 ≡ 0
-zeros-everywhere n i = go (decLt i n)
-  where
-    go : Dec (i < n) → getD (replicate {A = ℕ} n 0) i 0 ≡ 0
-    go (yes h) = getD-replicate n i 0 0 h
-    go (no h) = let l : length (replicate {A = ℕ} n 0) ≤ i = rw length-replicate (omega arith) in List·getD-eq-default (replicate n 0) 0 l
 
 -- what the ordering asks of its rows, with M modules and E entries, both at most `limit`
 module _ (M E cap limit : ℕ) (h : M ≤ limit) (k : E ≤ limit) (few : limit ≤ 1024) (cap-few : cap ≤ 1024) where

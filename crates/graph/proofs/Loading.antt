@@ -12,7 +12,7 @@ use Rattle.rows.proofs.Walks.{clash, cells-cons, at-got, fault-is, walk-then, w
 use Rattle.rows.proofs.Items.{rows-end, plain-plain, many-length}
 use Rattle.graph_format.specs.declared.Header.{Header}
 use Rattle.graph_format.specs.Format.{modulesAt, symbolsAt, statementsAt, entriesAt}
-use Rattle.tables.specs.Layout.{sizes, startOf, modulePlaces, symbolPlaces, firstStatements, statementPlaces, entryPlaces, Laid}
+use Rattle.tables.specs.Layout.{sizes, startOf, modulePlaces, symbolPlaces, firstStatements, statementPlaces, entryPlaces, Laid, atModules, atSymbols, atEntries, atVerdicts}
 use Rattle.tables.proofs.Sections.{section-length}
 use Rattle.graph_tables.specs.Tables.{itemsOf, endOf, headerIn, modulesRead, modulesIn, symbolsRead, symbolsIn, statementsRead, statementsIn, entriesRead, entriesIn}
 use Rattle.graph_tables.specs.Places.{Filled, StatementsFilled, ModuleTable, SymbolTable, StatementTable, EntryTable}
@@ -51,8 +51,8 @@ module _ (numbers : List ℕ) (h : Header) (is : h ≡ headerIn numbers) where
   entries-part at e = rw (e, is)
 
   -- each section, once its part is read
-  module _ (tables : List ℕ) (t : Laid h 5 tables) where
-    pub module-table : (at q : ℕ) → at ≡ 7 + h .helpers → walkOf (modulesAt h numbers at) ≡ At q → Filled (modulesAt h numbers at) (startOf h 0) tables → ModuleTable numbers (modulePlaces tables)
+  module _ (tables : List ℕ) (t : Laid h atVerdicts tables) where
+    pub module-table : (at q : ℕ) → at ≡ 7 + h .helpers → walkOf (modulesAt h numbers at) ≡ At q → Filled (modulesAt h numbers at) (startOf h atModules) tables → ModuleTable numbers (modulePlaces tables)
     unfolding modulesIn modulesRead modulesAt sizes
     module-table at q s e f =
         let r = read-as (modulesRead numbers) (rw (modules-part at s) at e) in
@@ -66,7 +66,7 @@ module _ (numbers : List ℕ) (h : Header) (is : h ≡ headerIn numbers) where
         }
 
     pub symbol-table : (at q : ℕ) → at ≡ endOf (modulesRead numbers) → walkOf (symbolsAt h (modulesIn numbers) numbers at) ≡ At q
-        → Filled (symbolsAt h (modulesIn numbers) numbers at) (startOf h 1) tables → SymbolTable numbers (symbolPlaces tables)
+        → Filled (symbolsAt h (modulesIn numbers) numbers at) (startOf h atSymbols) tables → SymbolTable numbers (symbolPlaces tables)
     unfolding symbolsIn symbolsRead symbolsAt sizes
     symbol-table at q s e f =
         let r = read-as (symbolsRead numbers) (rw (symbols-part at s) at e) in
@@ -94,7 +94,7 @@ module _ (numbers : List ℕ) (h : Header) (is : h ≡ headerIn numbers) where
         }
 
     pub entry-table : (at q : ℕ) → at ≡ endOf (statementsRead numbers) → walkOf (entriesAt h (modulesIn numbers) numbers at) ≡ At q
-        → Filled (entriesAt h (modulesIn numbers) numbers at) (startOf h 4) tables → EntryTable numbers (entryPlaces tables)
+        → Filled (entriesAt h (modulesIn numbers) numbers at) (startOf h atEntries) tables → EntryTable numbers (entryPlaces tables)
     unfolding entriesIn entriesRead entriesAt sizes
     entry-table at q s e f =
         let r = read-as (entriesRead numbers) (rw (entries-part at s) at e) in
@@ -178,7 +178,7 @@ pub once-places : {r : Walk} {numbers tables : List ℕ} → ModuleTable numbers
 once-places m o = record { known = λ q e. let t = o .known q e in record { of-modules = m; of-symbols = t .0; of-statements = t .1; of-entries = t .2 } }
 
 -- an accepted graph with its tables
-pub loaded : (numbers tables : List ℕ) (h : Header) → answerOf (checkOf numbers) ≡ Accepted → HeaderRead numbers h → Laid h 5 tables → Places numbers tables → Loaded numbers tables
+pub loaded : (numbers tables : List ℕ) (h : Header) → answerOf (checkOf numbers) ≡ Accepted → HeaderRead numbers h → Laid h atVerdicts tables → Places numbers tables → Loaded numbers tables
 loaded numbers tables h a r t p =
     let b = bounded numbers h r in
     let e = r .is in

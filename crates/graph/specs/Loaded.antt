@@ -3,7 +3,7 @@ use Prim.Native.Nat.{ℕ, _≤_}
 use mathlib.Core.Path.{_≡_}
 use mathlib.Core.List.{List}
 use lib.ListN.{length}
-use Rattle.tables.specs.Layout.{Laid, modulePlaces, symbolPlaces, firstStatements, statementPlaces, entryPlaces}
+use Rattle.tables.specs.Layout.{Laid, modulePlaces, symbolPlaces, firstStatements, statementPlaces, entryPlaces, atVerdicts}
 use Rattle.graph_tables.specs.Tables.{headerIn}
 use Rattle.graph_tables.specs.Places.{ModuleTable, SymbolTable, StatementTable, EntryTable}
 use Rattle.graph.specs.declared.Checked.the-variants.{Accepted}
@@ -19,7 +19,7 @@ pub record Places (numbers tables : List ℕ) : Type 0 where
 pub record Loaded (numbers tables : List ℕ) : Type 0 where
   pub accepted : answerOf (checkOf numbers) ≡ Accepted
   pub long : 7 ≤ length numbers
-  pub laid : Laid (headerIn numbers) 5 tables
+  pub laid : Laid (headerIn numbers) atVerdicts tables
   pub of-modules : ModuleTable numbers (modulePlaces tables)
   pub of-symbols : SymbolTable numbers (symbolPlaces tables)
   pub of-statements : StatementTable numbers (firstStatements tables) (statementPlaces tables)

@@ -10,7 +10,7 @@ ghost use Rattle.graph_tables.specs.Tables.{endOf, headerIn, modulesRead, modul
 ghost use Rattle.graph_tables.specs.Places.{ModuleTable, SymbolTable, StatementTable, EntryTable};
 ghost use Rattle.graph.specs.Check.{graphAt, tailWalk, bodyWalk, graphIn, each, runtimeNormal, ownsNamespace, rootIsRoot, laterRules, checkOf, answerOf, OnceRead, OnceAccepted, HeaderRead};
 ghost use Rattle.graph.specs.Loaded.{Places, Loaded};
-ghost use Rattle.tables.specs.Layout.{startOf, Laid, Kept, modulePlaces, symbolPlaces, firstStatements, statementPlaces, entryPlaces, FitsSize};
+ghost use Rattle.tables.specs.Layout.{startOf, Laid, Kept, modulePlaces, symbolPlaces, firstStatements, statementPlaces, entryPlaces, FitsSize, atModules, atSymbols, atFirstStatements, atVerdicts};
 ghost use Rattle.tables.specs.declared.Size.the-variants.{Small, Middle, Large};
 use graph_format::Header;
 use rows::Walk;
@@ -162,9 +162,9 @@ fn later(numbers: &[u32], h: Header, modules: &[usize], symbols: &[usize]) -> Wa
 
 // Reads the statements and the entries from `at` on, and fills their sections.
 fn tail(numbers: &[u32], h: Header, at: usize, tables: &mut [usize]) -> Walk
-    requires { ⌜ Laid h 5 (now tables) × ModuleTable (now numbers) (modulePlaces (now tables)) ⌝ }
+    requires { ⌜ Laid h atVerdicts (now tables) × ModuleTable (now numbers) (modulePlaces (now tables)) ⌝ }
     requires { ⌜ (h ≡ headerIn (now numbers)) × (at ≡ endOf (symbolsRead (now numbers))) ⌝ }
-    ensures { λ r. ⌜ (r ≡ tailWalk (now (numbers .entry)) at) × OnceRead r (StatementTable (now (numbers .entry)) (firstStatements (now (tables .exit))) (statementPlaces (now (tables .exit))) × EntryTable (now (numbers .entry)) (entryPlaces (now (tables .exit)))) × Kept (startOf h 2) (now (tables .entry)) (now (tables .exit)) ⌝ }
+    ensures { λ r. ⌜ (r ≡ tailWalk (now (numbers .entry)) at) × OnceRead r (StatementTable (now (numbers .entry)) (firstStatements (now (tables .exit))) (statementPlaces (now (tables .exit))) × EntryTable (now (numbers .entry)) (entryPlaces (now (tables .exit)))) × Kept (startOf h atFirstStatements) (now (tables .entry)) (now (tables .exit)) ⌝ }
 {
     match graph_tables::statements(numbers, at, h, tables) {
         Walk::Fault(n, p) => Walk::Fault(n, p),
@@ -174,9 +174,9 @@ fn tail(numbers: &[u32], h: Header, at: usize, tables: &mut [usize]) -> Walk
 
 // Reads the symbols, the statements and the entries from `at` on, and fills their sections.
 fn body(numbers: &[u32], h: Header, at: usize, tables: &mut [usize]) -> Walk
-    requires { ⌜ Laid h 5 (now tables) × ModuleTable (now numbers) (modulePlaces (now tables)) ⌝ }
+    requires { ⌜ Laid h atVerdicts (now tables) × ModuleTable (now numbers) (modulePlaces (now tables)) ⌝ }
     requires { ⌜ (h ≡ headerIn (now numbers)) × (at ≡ endOf (modulesRead (now numbers))) × (h .symbols < 4294967296) ⌝ }
-    ensures { λ r. ⌜ (r ≡ bodyWalk (now (numbers .entry)) at) × OnceRead r (SymbolTable (now (numbers .entry)) (symbolPlaces (now (tables .exit))) × StatementTable (now (numbers .entry)) (firstStatements (now (tables .exit))) (statementPlaces (now (tables .exit))) × EntryTable (now (numbers .entry)) (entryPlaces (now (tables .exit)))) × Kept (startOf h 1) (now (tables .entry)) (now (tables .exit)) ⌝ }
+    ensures { λ r. ⌜ (r ≡ bodyWalk (now (numbers .entry)) at) × OnceRead r (SymbolTable (now (numbers .entry)) (symbolPlaces (now (tables .exit))) × StatementTable (now (numbers .entry)) (firstStatements (now (tables .exit))) (statementPlaces (now (tables .exit))) × EntryTable (now (numbers .entry)) (entryPlaces (now (tables .exit)))) × Kept (startOf h atSymbols) (now (tables .entry)) (now (tables .exit)) ⌝ }
 {
     match graph_tables::symbols(numbers, at, h, tables) {
         Walk::Fault(n, p) => Walk::Fault(n, p),
@@ -187,8 +187,8 @@ fn body(numbers: &[u32], h: Header, at: usize, tables: &mut [usize]) -> Walk
 // Reads all parts of the graph behind the header, and fills the five sections of places.
 fn parts(numbers: &[u32], h: Header, tables: &mut [usize]) -> Walk
     requires { ⌜ (h ≡ headerIn (now numbers)) × (h .modules < 4294967296) × (h .symbols < 4294967296) × (h .statements < 4294967296) ⌝ }
-    requires { ⌜ Laid h 5 (now tables) ⌝ }
-    ensures { λ r. ⌜ (r ≡ walkOf (graphAt h (now (numbers .entry)) 7)) × OnceRead r (Places (now (numbers .entry)) (now (tables .exit))) × Kept (startOf h 0) (now (tables .entry)) (now (tables .exit)) ⌝ }
+    requires { ⌜ Laid h atVerdicts (now tables) ⌝ }
+    ensures { λ r. ⌜ (r ≡ walkOf (graphAt h (now (numbers .entry)) 7)) × OnceRead r (Places (now (numbers .entry)) (now (tables .exit))) × Kept (startOf h atModules) (now (tables .entry)) (now (tables .exit)) ⌝ }
 {
     match rows::plain_rows(numbers, 7, h.helpers, 1, h.symbols, 0, 0) {
         Walk::Fault(n, p) => Walk::Fault(n, p),
@@ -202,7 +202,7 @@ fn parts(numbers: &[u32], h: Header, tables: &mut [usize]) -> Walk
 // Lays the tables out, checks the numbers behind their header, and fills the five sections of places.
 pub fn load(numbers: &[u32], h: Header, tables: &mut [usize]) -> Checked
     requires { ⌜ HeaderRead (now numbers) h ⌝ }
-    requires { ⌜ (startOf h 5 ≤ length (now tables)) × (length (now tables) < 4294967296) ⌝ }
+    requires { ⌜ (startOf h atVerdicts ≤ length (now tables)) × (length (now tables) < 4294967296) ⌝ }
     ensures { λ r. ⌜ (r ≡ answerOf (checkOf (now (numbers .entry)))) × OnceAccepted r (Loaded (now (numbers .entry)) (now (tables .exit))) ⌝ }
 {
     tables::lay_out(tables, h);

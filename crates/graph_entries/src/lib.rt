@@ -7,7 +7,7 @@ ghost use Rattle.rows.specs.Walk.{walkOf, many, list, firsts, noItem};
 ghost use Rattle.graph_format.specs.Format.{importRecordsOf, relatedModuleAt, relatedImportRecordAt, relatedAt, entryAt, entriesAt};
 ghost use Rattle.graph_tables.specs.Tables.{headerIn, modulesIn};
 ghost use Rattle.graph_tables.specs.Places.{Filled, ModuleTable};
-ghost use Rattle.tables.specs.Layout.{startOf, Laid, Kept, modulePlaces};
+ghost use Rattle.tables.specs.Layout.{startOf, Laid, Kept, modulePlaces, atEntries, atVerdicts};
 use graph_format::Header;
 use rows::Walk;
 use tables::ENTRIES;
@@ -127,9 +127,9 @@ fn entry(numbers: &[u32], modules: &[usize], at: usize, h: Header) -> Walk
 
 // Reads the entries from `at` on, and fills their section.
 pub fn entries(numbers: &[u32], at: usize, h: Header, tables: &mut [usize]) -> Walk
-    requires { ⌜ Laid h 5 (now tables) × ModuleTable (now numbers) (modulePlaces (now tables)) ⌝ }
+    requires { ⌜ Laid h atVerdicts (now tables) × ModuleTable (now numbers) (modulePlaces (now tables)) ⌝ }
     requires { ⌜ h ≡ headerIn (now numbers) ⌝ }
-    ensures { λ r. ⌜ (r ≡ walkOf (entriesAt h (modulesIn (now (numbers .entry))) (now (numbers .entry)) at)) × Filled (entriesAt h (modulesIn (now (numbers .entry))) (now (numbers .entry)) at) (startOf h 4) (now (tables .exit)) × Kept (startOf h 4) (now (tables .entry)) (now (tables .exit)) ⌝ }
+    ensures { λ r. ⌜ (r ≡ walkOf (entriesAt h (modulesIn (now (numbers .entry))) (now (numbers .entry)) at)) × Filled (entriesAt h (modulesIn (now (numbers .entry))) (now (numbers .entry)) at) (startOf h atEntries) (now (tables .exit)) × Kept (startOf h atEntries) (now (tables .entry)) (now (tables .exit)) ⌝ }
 {
     let base = tables[ENTRIES];
     let mut k: usize = 0;

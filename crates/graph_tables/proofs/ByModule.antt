@@ -17,7 +17,7 @@ use Rattle.graph_format.specs.declared.Left.{Left}
 use Rattle.graph_format.specs.Format.{moduleAt, lessModule, modulesAt, statementsOf, importRecordsOf, statementAt, following, moduleStatements, statementsAt}
 use Rattle.graph_tables.specs.Tables.{headerIn, modulesRead, modulesIn, firstOf}
 use Rattle.graph_tables.specs.Places.{Placed, StatementsFilled, ModuleTable}
-use Rattle.tables.specs.Layout.{sizes, startOf, firstStatements, statementPlaces, Laid, Kept}
+use Rattle.tables.specs.Layout.{sizes, startOf, firstStatements, statementPlaces, Laid, Kept, atFirstStatements, atStatements, atVerdicts}
 use Rattle.tables.proofs.Sections.{start-next, section-has, word-kept, kept-none, kept-both, kept-less, kept-set, laid-kept}
 use Rattle.graph_tables.proofs.Facts.{nine-fits, modules-long}
 use Rattle.graph_tables.proofs.Sections.{placed-section}
@@ -68,7 +68,7 @@ unfolding modulesRead modulesAt
 first-fits numbers table t m = all-fit _ numbers _ _ _ (t .read) m
 
 -- the places of the statements begin behind the first statements
-apart : (h : Header) → startOf h 3 ≡ startOf h 2 + h .modules
+apart : (h : Header) → startOf h atStatements ≡ startOf h atFirstStatements + h .modules
 unfolding sizes
 apart h = start-next h 2
 
@@ -80,10 +80,10 @@ module _ (h : Header) (ms : List Item) (numbers : List ℕ) (at₀ : ℕ) (befor
   pub record Outer (tables : List ℕ) (m q first : ℕ) (done : List (List Item)) : Type 0 where
     pub going : Going (moduleStatements h ms numbers) next (h .modules) 0 at₀ m q m done
     pub sum : first ≡ firstOf ms m
-    pub begun : (j : ℕ) → j < m → getD tables (startOf h 2 + j) 0 ≡ firstOf ms j
+    pub begun : (j : ℕ) → j < m → getD tables (startOf h atFirstStatements + j) 0 ≡ firstOf ms j
     pub longs : (j : ℕ) → j < m → length (getD done j []) ≡ statementsOf (getD ms j noItem)
-    pub places : (j : ℕ) → j < m → Placed (startOf h 3 + firstOf ms j) (getD done j []) tables
-    pub kept : Kept (startOf h 2) before tables
+    pub places : (j : ℕ) → j < m → Placed (startOf h atStatements + firstOf ms j) (getD done j []) tables
+    pub kept : Kept (startOf h atFirstStatements) before tables
 
   pub outer-start : Outer before 0 at₀ 0 []
   unfolding firstOf
@@ -99,15 +99,15 @@ module _ (h : Header) (ms : List Item) (numbers : List ℕ) (at₀ : ℕ) (befor
 
 module _ {h : Header} {ms : List Item} {numbers : List ℕ} {at₀ : ℕ} {before tables : List ℕ} {m q first : ℕ} {done : List (List Item)} (o : Outer h ms numbers at₀ before tables m q first done) where
   -- Module m's statements are read, and their places written; word i is to have the number of its first statement.
-  module _ {later : List ℕ} {i : ℕ} (l : m < h .modules) (room : startOf h 3 ≤ length before) (kept : Kept (startOf h 3 + first) tables later) (z : i ≡ startOf h 2 + m) where
+  module _ {later : List ℕ} {i : ℕ} (l : m < h .modules) (room : startOf h atStatements ≤ length before) (kept : Kept (startOf h atStatements + first) tables later) (z : i ≡ startOf h atFirstStatements + m) where
     -- it is in front of the places
-    before-places : i < startOf h 3
+    before-places : i < startOf h atStatements
     before-places = omega (arith, z, l, apart h)
 
     pub outer-writes : i < length later
     outer-writes = omega (arith, before-places, room, o .kept .same-length, kept .same-length)
 
-    module _ {p count : ℕ} {xs : List Item} (few : m < length ms) (e : moduleStatements h ms numbers m q ≡ got xs p) (is : count ≡ statementsOf (getD ms m noItem)) (placed : Placed (startOf h 3 + first) xs later) where
+    module _ {p count : ℕ} {xs : List Item} (few : m < length ms) (e : moduleStatements h ms numbers m q ≡ got xs p) (is : count ≡ statementsOf (getD ms m noItem)) (placed : Placed (startOf h atStatements + first) xs later) where
       long : length done ≡ m
       long = o .going .long
 
@@ -121,51 +121,51 @@ module _ {h : Header} {ms : List Item} {numbers : List ℕ} {at₀ : ℕ} {befor
       unfolding moduleStatements
       size = many-length _ _ _ _ _ e
 
-      begun-old : (j : ℕ) → j < m → getD (set later i first) (startOf h 2 + j) 0 ≡ firstOf ms j
+      begun-old : (j : ℕ) → j < m → getD (set later i first) (startOf h atFirstStatements + j) 0 ≡ firstOf ms j
       begun-old j b =
-          getD-set-other later i (startOf h 2 + j) first 0 (λ w. omega (arith, w, z, b))
-          ∙ word-kept kept (startOf h 2 + j) (omega (arith, b, l, apart h))
+          getD-set-other later i (startOf h atFirstStatements + j) first 0 (λ w. omega (arith, w, z, b))
+          ∙ word-kept kept (startOf h atFirstStatements + j) (omega (arith, b, l, apart h))
           ∙ o .begun j b
 
-      begun-new : getD (set later i first) (startOf h 2 + m) 0 ≡ firstOf ms m
+      begun-new : getD (set later i first) (startOf h atFirstStatements + m) 0 ≡ firstOf ms m
       begun-new = ap (λ j. getD (set later i first) j 0) (sym z) ∙ getD-set-same later i first 0 outer-writes ∙ o .sum
 
       -- a place of an earlier module is in front of this one's
-      places-old : (j : ℕ) → j < m → Placed (startOf h 3 + firstOf ms j) (getD (done ++ (xs ∷ [])) j []) (set later i first)
+      places-old : (j : ℕ) → j < m → Placed (startOf h atStatements + firstOf ms j) (getD (done ++ (xs ∷ [])) j []) (set later i first)
       places-old j b n k =
           let k′ : n < length (getD done j []) = rw (old j b) at k in
           let s = first-step ms j (omega (arith, few, b)) in
           let u : firstOf ms (j + 1) ≤ firstOf ms m = first-mono ms (j + 1) m (omega arith) in
-          getD-set-other later i (startOf h 3 + firstOf ms j + n) first 0 (λ w. omega (arith, w, before-places))
-          ∙ word-kept kept (startOf h 3 + firstOf ms j + n) (omega (arith, s, o .longs j b, o .sum, u, k′))
+          getD-set-other later i (startOf h atStatements + firstOf ms j + n) first 0 (λ w. omega (arith, w, before-places))
+          ∙ word-kept kept (startOf h atStatements + firstOf ms j + n) (omega (arith, s, o .longs j b, o .sum, u, k′))
           ∙ o .places j b n k′
           ∙ ap (λ y. getD y n noItem .place) (sym (old j b))
 
-      places-new : Placed (startOf h 3 + firstOf ms m) (getD (done ++ (xs ∷ [])) m []) (set later i first)
+      places-new : Placed (startOf h atStatements + firstOf ms m) (getD (done ++ (xs ∷ [])) m []) (set later i first)
       places-new =
-          rw (new, sym (o .sum)) (λ n k. getD-set-other later i (startOf h 3 + first + n) first 0 (λ w. omega (arith, w, before-places)) ∙ placed n k)
+          rw (new, sym (o .sum)) (λ n k. getD-set-other later i (startOf h atStatements + first + n) first 0 (λ w. omega (arith, w, before-places)) ∙ placed n k)
 
       pub outer-step : Outer h ms numbers at₀ before (set later i first) (m + 1) p (first + count) (done ++ (xs ∷ []))
       outer-step =
           record {
             going = going-step _ _ _ _ _ (o .going) l e;
             sum = omega (arith, first-step ms m few, o .sum, is);
-            begun = below-more (λ j. getD (set later i first) (startOf h 2 + j) 0 ≡ firstOf ms j) m begun-old begun-new;
+            begun = below-more (λ j. getD (set later i first) (startOf h atFirstStatements + j) 0 ≡ firstOf ms j) m begun-old begun-new;
             longs = below-more (λ j. length (getD (done ++ (xs ∷ [])) j []) ≡ statementsOf (getD ms j noItem)) m (λ j b. ap length (old j b) ∙ o .longs j b) (ap length new ∙ size);
-            places = below-more (λ j. Placed (startOf h 3 + firstOf ms j) (getD (done ++ (xs ∷ [])) j []) (set later i first)) m places-old places-new;
-            kept = kept-set (startOf h 2) i first (omega (arith, z)) (kept-both (o .kept) (kept-less (omega (arith, apart h)) kept));
+            places = below-more (λ j. Placed (startOf h atStatements + firstOf ms j) (getD (done ++ (xs ∷ [])) j []) (set later i first)) m places-old places-new;
+            kept = kept-set (startOf h atFirstStatements) i first (omega (arith, z)) (kept-both (o .kept) (kept-less (omega (arith, apart h)) kept));
           }
 
   -- after a fault nothing is said of the sections
-  pub outer-stop : {n p : ℕ} {later : List ℕ} → m < h .modules → walkOf (moduleStatements h ms numbers m q) ≡ Fault n p → Kept (startOf h 3 + first) tables later
-      → (Fault n p ≡ walkOf (statementsAt h ms numbers at₀)) × StatementsFilled ms (statementsAt h ms numbers at₀) (firstStatements later) (statementPlaces later) × Kept (startOf h 2) before later
+  pub outer-stop : {n p : ℕ} {later : List ℕ} → m < h .modules → walkOf (moduleStatements h ms numbers m q) ≡ Fault n p → Kept (startOf h atStatements + first) tables later
+      → (Fault n p ≡ walkOf (statementsAt h ms numbers at₀)) × StatementsFilled ms (statementsAt h ms numbers at₀) (firstStatements later) (statementPlaces later) × Kept (startOf h atFirstStatements) before later
   unfolding statementsAt
   outer-stop {n} {p} l e q′ =
       let w = going-stop _ _ _ _ _ (o .going) l e in
       (w, rw (fault-is _ n p (sym w)) tt, kept-both (o .kept) (kept-less (omega (arith, apart h)) q′))
 
-  module _ (t : Laid h 5 before) (fit : (j : ℕ) → firstOf ms j ≤ h .statements) (few : h .modules ≤ length ms) (l : h .modules ≤ m) where
-    laid : Laid h 5 tables
+  module _ (t : Laid h atVerdicts before) (fit : (j : ℕ) → firstOf ms j ≤ h .statements) (few : h .modules ≤ length ms) (l : h .modules ≤ m) where
+    laid : Laid h atVerdicts tables
     laid = laid-kept t 2 (omega arith) (o .kept)
 
     done-all : statementsAt h ms numbers at₀ ≡ got done q
@@ -183,7 +183,7 @@ module _ {h : Header} {ms : List Item} {numbers : List ℕ} {at₀ : ℕ} {befor
         let u : firstOf ms j + length (getD done j []) ≤ h .statements = omega (arith, o .longs j c, first-step ms j (omega (arith, c, few, o .going .low)), fit (j + 1)) in
         placed-section laid 3 (omega arith) (firstOf ms j) (getD done j []) u (o .places j c)
 
-    pub outer-end : (At q ≡ walkOf (statementsAt h ms numbers at₀)) × StatementsFilled ms (statementsAt h ms numbers at₀) (firstStatements tables) (statementPlaces tables) × Kept (startOf h 2) before tables
+    pub outer-end : (At q ≡ walkOf (statementsAt h ms numbers at₀)) × StatementsFilled ms (statementsAt h ms numbers at₀) (firstStatements tables) (statementPlaces tables) × Kept (startOf h atFirstStatements) before tables
     unfolding walkOf
     outer-end = (sym (ap walkOf done-all), rw done-all (record { firsts = firsts; places = places }), o .kept)
 

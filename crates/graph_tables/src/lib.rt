@@ -7,7 +7,7 @@ ghost use Rattle.rows.specs.Walk.{walkOf, many, noItem};
 ghost use Rattle.graph_format.specs.Format.{modulesAt, importRecordsOf, symbolAt, symbolsAt, statementAt, statementsAt, following};
 ghost use Rattle.graph_tables.specs.Tables.{headerIn, modulesIn, symbolsIn};
 ghost use Rattle.graph_tables.specs.Places.{Filled, StatementsFilled, ModuleTable, SymbolTable};
-ghost use Rattle.tables.specs.Layout.{startOf, Laid, Kept, modulePlaces, firstStatements, statementPlaces};
+ghost use Rattle.tables.specs.Layout.{startOf, Laid, Kept, modulePlaces, firstStatements, statementPlaces, atModules, atSymbols, atFirstStatements, atVerdicts};
 use graph_format::Header;
 use graph_format::Left;
 use rows::Walk;
@@ -54,9 +54,9 @@ pub fn import_record_number(
 
 // Reads the modules from `at` on, and fills their section.
 pub fn modules(numbers: &[u32], at: usize, h: Header, tables: &mut [usize]) -> Walk
-    requires { ⌜ Laid h 5 (now tables) ⌝ }
+    requires { ⌜ Laid h atVerdicts (now tables) ⌝ }
     requires { ⌜ (h .symbols < 4294967296) × (h .modules < 4294967296) × (h .statements < 4294967296) ⌝ }
-    ensures { λ r. ⌜ (r ≡ walkOf (modulesAt h (now (numbers .entry)) at)) × Filled (modulesAt h (now (numbers .entry)) at) (startOf h 0) (now (tables .exit)) × Kept (startOf h 0) (now (tables .entry)) (now (tables .exit)) ⌝ }
+    ensures { λ r. ⌜ (r ≡ walkOf (modulesAt h (now (numbers .entry)) at)) × Filled (modulesAt h (now (numbers .entry)) at) (startOf h atModules) (now (tables .exit)) × Kept (startOf h atModules) (now (tables .entry)) (now (tables .exit)) ⌝ }
 {
     let base = tables[MODULES];
     let mut k: usize = 0;
@@ -100,9 +100,9 @@ fn symbol(numbers: &[u32], module_at: &[usize], at: usize, h: Header) -> Walk
 
 // Reads the symbols from `at` on, and fills their section.
 pub fn symbols(numbers: &[u32], at: usize, h: Header, tables: &mut [usize]) -> Walk
-    requires { ⌜ Laid h 5 (now tables) × ModuleTable (now numbers) (modulePlaces (now tables)) ⌝ }
+    requires { ⌜ Laid h atVerdicts (now tables) × ModuleTable (now numbers) (modulePlaces (now tables)) ⌝ }
     requires { ⌜ (h ≡ headerIn (now numbers)) × (h .symbols < 4294967296) ⌝ }
-    ensures { λ r. ⌜ (r ≡ walkOf (symbolsAt h (modulesIn (now (numbers .entry))) (now (numbers .entry)) at)) × Filled (symbolsAt h (modulesIn (now (numbers .entry))) (now (numbers .entry)) at) (startOf h 1) (now (tables .exit)) × Kept (startOf h 1) (now (tables .entry)) (now (tables .exit)) ⌝ }
+    ensures { λ r. ⌜ (r ≡ walkOf (symbolsAt h (modulesIn (now (numbers .entry))) (now (numbers .entry)) at)) × Filled (symbolsAt h (modulesIn (now (numbers .entry))) (now (numbers .entry)) at) (startOf h atSymbols) (now (tables .exit)) × Kept (startOf h atSymbols) (now (tables .entry)) (now (tables .exit)) ⌝ }
 {
     let base = tables[SYMBOLS];
     let mut k: usize = 0;
@@ -164,9 +164,9 @@ fn module_statements(
 
 // Reads the statements of all modules from `at` on, and fills both sections: each module's first statement, and the statements' places.
 pub fn statements(numbers: &[u32], at: usize, h: Header, tables: &mut [usize]) -> Walk
-    requires { ⌜ Laid h 5 (now tables) × ModuleTable (now numbers) (modulePlaces (now tables)) ⌝ }
+    requires { ⌜ Laid h atVerdicts (now tables) × ModuleTable (now numbers) (modulePlaces (now tables)) ⌝ }
     requires { ⌜ h ≡ headerIn (now numbers) ⌝ }
-    ensures { λ r. ⌜ (r ≡ walkOf (statementsAt h (modulesIn (now (numbers .entry))) (now (numbers .entry)) at)) × StatementsFilled (modulesIn (now (numbers .entry))) (statementsAt h (modulesIn (now (numbers .entry))) (now (numbers .entry)) at) (firstStatements (now (tables .exit))) (statementPlaces (now (tables .exit))) × Kept (startOf h 2) (now (tables .entry)) (now (tables .exit)) ⌝ }
+    ensures { λ r. ⌜ (r ≡ walkOf (statementsAt h (modulesIn (now (numbers .entry))) (now (numbers .entry)) at)) × StatementsFilled (modulesIn (now (numbers .entry))) (statementsAt h (modulesIn (now (numbers .entry))) (now (numbers .entry)) at) (firstStatements (now (tables .exit))) (statementPlaces (now (tables .exit))) × Kept (startOf h atFirstStatements) (now (tables .entry)) (now (tables .exit)) ⌝ }
 {
     let firsts = tables[FIRST_STATEMENT_OF];
     let places = tables[STATEMENTS];

@@ -1,3 +1,2 @@
--- The main definitions of `Answers`: `readAnswerOf`, `refusalOf`, `passedOf`, `drainAnswerOf`, `runAnswerOf`, `judgedOf`, `startsAnswerOf`,
---     `KeepRead`, `KeepEffects`, `KeepDrain`, `KeepRun`, `KeepStarts`.
-pub mod Answers
+-- The main definitions of `Operations`: `KeepRead`, `KeepEffects`, `KeepDrain`, `KeepRun`, `KeepStarts`.
+pub mod Operations

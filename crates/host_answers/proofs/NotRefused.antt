@@ -4,7 +4,7 @@ use mathlib.Core.Path.{_≡_, refl}
 use mathlib.Core.Logic.{_⊎_, inl, inr, _↔_}
 use mathlib.Core.List.{List}
 use native.Mathlib.Omega.{arith}
-use Rattle.leb128.specs.Read.{Decoded, all, refused}
+use Rattle.leb128.specs.Read.{Decoded, all, refused, answerOf as answerOfRead}
 use Rattle.rows.specs.Walk.{Parsed, got, fault}
 use Rattle.graph.specs.declared.Checked.{Checked}
 use Rattle.graph.specs.declared.Checked.the-variants.{Accepted, Refused}
@@ -15,8 +15,8 @@ use Rattle.run_rows.specs.Run.{Run}
 use Rattle.run_parts.specs.Operation as run
 use Rattle.judge_parts.specs.declared.Judged.{Judged}
 use Rattle.judge_parts.specs.declared.Judged.the-variants.{Passed, Refused as JudgeRefused}
-use Rattle.run_starts_parts.specs.Operation as starts
-use Rattle.host.specs.Answers.{readAnswerOf, refusalOf, passedOf, drainAnswerOf, runAnswerOf, judgedOf, startsAnswerOf}
+use Rattle.run_starts.specs.Operation as starts
+use Rattle.answers.specs.Answers.{readAnswerOf, checkAnswerOf, drainAnswerOf, runAnswerOf, judgeAnswerOf, startsAnswerOf}
 use Rattle.host_answers.specs.Numbers.{OneOf}
 use Rattle.host_answers.proofs.Faults.{Faults}
 use Rattle.host_answers.proofs.Refusals.{Reads, Effects, Judges}
@@ -26,8 +26,8 @@ not-zero : {high n : ℕ} → OneOf 2 high n → n ≡ 0 → ⊥
 not-zero o e = omega (arith, o .least, e)
 
 -- a file was read
-pub read-whole : (d : Decoded) → Reads d → readAnswerOf d .number ≡ 0 → (xs : List ℕ) × (d ≡ all xs)
-unfolding readAnswerOf
+pub read-whole : (d : Decoded) → Reads d → readAnswerOf (answerOfRead d) .number ≡ 0 → (xs : List ℕ) × (d ≡ all xs)
+unfolding readAnswerOf answerOfRead
 read-whole (all xs) r z = (xs, refl)
 read-whole (refused n p) r z = absurd (go (r .numbers n p refl))
   where
@@ -36,19 +36,19 @@ read-whole (refused n p) r z = absurd (go (r .numbers n p refl))
     go (inr e) = omega (arith, e, z)
 
 -- a graph was accepted
-pub accepted-exactly : (x : Parsed Graph) → Faults x → (refusalOf x .number ≡ 0) ↔ (answerOf x ≡ Accepted)
-unfolding refusalOf answerOf
+pub accepted-exactly : (x : Parsed Graph) → Faults x → (checkAnswerOf (answerOf x) .number ≡ 0) ↔ (answerOf x ≡ Accepted)
+unfolding checkAnswerOf answerOf
 accepted-exactly (got g q) f = (λ z. refl, λ e. refl)
 accepted-exactly (fault n p) f = (λ z. absurd (not-zero (f .numbers n p refl) z), λ e. let c : _≡_ {A = ℕ} 0 1 = cc in absurd (omega arith))
 
-pub effects-passed : (c : Checked) → Effects c → passedOf c .number ≡ 0 → c ≡ Accepted
-unfolding passedOf
+pub effects-passed : (c : Checked) → Effects c → checkAnswerOf c .number ≡ 0 → c ≡ Accepted
+unfolding checkAnswerOf
 effects-passed Accepted f z = refl
 effects-passed (Refused n p) f z = absurd (not-zero (f .numbers n p refl) z)
 
 -- a record was passed
-pub passed-exactly : (j : Judged) → Judges j → (judgedOf j .number ≡ 0) ↔ (j ≡ Passed)
-unfolding judgedOf
+pub passed-exactly : (j : Judged) → Judges j → (judgeAnswerOf j .number ≡ 0) ↔ (j ≡ Passed)
+unfolding judgeAnswerOf
 passed-exactly Passed f = (λ z. refl, λ e. refl)
 passed-exactly (JudgeRefused n p) f = (λ z. absurd (go z (f .numbers n p refl)), λ e. let c : _≡_ {A = ℕ} 0 1 = cc in absurd (omega arith))
   where

@@ -8,7 +8,7 @@ use borrow.Author.Tests.{ltb-true, ltb-false}
 use lib.Dec.{ltb}
 use lib.ListN.{length, getD, take, drop, length-append, List·getD-append}
 use lib.Seq.{take-at, drop-at, drop-append-seam}
-use Rattle.leb128.specs.Read.{all, readOf, lentOf}
+use Rattle.leb128.specs.Read.{all, answerOf as answerOfRead, readOf, lentOf}
 use Rattle.rows.specs.Walk.{Parsed, got, fault}
 use Rattle.bit_row.specs.Row.{bytesFor}
 use Rattle.graph.specs.declared.Checked.the-variants.{Accepted, Refused}
@@ -31,7 +31,7 @@ use Rattle.run_rows.specs.Run.{runOf, recordCount, isDeadRecord, deadRow, helpe
 use Rattle.run_parts.specs.Operation as run
 use Rattle.judge_parts.specs.declared.Judged.the-variants.{Passed}
 use Rattle.judge_parts.specs.Operation.{judgeOf}
-use Rattle.run_starts_parts.specs.Operation as starts
+use Rattle.run_starts.specs.Operation as starts
 use Rattle.closed_choices.specs.Choice.{HasLine}
 use Rattle.closed_choices.specs.Operation.{DrainShows}
 use Rattle.closed_choices.proofs.Showing.{bytes-long, rows-show}
@@ -41,28 +41,27 @@ use Rattle.rust_effects.proofs.SameVerdicts.{rust-effects}
 use Rattle.rust_run.proofs.Boundary.{run-shows-rust}
 use Rattle.rust_returns.proofs.OnCircles.{returns-and-agrees}
 use Rattle.own_starts.specs.Once.{triples}
-use Rattle.noted_stages.specs.Stages.{ownStartsOnce}
 use Rattle.judged_records.specs.Choice.{SmallestByRules}
 use Rattle.judged_records.proofs.DrainRows.{written-many, lines-back}
 use Rattle.judged_records.proofs.RunTriples.{triples-length}
-use Rattle.judged_records.proofs.OfRuns.{main-begins}
+use Rattle.judged_records.proofs.OfRuns.{main-begins, run-row}
 use Rattle.judged_records.proofs.OfOperations.{judge-exactly, drain-smallest, drain-passes, run-passes}
 use Rattle.judged_starts.proofs.OfStarts.{starts-given}
-use Rattle.host.specs.declared.DrainAnswer.{DrainAnswer}
-use Rattle.host.specs.declared.ReadAnswer.{ReadAnswer}
-use Rattle.host.specs.declared.Refusal.{Refusal}
-use Rattle.host.specs.Answers.{readAnswerOf, judgedOf}
+use Rattle.answers.specs.declared.DrainAnswer.{DrainAnswer}
+use Rattle.answers.specs.declared.ReadAnswer.{ReadAnswer}
+use Rattle.answers.specs.declared.Refusal.{Refusal}
+use Rattle.answers.specs.Answers.{readAnswerOf, judgeAnswerOf}
 use Rattle.host_answers.specs.Answered.{rowOfRun, rowOfDrain, DrainAnswers, EveryRead, EveryCheck, EveryEffects, EveryRun, EveryRunReturns, EveryRunSpare, EveryJudge, EveryDrainJudged, EveryRunJudged, EveryStartsJudged, EveryDrain}
 use Rattle.host_answers.proofs.GraphFaults.{check-faults}
 use Rattle.host_answers.proofs.Refusals.{reads-of, effects-in, judges-of}
 use Rattle.host_answers.proofs.NotRefused.{read-whole, accepted-exactly, effects-passed, passed-exactly}
-use Rattle.host_answers.proofs.OfRuns.{drain-kept, run-kept, starts-kept}
+use Rattle.host_answers.proofs.OfRuns.{totalsIn, drain-kept, run-kept, starts-kept}
 use Rattle.host_answers.proofs.ByRow.{row-of-run, row-of-drain}
 
 -- A file and a graph ---------------------------------------------------------------------------------------------------------------------
 
-count-is : (a : ReadAnswer) (xs : List ℕ) → a ≡ readAnswerOf (all xs) → length xs ≡ a .count
-unfolding readAnswerOf
+count-is : (a : ReadAnswer) (xs : List ℕ) → a ≡ readAnswerOf (answerOfRead (all xs)) → length xs ≡ a .count
+unfolding readAnswerOf answerOfRead
 count-is a xs e = sym (ap (λ (x : ReadAnswer). x .count) e)
 
 numbers-first : (xs lent after : List ℕ) (n : ℕ) → after ≡ lentOf (all xs) lent → length xs ≡ n → take n after ≡ xs
@@ -75,8 +74,8 @@ read-call file lent a after k z =
     record {
       numbers = w .0;
       read = w .1;
-      count-is = sym (count-is a (w .0) (k .answers ∙ ap readAnswerOf (w .1)));
-      first = numbers-first (w .0) lent after (a .count) (k .leaves ∙ ap (λ d. lentOf d lent) (w .1)) (count-is a (w .0) (k .answers ∙ ap readAnswerOf (w .1)));
+      count-is = sym (count-is a (w .0) (k .answers ∙ ap (λ d. readAnswerOf (answerOfRead d)) (w .1)));
+      first = numbers-first (w .0) lent after (a .count) (k .leaves ∙ ap (λ d. lentOf d lent) (w .1)) (count-is a (w .0) (k .answers ∙ ap (λ d. readAnswerOf (answerOfRead d)) (w .1)));
     }
 
 pub check-call : EveryCheck
@@ -115,7 +114,7 @@ effects-call numbers lent a after k z w x =
 
 pub run-call : EveryRun
 run-call numbers a lent after k z o x =
-    run-shows-rust numbers lent after (a .rounds) (a .lines) (a .«runtime_lines») (a .entries) (run-kept numbers a lent after k z .runs) o x
+    run-shows-rust numbers lent after (totalsIn a) (run-kept numbers a lent after k z .runs) o x
 
 pub run-call-returns : EveryRunReturns
 run-call-returns numbers a lent after k z n ch =
@@ -125,7 +124,7 @@ run-call-returns numbers a lent after k z n ch =
 -- Records --------------------------------------------------------------------------------------------------------------------------------
 
 -- the number 0 from a record that is passed
-zero-of : (numbers given row : List ℕ) → judgeOf numbers given row ≡ Passed → judgedOf (judgeOf numbers given row) .number ≡ 0
+zero-of : (numbers given row : List ℕ) → judgeOf numbers given row ≡ Passed → judgeAnswerOf (judgeOf numbers given row) .number ≡ 0
 zero-of numbers given row e = passed-exactly (judgeOf numbers given row) (judges-of numbers given row) .1 e
 
 pub judge-call : EveryJudge
@@ -144,7 +143,7 @@ drain-judged numbers given a lent after k z = let w = drain-kept numbers given a
   where
     go : (g : Graph) (lines : List Line) → drain.outcomeOf numbers given (drain.roomsOf lent) ≡ drain.done g lines → a .lines ≡ length lines
         → after .lines ≡ drain.recordAfter (drain.done g lines) (lent .lines)
-        → (6 * a .lines ≤ length (after .lines)) × (judgedOf (judgeOf numbers given (take (6 * a .lines) (after .lines))) .number ≡ 0)
+        → (6 * a .lines ≤ length (after .lines)) × (judgeAnswerOf (judgeOf numbers given (take (6 * a .lines) (after .lines))) .number ≡ 0)
     go g lines e n r = (
       rw n (front-inside (written lines) _ (after .lines) (6 * length lines) r (written-length lines)),
       zero-of numbers given _ (ap (λ m. judgeOf numbers given (take (6 * m) (after .lines))) n ∙ ap (λ xs. judgeOf numbers given (take (6 * length lines) xs)) r ∙ drain-passes numbers given (drain.roomsOf lent) g lines e (lent .lines)),
@@ -166,14 +165,21 @@ run-judged numbers a lent after k z =
       zero-of numbers _ _ (rw (w .lines-are, w .record-is) (run-passes numbers (run.roomsOf lent) g (runOf g) (w .is-done) (lent .lines) .1)),
     )
 
+-- what the starts leave in their record begins with the same lines
+starts-row : (g : Graph) (lent : List ℕ) → take (6 * length (runOf g .main)) (starts.recordAfter (starts.done g) lent) ≡ written (runOf g .main)
+unfolding starts.recordAfter
+starts-row g lent = take-at (written (runOf g .main)) _ (6 * length (runOf g .main)) (written-length (runOf g .main))
+
 pub starts-judged : EveryStartsJudged
-unfolding starts.recordAfter starts.startsAfter
+unfolding starts.startsAfter
 starts-judged numbers a lent after k z b lent′ after′ j y =
+    let g = graphIn numbers in
     let w = run-kept numbers a lent after k z in
-    let s = starts-kept numbers b lent′ after′ j y in (
-      rw (s .count-is) (front-inside (triples (ownStartsOnce (graphIn numbers))) _ (after′ .starts) (3 * length (ownStartsOnce (graphIn numbers))) (s .starts-are) (triples-length (ownStartsOnce (graphIn numbers)))),
+    let s = starts-kept numbers b lent′ after′ j y in
+    let p = starts-given numbers (starts.roomsOf lent′) g (s .is-done) .passed (lent′ .starts) (lent′ .lines) in (
+      rw (s .count-is) (front-inside (triples (starts.ownStartsOnce (graphIn numbers))) _ (after′ .starts) (3 * length (starts.ownStartsOnce (graphIn numbers))) (s .starts-are) (triples-length (starts.ownStartsOnce (graphIn numbers)))),
       zero-of numbers _ _
-          (rw (w .lines-are, w .record-is, s .count-is, s .starts-are) (starts-given numbers (starts.roomsOf lent′) (graphIn numbers) (s .is-done) .passed (lent′ .starts) (lent .lines))),
+          (rw (w .lines-are, w .record-is, s .count-is, s .starts-are, run-row numbers (run.roomsOf lent) g (runOf g) (w .is-done) (lent .lines)) (rw (starts-row g (lent′ .lines)) at p)),
     )
 
 -- Rows -----------------------------------------------------------------------------------------------------------------------------------

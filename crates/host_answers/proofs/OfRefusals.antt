@@ -5,26 +5,25 @@ use mathlib.Core.Bool.{Bool, true, false}
 use mathlib.Core.List.{List, _++_}
 use lib.Dec.{ltb}
 use lib.ListN.{length, drop}
-use Rattle.leb128.specs.Read.{Decoded, all, refused, readOf, lentOf}
+use Rattle.leb128.specs.Read.{Decoded, all, refused, answerOf, readOf, lentOf}
 use Rattle.rows.specs.Walk.{Parsed, got, fault}
-use Rattle.graph.specs.declared.Checked.{Checked}
 use Rattle.graph.specs.declared.Checked.the-variants.{Accepted, Refused}
 use Rattle.graph.specs.Check.{Graph, checkOf}
 use Rattle.determine_side_effects.specs.Effects.{lastVerdicts}
 use Rattle.determine_side_effects.specs.Operation.{effectsAnswer, effectsRow}
 use Rattle.drain_parts.specs.Operation as drain
 use Rattle.run_parts.specs.Operation as run
-use Rattle.run_starts_parts.specs.Operation as starts
-use Rattle.host.specs.declared.DrainAnswer.{DrainAnswer}
-use Rattle.host.specs.declared.ReadAnswer.{ReadAnswer}
-use Rattle.host.specs.declared.Refusal.{Refusal}
-use Rattle.host.specs.declared.RunAnswer.{RunAnswer}
-use Rattle.host.specs.Answers.{readAnswerOf, passedOf, drainAnswerOf, runAnswerOf, startsAnswerOf}
+use Rattle.run_starts.specs.Operation as starts
+use Rattle.answers.specs.declared.DrainAnswer.{DrainAnswer}
+use Rattle.answers.specs.declared.ReadAnswer.{ReadAnswer}
+use Rattle.answers.specs.declared.Refusal.{Refusal}
+use Rattle.answers.specs.declared.RunAnswer.{RunAnswer}
+use Rattle.answers.specs.Answers.{readAnswerOf, checkAnswerOf, drainAnswerOf, runAnswerOf, startsAnswerOf}
 use Rattle.host_answers.specs.Refused.{EveryReadRefused, EveryEffectsRefused, untouched, cleared, DrainRefuses, EveryDrainRefused, RunRefuses, EveryRunRefused, StartsRefuse, EveryStartsRefused}
 use Rattle.host_answers.proofs.ByRow.{row-of-run, row-of-drain}
 
-read-refuses : (d : Decoded) (lent after : List ℕ) (a : ReadAnswer) → a ≡ readAnswerOf d → after ≡ lentOf d lent → (a .number ≡ 0 → ⊥) → after ≡ lent
-unfolding readAnswerOf lentOf
+read-refuses : (d : Decoded) (lent after : List ℕ) (a : ReadAnswer) → a ≡ readAnswerOf (answerOf d) → after ≡ lentOf d lent → (a .number ≡ 0 → ⊥) → after ≡ lent
+unfolding readAnswerOf answerOf lentOf
 read-refuses (all xs) lent after a e l z = absurd (z (ap (λ (x : ReadAnswer). x .number) e))
 read-refuses (refused n p) lent after a e l z = l
 
@@ -32,14 +31,14 @@ pub read-refused : EveryReadRefused
 read-refused file lent a after k z = read-refuses (readOf file (length lent)) lent after a (k .answers) (k .leaves) z
 
 pub effects-refused : EveryEffectsRefused
-unfolding effectsAnswer effectsRow passedOf
+unfolding effectsAnswer effectsRow checkAnswerOf
 effects-refused numbers lent a after k z = go (checkOf numbers) (k .answers) (k .leaves)
   where
-    by : (g : Graph) (b : Bool) → a ≡ passedOf (elim b [ true ↦ Refused 5 0 | false ↦ Accepted ]) → after ≡ elim b [ true ↦ lent | false ↦ lastVerdicts g ++ drop (g .header .modules) lent ] → after ≡ lent
+    by : (g : Graph) (b : Bool) → a ≡ checkAnswerOf (elim b [ true ↦ Refused 5 0 | false ↦ Accepted ]) → after ≡ elim b [ true ↦ lent | false ↦ lastVerdicts g ++ drop (g .header .modules) lent ] → after ≡ lent
     by g true e l = l
     by g false e l = absurd (z (ap (λ (x : Refusal). x .number) e))
 
-    go : (x : Parsed Graph) → a ≡ passedOf (elim x [ fault n p ↦ Refused n p | got g q ↦ elim (ltb (length lent) (g .header .modules)) [ true ↦ Refused 5 0 | false ↦ Accepted ] ])
+    go : (x : Parsed Graph) → a ≡ checkAnswerOf (elim x [ fault n p ↦ Refused n p | got g q ↦ elim (ltb (length lent) (g .header .modules)) [ true ↦ Refused 5 0 | false ↦ Accepted ] ])
         → after ≡ elim x [ fault n p ↦ lent | got g q ↦ elim (ltb (length lent) (g .header .modules)) [ true ↦ lent | false ↦ lastVerdicts g ++ drop (g .header .modules) lent ] ] → after ≡ lent
     go (got g q) e l = by g (ltb (length lent) (g .header .modules)) e l
     go (fault n p) e l = l

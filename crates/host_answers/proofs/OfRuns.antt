@@ -10,17 +10,18 @@ use Rattle.keep_record.specs.declared.Line.{Line}
 use Rattle.drain_parts.specs.Operation as drain
 use Rattle.tree_shaking.specs.Rounds.{finalEntries}
 use Rattle.run_rows.specs.Run.{Run, runOf}
+use Rattle.run_parts.specs.declared.Totals.{Totals}
 use Rattle.run_parts.specs.declared.Ran.{Ran}
 use Rattle.run_parts.specs.declared.Ran.the-variants.{Done}
 use Rattle.run_parts.specs.Operation as run
 use Rattle.run_choices.proofs.Done.{run-done}
-use Rattle.noted_stages.specs.Stages.{ownStartsOnce}
-use Rattle.run_starts_parts.specs.Operation as starts
+use Rattle.run_starts.specs.Operation as starts
 use Rattle.judged_starts.proofs.Done.{starts-done}
-use Rattle.host.specs.declared.DrainAnswer.{DrainAnswer}
-use Rattle.host.specs.declared.ReadAnswer.{ReadAnswer}
-use Rattle.host.specs.declared.RunAnswer.{RunAnswer}
-use Rattle.host.specs.Answers.{KeepDrain, KeepRun, KeepStarts, drainAnswerOf, runAnswerOf, startsAnswerOf}
+use Rattle.answers.specs.declared.DrainAnswer.{DrainAnswer}
+use Rattle.answers.specs.declared.ReadAnswer.{ReadAnswer}
+use Rattle.answers.specs.declared.RunAnswer.{RunAnswer}
+use Rattle.answers.specs.Answers.{drainAnswerOf, runAnswerOf, startsAnswerOf}
+use Rattle.host.specs.Operations.{KeepDrain, KeepRun, KeepStarts}
 use Rattle.host_answers.proofs.Outcomes.{drains-of, runs-of, starts-of}
 use Rattle.host_answers.proofs.NotRefused.{drain-not-refused, run-not-refused, starts-not-refused}
 
@@ -49,19 +50,22 @@ drain-kept numbers given a lent after k z =
     }
 
 -- a run
+abbrev pub totalsIn : RunAnswer → Totals
+totalsIn a = record { rounds = a .rounds; lines = a .lines; «runtime_lines» = a .«runtime_lines»; entries = a .entries }
+
 pub record RunKept (numbers : List ℕ) (a : RunAnswer) (lent after : run.Rows) : Type 0 where
   pub accepted : answerOf (checkOf numbers) ≡ Accepted
   pub is-done : run.outcomeOf numbers (run.roomsOf lent) ≡ run.done (graphIn numbers) (runOf (graphIn numbers))
   pub lines-are : a .lines ≡ length (runOf (graphIn numbers) .main)
   pub entries-are : a .entries ≡ length (finalEntries (graphIn numbers) (runOf (graphIn numbers) .live))
   pub record-is : after .lines ≡ run.recordAfter (run.done (graphIn numbers) (runOf (graphIn numbers))) (lent .lines)
-  pub runs : run.Runs numbers (Done (a .rounds) (a .lines) (a .«runtime_lines») (a .entries)) lent after
+  pub runs : run.Runs numbers (Done (totalsIn a)) lent after
 
 -- the answer of a run that is done, as the boundary gives it
 answer-back : (a : RunAnswer) (g : Graph) (r : Run) → a ≡ runAnswerOf (run.answered (run.done g r))
-    → (run.answered (run.done g r) ≡ Done (a .rounds) (a .lines) (a .«runtime_lines») (a .entries)) × (a .lines ≡ length (r .main)) × (a .entries ≡ length (finalEntries g (r .live)))
+    → (run.answered (run.done g r) ≡ Done (totalsIn a)) × (a .lines ≡ length (r .main)) × (a .entries ≡ length (finalEntries g (r .live)))
 unfolding run.answered runAnswerOf
-answer-back a g r e = (cc, cc, cc)
+answer-back a g r e = (ap (λ (x : RunAnswer). Done (totalsIn x)) (sym e), ap (λ (x : RunAnswer). x .lines) e, ap (λ (x : RunAnswer). x .entries) e)
 
 pub run-kept : (numbers : List ℕ) (a : RunAnswer) (lent after : run.Rows) → KeepRun numbers a lent after → a .number ≡ 0 → RunKept numbers a lent after
 run-kept numbers a lent after k z =
@@ -84,10 +88,10 @@ run-kept numbers a lent after k z =
 -- a run's own starts
 pub record StartsKept (numbers : List ℕ) (b : ReadAnswer) (lent after : starts.Rows) : Type 0 where
   pub is-done : starts.outcomeOf numbers (starts.roomsOf lent) ≡ starts.done (graphIn numbers)
-  pub count-is : b .count ≡ 3 * length (ownStartsOnce (graphIn numbers))
+  pub count-is : b .count ≡ 3 * length (starts.ownStartsOnce (graphIn numbers))
   pub starts-are : after .starts ≡ starts.startsAfter (starts.done (graphIn numbers)) (lent .starts)
 
-count-back : (b : ReadAnswer) (g : Graph) → b ≡ startsAnswerOf (starts.answered (starts.done g)) → b .count ≡ 3 * length (ownStartsOnce g)
+count-back : (b : ReadAnswer) (g : Graph) → b ≡ startsAnswerOf (starts.answered (starts.done g)) → b .count ≡ 3 * length (starts.ownStartsOnce g)
 unfolding starts.answered startsAnswerOf
 count-back b g e = ap (λ (x : ReadAnswer). x .count) e
 

@@ -15,9 +15,8 @@ use Rattle.drain_parts.specs.Operation as drain
 use Rattle.run_rows.specs.Run.{Run, runOf}
 use Rattle.run_parts.specs.declared.Ran.the-variants.{Refused as RunRefused}
 use Rattle.run_parts.specs.Operation as run
-use Rattle.noted_stages.specs.Stages.{ownStartsOnce}
-use Rattle.run_starts_parts.specs.declared.StartsRead.the-variants.{Refused as StartsRefused}
-use Rattle.run_starts_parts.specs.Operation as starts
+use Rattle.run_starts.specs.declared.StartsRead.the-variants.{Refused as StartsRefused}
+use Rattle.run_starts.specs.Operation as starts
 use Rattle.host_answers.specs.Numbers.{OneOf}
 use Rattle.host_answers.proofs.Faults.{by-test}
 use Rattle.host_answers.proofs.GraphFaults.{check-faults}
@@ -91,8 +90,8 @@ starts-short = record { numbers = λ n p e. same five (cc) }
 starts-worked : (g : Graph) (lines room : ℕ) → Starts (starts.worked g lines room)
 unfolding starts.worked starts.answered
 starts-worked g lines room =
-    by-test Starts (ltb lines (6 * length (runOf g .lines))) starts-short
-    (by-test Starts (ltb room (3 * length (ownStartsOnce g))) starts-short
+    by-test Starts (ltb lines (6 * length (runOf g .main))) starts-short
+    (by-test Starts (ltb room (3 * length (starts.ownStartsOnce g))) starts-short
     (record { numbers = λ n p e. let z : _≡_ {A = ℕ} 0 1 = cc in absurd (omega arith) }))
 
 starts-in : (g : Graph) (room : starts.Rooms) → Starts (starts.outcomeIn g room)

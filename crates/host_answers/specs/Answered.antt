@@ -21,7 +21,7 @@ use Rattle.drain_parts.specs.Operation.{Rows}
 use Rattle.run_rows.specs.Run.{recordCount}
 use Rattle.run_parts.specs.Operation.{Rows as RunRows}
 use Rattle.judge_parts.specs.Operation.{judgeOf}
-use Rattle.run_starts_parts.specs.Operation.{Rows as StartsRows}
+use Rattle.run_starts.specs.Operation.{Rows as StartsRows}
 use Rattle.tree_shaking.specs.Own.{runStarts}
 use Rattle.own_starts.specs.Once.{triples}
 use Rattle.closed_choices.specs.Choice.{HasLine, RowShows}
@@ -33,11 +33,12 @@ use Rattle.rust_run.specs.IncludeStatements.{Outcome, Returns}
 use Rattle.rust_run.specs.Boundary.{RowsAgree}
 use Rattle.rust_returns.specs.Following.{Choosing, Follows}
 use Rattle.rust_returns.specs.Circle.{Circle}
-use Rattle.host.specs.declared.DrainAnswer.{DrainAnswer}
-use Rattle.host.specs.declared.ReadAnswer.{ReadAnswer}
-use Rattle.host.specs.declared.Refusal.{Refusal}
-use Rattle.host.specs.declared.RunAnswer.{RunAnswer}
-use Rattle.host.specs.Answers.{KeepRead, KeepEffects, KeepDrain, KeepRun, KeepStarts, refusalOf, judgedOf}
+use Rattle.answers.specs.declared.DrainAnswer.{DrainAnswer}
+use Rattle.answers.specs.declared.ReadAnswer.{ReadAnswer}
+use Rattle.answers.specs.declared.Refusal.{Refusal}
+use Rattle.answers.specs.declared.RunAnswer.{RunAnswer}
+use Rattle.answers.specs.Answers.{checkAnswerOf, judgeAnswerOf}
+use Rattle.host.specs.Operations.{KeepRead, KeepEffects, KeepDrain, KeepRun, KeepStarts}
 
 -- a file: its numbers are the first of those lent
 pub record ReadAnswers (file lent : List ℕ) (a : ReadAnswer) (after : List ℕ) : Type 0 where
@@ -51,7 +52,7 @@ EveryRead = (file lent : List ℕ) (a : ReadAnswer) (after : List ℕ) → KeepR
 
 -- a graph is accepted
 abbrev pub EveryCheck : Type 0
-EveryCheck = (numbers : List ℕ) → (refusalOf (checkOf numbers) .number ≡ 0) ↔ (answerOf (checkOf numbers) ≡ Accepted)
+EveryCheck = (numbers : List ℕ) → (checkAnswerOf (answerOf (checkOf numbers)) .number ≡ 0) ↔ (answerOf (checkOf numbers) ≡ Accepted)
 
 -- Demand 2: the verdicts that `keep_effects` gives are those that the Rust comes to before it includes statements, on every graph, and so those of every
 -- outcome; the rows that `keep_run` gives are those of every outcome;
@@ -95,20 +96,20 @@ EveryRunSpare = (numbers : List ℕ) (a : RunAnswer) (lent after : RunRows) → 
 
 -- Demand 3: `keep_judge` answers 0 exactly for the keep records of accepted numbers and good starts,
 abbrev pub EveryJudge : Type 1
-EveryJudge = (numbers starts row : List ℕ) → (judgedOf (judgeOf numbers starts row) .number ≡ 0) ↔ Passes numbers starts row
+EveryJudge = (numbers starts row : List ℕ) → (judgeAnswerOf (judgeOf numbers starts row) .number ≡ 0) ↔ Passes numbers starts row
 
 -- so for what `keep_drain` leaves in the record, where it lies whole, beside the same starts,
 abbrev pub EveryDrainJudged : Type 0
 EveryDrainJudged =
     (numbers starts : List ℕ) (a : DrainAnswer) (lent after : Rows) → KeepDrain numbers starts a lent after → a .number ≡ 0
-    → (6 * a .lines ≤ length (after .lines)) × (judgedOf (judgeOf numbers starts (take (6 * a .lines) (after .lines))) .number ≡ 0)
+    → (6 * a .lines ≤ length (after .lines)) × (judgeAnswerOf (judgeOf numbers starts (take (6 * a .lines) (after .lines))) .number ≡ 0)
 
 -- and for the lines of the main stage that `keep_run` leaves there, beside the run's own starts, worked out from the graph,
 abbrev pub EveryRunJudged : Type 0
 EveryRunJudged =
     (numbers : List ℕ) (a : RunAnswer) (lent after : RunRows) → KeepRun numbers a lent after → a .number ≡ 0
     → (6 * a .lines ≤ length (after .lines))
-    × (judgedOf (judgeOf numbers (triples (runStarts (graphIn numbers) (lastVerdicts (graphIn numbers)))) (take (6 * a .lines) (after .lines))) .number ≡ 0)
+    × (judgeAnswerOf (judgeOf numbers (triples (runStarts (graphIn numbers) (lastVerdicts (graphIn numbers)))) (take (6 * a .lines) (after .lines))) .number ≡ 0)
 
 -- or beside those that `keep_starts` gives.
 abbrev pub EveryStartsJudged : Type 0
@@ -116,7 +117,7 @@ EveryStartsJudged =
     (numbers : List ℕ) (a : RunAnswer) (lent after : RunRows) → KeepRun numbers a lent after → a .number ≡ 0
     → (b : ReadAnswer) (lent′ after′ : StartsRows) → KeepStarts numbers b lent′ after′ → b .number ≡ 0
     → (b .count ≤ length (after′ .starts))
-    × (judgedOf (judgeOf numbers (take (b .count) (after′ .starts)) (take (6 * a .lines) (after .lines))) .number ≡ 0)
+    × (judgeAnswerOf (judgeOf numbers (take (b .count) (after′ .starts)) (take (6 * a .lines) (after .lines))) .number ≡ 0)
 
 -- The rows of a drain: the facts of the lines that the record holds are the smallest choice that holds the starts, each answer row shows what they give,
 -- with its spare bits 0 and behind them as lent.

@@ -15,8 +15,8 @@ use Rattle.run_parts.specs.declared.Ran.the-variants.{Refused as RunRefused}
 use Rattle.run_parts.specs.Operation.{Rooms as RunRooms, outcomeOf as runOutcomeOf, answered as runAnswered}
 use Rattle.judge_parts.specs.declared.Judged.the-variants.{Refused as JudgeRefused}
 use Rattle.judge_parts.specs.Operation.{judgeOf}
-use Rattle.run_starts_parts.specs.declared.StartsRead.the-variants.{Refused as StartsRefused}
-use Rattle.run_starts_parts.specs.Operation.{Rooms as StartsRooms, outcomeOf as startsOutcomeOf, answered as startsAnswered}
+use Rattle.run_starts.specs.declared.StartsRead.the-variants.{Refused as StartsRefused}
+use Rattle.run_starts.specs.Operation.{Rooms as StartsRooms, outcomeOf as startsOutcomeOf, answered as startsAnswered}
 
 -- from one number to another
 pub record OneOf (low high n : ℕ) : Type 0 where

@@ -7,12 +7,12 @@ use lib.ListN.{length, replicate}
 use Rattle.answer_rows.specs.declared.Row.{Row}
 use Rattle.drain_parts.specs.Operation.{Rows}
 use Rattle.run_parts.specs.Operation.{Rows as RunRows}
-use Rattle.run_starts_parts.specs.Operation.{Rows as StartsRows}
-use Rattle.host.specs.declared.DrainAnswer.{DrainAnswer}
-use Rattle.host.specs.declared.ReadAnswer.{ReadAnswer}
-use Rattle.host.specs.declared.Refusal.{Refusal}
-use Rattle.host.specs.declared.RunAnswer.{RunAnswer}
-use Rattle.host.specs.Answers.{KeepRead, KeepEffects, KeepDrain, KeepRun, KeepStarts}
+use Rattle.run_starts.specs.Operation.{Rows as StartsRows}
+use Rattle.answers.specs.declared.DrainAnswer.{DrainAnswer}
+use Rattle.answers.specs.declared.ReadAnswer.{ReadAnswer}
+use Rattle.answers.specs.declared.Refusal.{Refusal}
+use Rattle.answers.specs.declared.RunAnswer.{RunAnswer}
+use Rattle.host.specs.Operations.{KeepRead, KeepEffects, KeepDrain, KeepRun, KeepStarts}
 use Rattle.host_answers.specs.Answered.{rowOfRun, rowOfDrain}
 
 abbrev pub EveryReadRefused : Type 0
@@ -21,7 +21,8 @@ EveryReadRefused = (file lent : List ℕ) (a : ReadAnswer) (after : List ℕ) �
 abbrev pub EveryEffectsRefused : Type 0
 EveryEffectsRefused = (numbers lent : List ℕ) (a : Refusal) (after : List ℕ) → KeepEffects numbers lent a after → (a .number ≡ 0 → ⊥) → after ≡ lent
 
--- Marks and record are as lent; or, where the record was found short during the work, the refusal is 5 and they are 0 (docs/OPERATIONS.md, Answers and refusals).
+-- Marks and record are as lent; or, where the record, or the row of starts, was found short during the work, the refusal is 5 and they are 0
+-- (docs/OPERATIONS.md, Answers and refusals).
 pub data WorkedOn (number : ℕ) (marks lines marks′ lines′ : List ℕ) : Type 0 where
   untouched : marks′ ≡ marks → lines′ ≡ lines → WorkedOn number marks lines marks′ lines′
   cleared : number ≡ 5 → marks′ ≡ replicate (length marks) 0 → lines′ ≡ replicate (length lines) 0 → WorkedOn number marks lines marks′ lines′

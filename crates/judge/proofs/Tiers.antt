@@ -1,5 +1,5 @@
--- The judge with tables and marks of a size: arrays of zeros are long enough, and hold no mark.
-use Prim.Native.Nat.{ℕ, _+_, _*_, _<_, _≤_}
+-- The judge with marks of a size: arrays of zeros are long enough, and hold no mark.
+use Prim.Native.Nat.{ℕ, _+_, _*_, _≤_}
 use mathlib.Core.Path.{_≡_}
 use mathlib.Core.Bool.{false}
 use native.Mathlib.Omega.{arith}
@@ -7,13 +7,6 @@ use lib.ListN.{length, replicate, length-replicate}
 use Rattle.bit_row.specs.Row.{bitAt}
 use Rattle.bit_row.proofs.Cleared.{zeros-unset}
 use Rattle.graph_format.specs.declared.Header.{Header}
-use Rattle.tables.specs.declared.Size.{Size}
-use Rattle.tables.specs.Layout.{startOf, FitsSize}
-use Rattle.tables.proofs.Sections.{wordsIn, fits-all}
-
-pub tables-long : (h : Header) (size : Size) (n : ℕ) → wordsIn size ≡ n → n < 4294967296 → FitsSize h size
-    → (startOf h 10 ≤ length (replicate {A = ℕ} n 0)) × (length (replicate {A = ℕ} n 0) < 4294967296)
-tables-long h size n e b f = let l = length-replicate {A = ℕ} n 0 in (omega (arith, l, e, fits-all h size f), omega (arith, l, b))
 
 -- both rows of marks, for a graph of at most so many modules, symbols and statements
 abbrev pub Clear : Header → ℕ → Type 0

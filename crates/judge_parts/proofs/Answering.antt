@@ -21,7 +21,6 @@ use Rattle.record_form.proofs.Forms.{form-good}
 use Rattle.line_judgement.specs.Stand.{stands, firstBad}
 use Rattle.line_judgement.specs.Steps.{factsOf, AllStand}
 use Rattle.completeness.specs.Complete.{all, areClosed, isComplete}
-use Rattle.judge_parts.specs.declared.Judged.{Judged}
 use Rattle.judge_parts.specs.declared.Judged.the-variants.{Passed, Refused}
 use Rattle.judge_parts.specs.Operation.{judgedWhole, judgedAt, judgedLines}
 

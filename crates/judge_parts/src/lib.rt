@@ -1,17 +1,17 @@
-// The judge's parts: getting ready, the lines one after another, what may be absent, and all in their order.
+// The judge's parts: whether the lines may be judged, the lines one after another, what may be absent, and all in their order.
 ghost use mathlib.Core.Path.{_≡_};
 ghost use Prim.Native.Nat.{ℕ, _+_, _*_, _<_, _≤_};
 ghost use mathlib.Core.Bool.{Bool, true, false};
 ghost use mathlib.Core.List.{List, []};
 ghost use lib.ListN.{length};
 ghost use Rattle.bit_row.specs.Row.{bitAt};
-ghost use Rattle.tables.specs.Layout.{startOf};
+ghost use Rattle.tables.specs.Layout.{startOf, allSections};
 ghost use Rattle.graph.specs.Check.{graphIn, HeaderRead};
 ghost use Rattle.keep_rules.specs.Prepared.{Prepared};
 ghost use Rattle.starts.specs.Starts.{startsOf, StartsGood};
 ghost use Rattle.fact_marks.specs.Marks.{Marks};
 ghost use Rattle.judge_parts.specs.Operation.{judgedLines, judgeOf};
-ghost use Rattle.judge_parts.specs.Parts.{Readied};
+ghost use Rattle.judge_parts.specs.Parts.{MayJudge};
 use graph::Checked;
 use graph_format::Header;
 use rows::Walk;
@@ -19,12 +19,6 @@ use rows::Walk;
 // What the judge says of a record: it is passed, or refused with a number and a place.
 pub enum Judged {
     Passed,
-    Refused(u32, usize),
-}
-
-// Whether the lines may be judged: the tables are filled and the starts are good; or the record is refused.
-pub enum Readiness {
-    Good,
     Refused(u32, usize),
 }
 
@@ -43,28 +37,27 @@ fn mark_starts(numbers: &[u32], tables: &[usize], starts: &[u32], begun: &mut [u
     }
 }
 
-// Gets ready: loads and checks the graph, checks the starts and the record's length, fills the tables.
-fn ready(
+// Whether the lines may be judged: the graph is accepted and its tables are filled, the starts are good, and the record's length is that of lines.
+fn may_judge(
     numbers: &[u32],
     starts: &[u32],
     lines: &[u32],
     h: Header,
     tables: &mut [usize],
-) -> Readiness
+) -> Checked
     requires { ⌜ HeaderRead (now numbers) h ⌝ }
-    requires { ⌜ (startOf h 10 ≤ length (now tables)) × (length (now tables) < 4294967296) ⌝ }
-    ensures { λ r. ⌜ Readied (now (numbers .entry)) (now (starts .entry)) (now (lines .entry)) (now (tables .exit)) r ⌝ }
+    requires { ⌜ (startOf h allSections ≤ length (now tables)) × (length (now tables) < 4294967296) ⌝ }
+    ensures { λ r. ⌜ MayJudge (now (numbers .entry)) (now (starts .entry)) (now (lines .entry)) (now (tables .exit)) r ⌝ }
 {
-    match graph::load(numbers, h, tables) {
-        Checked::Refused(n, p) => Readiness::Refused(n, p),
+    match rule_tables::ready(numbers, h, tables) {
+        Checked::Refused(n, p) => Checked::Refused(n, p),
         Checked::Accepted => match starts::check(numbers, tables, starts) {
-            Walk::Fault(n, p) => Readiness::Refused(n, p),
+            Walk::Fault(n, p) => Checked::Refused(n, p),
             Walk::At(_) => {
                 if lines.len() % 6 != 0 {
-                    return Readiness::Refused(4, lines.len());
+                    return Checked::Refused(4, lines.len());
                 }
-                rule_tables::fill(numbers, tables);
-                Readiness::Good
+                Checked::Accepted
             }
         },
     }
@@ -109,12 +102,12 @@ pub fn judge_in(
     marks: &mut [u8],
 ) -> Judged
     requires { ⌜ HeaderRead (now numbers) h ⌝ }
-    requires { ⌜ (startOf h 10 ≤ length (now tables)) × (length (now tables) < 4294967296) ⌝ }
+    requires { ⌜ (startOf h allSections ≤ length (now tables)) × (length (now tables) < 4294967296) ⌝ }
     requires { ⌜ (2 * h .modules + h .statements + 63 * h .symbols ≤ 8 * length (now begun)) × (2 * h .modules + h .statements + 63 * h .symbols ≤ 8 * length (now marks)) × ((j : ℕ) → bitAt (now begun) j ≡ false) × ((j : ℕ) → bitAt (now marks) j ≡ false) ⌝ }
     ensures { λ r. ⌜ r ≡ judgeOf (now (numbers .entry)) (now (starts .entry)) (now (lines .entry)) ⌝ }
 {
-    match ready(numbers, starts, lines, h, tables) {
-        Readiness::Refused(n, p) => Judged::Refused(n, p),
-        Readiness::Good => judge_all(numbers, tables, starts, lines, begun, marks),
+    match may_judge(numbers, starts, lines, h, tables) {
+        Checked::Refused(n, p) => Judged::Refused(n, p),
+        Checked::Accepted => judge_all(numbers, tables, starts, lines, begun, marks),
     }
 }

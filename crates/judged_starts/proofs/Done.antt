@@ -13,8 +13,7 @@ use Rattle.graph.specs.Check.{Graph, graphIn, checkOf, answerOf}
 use Rattle.graph.proofs.WellFormed.{accepted-is}
 use Rattle.facts.specs.Facts.{markCount}
 use Rattle.run_rows.specs.Run.{runOf}
-use Rattle.noted_stages.specs.Stages.{ownStartsOnce}
-use Rattle.run_starts_parts.specs.Operation.{Rooms, before, short, done, worked, outcomeIn, outcomeOf}
+use Rattle.run_starts.specs.Operation.{Rooms, ownStartsOnce, before, short, done, worked, outcomeIn, outcomeOf}
 
 pub record Done (numbers : List ℕ) (g : Graph) : Type 0 where
   pub accepted : answerOf (checkOf numbers) ≡ Accepted
@@ -30,9 +29,9 @@ not-short g e = let z : _≡_ {A = ℕ} 0 1 = cc in omega arith
 -- work that is done is that of this graph
 worked-done : (g h : Graph) (lines starts : ℕ) → worked g lines starts ≡ done h → h ≡ g
 unfolding worked
-worked-done g h lines starts e = go (ltb lines (6 * length (runOf g .lines))) refl (ltb starts (3 * length (ownStartsOnce g))) refl
+worked-done g h lines starts e = go (ltb lines (6 * length (runOf g .main))) refl (ltb starts (3 * length (ownStartsOnce g))) refl
   where
-    go : (a : Bool) → ltb lines (6 * length (runOf g .lines)) ≡ a → (b : Bool) → ltb starts (3 * length (ownStartsOnce g)) ≡ b → h ≡ g
+    go : (a : Bool) → ltb lines (6 * length (runOf g .main)) ≡ a → (b : Bool) → ltb starts (3 * length (ownStartsOnce g)) ≡ b → h ≡ g
     go true s b t = absurd (not-short h (rw (s, worked) at e))
     go false s true t = absurd (not-short h (rw (s, t, worked) at e))
     go false s false t = let d : done g ≡ done h = rw (s, t, worked) at e in cc

@@ -5,24 +5,18 @@ use mathlib.Core.List.{List}
 use Rattle.graph.specs.declared.Checked.the-variants.{Accepted}
 use Rattle.graph.specs.Check.{graphIn, checkOf, answerOf}
 use Rattle.determine_side_effects.specs.Effects.{lastVerdicts}
-use Rattle.facts.specs.Facts.{moduleFact, Good}
 use Rattle.tree_shaking.specs.Own.{runStarts}
-use Rattle.noted_stages.specs.Stages.{ownStartsOnce}
-use Rattle.closed_choices.proofs.Accepting.{accepted-tabled}
-use Rattle.closed_choices.proofs.Every.{every-by}
-use Rattle.run_choices.proofs.Growing.{run-starts-good}
+use Rattle.run_starts.specs.Operation.{ownByKind, ownStartsOnce}
 use Rattle.judged_starts.specs.Operation.{WithoutRepeats, EveryStartsGiven}
 use Rattle.judged_starts.proofs.Done.{starts-done}
 use Rattle.judged_starts.proofs.Repeats.{once-without}
-use Rattle.judged_starts.proofs.Passing.{own-passed}
+use Rattle.judged_starts.proofs.Passing.{own-given, given-own, own-passed}
 
 own-once : (numbers : List ℕ) → answerOf (checkOf numbers) ≡ Accepted → WithoutRepeats (runStarts (graphIn numbers) (lastVerdicts (graphIn numbers))) (ownStartsOnce (graphIn numbers))
 unfolding ownStartsOnce
 own-once numbers accepted =
     let g = graphIn numbers in
-    let t = accepted-tabled numbers accepted .holds in
-    let starts = runStarts g (lastVerdicts g) in
-    once-without t starts (every-by (Good g) starts (moduleFact 0) (run-starts-good t))
+    once-without g (runStarts g (lastVerdicts g)) (ownByKind g) (own-given numbers accepted) (given-own numbers accepted)
 
 pub starts-given : EveryStartsGiven
 starts-given numbers room g e =

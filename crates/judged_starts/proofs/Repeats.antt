@@ -5,17 +5,15 @@ use mathlib.Core.Bool.{Bool, true, false, true≢false}
 use mathlib.Core.List.{List, [], _∷_, _++_, map, map-append}
 use native.Mathlib.Omega.{arith}
 use lib.ListN.{length, getD, length-map, List·getD-map}
-use Rattle.graph.specs.Check.{Graph, graphIn}
-use Rattle.graph.specs.Loaded.{Loaded}
+use Rattle.graph.specs.Check.{Graph}
 use Rattle.facts.specs.declared.Fact.{Fact}
-use Rattle.facts.specs.Facts.{moduleFact, Good, markOf}
+use Rattle.facts.specs.Facts.{moduleFact, markOf}
 use Rattle.keep_record.specs.Lines.{elem}
 use Rattle.keep_record.specs.Held.{Distinct}
 use Rattle.keep_record.proofs.Adding.{elem-at, distinct-more}
 use Rattle.own_starts.specs.Once.{noted, notes, once}
 use Rattle.closed_choices.proofs.Every.{Every, every-at}
 use Rattle.judged_records.proofs.DrainLines.{Among}
-use Rattle.judged_records.proofs.RunOnce.{once-has, once-only}
 use Rattle.judged_starts.specs.Operation.{Has, WithoutRepeats}
 
 -- what is noted differs by its marks
@@ -59,11 +57,11 @@ has-by xs ys a f h =
     let x = every-at (Among ys) xs (moduleFact 0) a (h .number) (h .inside) in
     record { number = x .number; inside = x .inside; is = x .is ∙ h .is }
 
-pub once-without : {numbers tables : List ℕ} (t : Loaded numbers tables) (facts : List Fact) → Every (Good (graphIn numbers)) facts → WithoutRepeats facts (once (graphIn numbers) facts)
-once-without {numbers} t facts a =
-    let g = graphIn numbers in
+-- the facts of one list, each once, are those of another that has the same facts without its repeats
+pub once-without : (g : Graph) (all facts : List Fact) → Every (Among (once g facts)) all → Every (Among all) (once g facts) → WithoutRepeats all (once g facts)
+once-without g all facts a b =
     record {
-      each = has-by facts (once g facts) (once-has t facts a);
-      no-other = has-by (once g facts) facts (once-only g facts);
+      each = has-by all (once g facts) a;
+      no-other = has-by (once g facts) all b;
       no-repeat = apart-once g (once g facts) (once-apart g facts);
     }

@@ -10,8 +10,7 @@ use Rattle.facts.specs.declared.Fact.{Fact}
 use Rattle.facts.specs.Facts.{moduleFact}
 use Rattle.tree_shaking.specs.Own.{runStarts}
 use Rattle.run_rows.specs.Run.{runOf}
-use Rattle.noted_stages.specs.Stages.{ownStartsOnce}
-use Rattle.run_starts_parts.specs.Operation.{Rooms, done, outcomeOf, recordAfter, startsAfter}
+use Rattle.run_starts.specs.Operation.{Rooms, ownStartsOnce, done, outcomeOf, recordAfter, startsAfter}
 use Rattle.judge_parts.specs.declared.Judged.the-variants.{Passed}
 use Rattle.judge_parts.specs.Operation.{judgeOf}
 
@@ -27,8 +26,8 @@ pub record WithoutRepeats (all once : List Fact) : Type 0 where
   pub no-other : (f : Fact) → Has once f → Has all f
   pub no-repeat : (i k : ℕ) → i < k → k < length once → getD once i (moduleFact 0) ≡ getD once k (moduleFact 0) → ⊥
 
--- The starts that are given, where nothing is refused: those that the definition works out from the graph, without repeats; and the judge passes the
--- run's lines up to the runtime helpers, as the record holds them, beside the triples, as the row of starts holds them.
+-- The starts that are given, where nothing is refused: those that the steps of the run define (`runStarts`), without repeats, whatever the order; and the
+-- judge passes the run's lines up to the runtime helpers, as the record holds them, beside the triples, as the row of starts holds them.
 pub record StartsGiven (numbers : List ℕ) (g : Graph) : Type 0 where
   pub is-graph : g ≡ graphIn numbers
   pub own : WithoutRepeats (runStarts g (lastVerdicts g)) (ownStartsOnce g)

@@ -12,7 +12,7 @@ use lib.Dec.{eqb}
 use lib.Seq.{drop-cons, getD-set-same, getD-set-other}
 use lib.ListN.{length, getD, set, drop, drop-of-length-le}
 use Rattle.graph_format.specs.declared.Header.{Header}
-use Rattle.tables.specs.Layout.{sizes, startOf, Laid, Kept, namespacesIn}
+use Rattle.tables.specs.Layout.{sizes, startOf, Laid, Kept, namespacesIn, atNamespaces, allSections}
 use Rattle.tables.proofs.Sections.{section-length, kept-none, kept-set}
 use Rattle.tables.proofs.Writing.{section-set}
 use Rattle.graph_access.specs.Names.{namespaceSymbol, namespaceModule}
@@ -65,18 +65,18 @@ module _ (own : ℕ → ℕ) (m : ℕ) (rows : List (List ℕ)) (k : ℕ) (l : k
 
 -- a turn of the loop: the section has been written to, or not
 pub record Turn (own : ℕ → ℕ) (m : ℕ) (rows : List (List ℕ)) (k : ℕ) (h : Header) (tables later : List ℕ) : Type 0 where
-  pub kept : Kept (startOf h 8) tables later
+  pub kept : Kept (startOf h atNamespaces) tables later
   pub entries : (s : ℕ) → byRows (own s) m s (drop (k + 1) rows) (getD (namespacesIn later) s 0) ≡ byRows (own s) m s (drop k rows) (getD (namespacesIn tables) s 0)
 
 module _ (own : ℕ → ℕ) (m : ℕ) (rows : List (List ℕ)) (k : ℕ) (l : k < length rows) (h : Header) (tables later : List ℕ) (y : ℕ) (is : y ≡ namespaceSymbol (getD rows k [])) where
-  pub turn-own : Laid h 10 tables → (base : ℕ) → base ≡ startOf h 8 → y < h .symbols → (x : ℕ) → x ≡ namespaceModule (getD rows k []) → own y ≡ m → later ≡ set tables (base + y) (x + 1)
+  pub turn-own : Laid h allSections tables → (base : ℕ) → base ≡ startOf h atNamespaces → y < h .symbols → (x : ℕ) → x ≡ namespaceModule (getD rows k []) → own y ≡ m → later ≡ set tables (base + y) (x + 1)
       → Turn own m rows k h tables later
   unfolding sizes
   turn-own t base b i x of mine e =
       let w : namespacesIn later ≡ set (namespacesIn tables) y (x + 1) = ap namespacesIn (e ∙ ap (λ at. set tables (at + y) (x + 1)) b) ∙ section-set t 8 (omega arith) y (x + 1) i in
       let r : y < length (namespacesIn tables) = omega (arith, i, section-length t 8 (omega arith)) in
       record {
-        kept = rw e (kept-set (startOf h 8) (base + y) (x + 1) (omega (arith, b)) kept-none);
+        kept = rw e (kept-set (startOf h atNamespaces) (base + y) (x + 1) (omega (arith, b)) kept-none);
         entries = λ s. ap (λ table. byRows (own s) m s (drop (k + 1) rows) (getD table s 0)) w ∙ step-own own m rows k l (namespacesIn tables) y x is of r mine s;
       }
 

@@ -5,7 +5,7 @@ use mathlib.Core.Bool.{true, false}
 use mathlib.Core.List.{List}
 use lib.Dec.{eqb}
 use lib.ListN.{length, getD}
-use Rattle.tables.specs.Layout.{Laid, namespacesIn}
+use Rattle.tables.specs.Layout.{Laid, namespacesIn, allSections}
 use Rattle.graph_tables.specs.Tables.{headerIn}
 use Rattle.graph.specs.Check.{Graph, graphIn}
 use Rattle.graph.specs.Loaded.{Loaded}
@@ -25,5 +25,5 @@ pub record NamespaceTable (g : Graph) (table : List ℕ) : Type 0 where
 -- as a part of the one slice of an accepted graph
 pub record Named (numbers tables : List ℕ) : Type 0 where
   pub loaded : Loaded numbers tables
-  pub laid : Laid (headerIn numbers) 10 tables
+  pub laid : Laid (headerIn numbers) allSections tables
   pub of-namespaces : NamespaceTable (graphIn numbers) (namespacesIn tables)

@@ -3,7 +3,7 @@ ghost use mathlib.Core.Path.{_≡_};
 ghost use Prim.Native.Nat.{ℕ, _+_, _-_, _<_, _≤_};
 ghost use mathlib.Core.Bool.{Bool};
 ghost use lib.ListN.{length, getD};
-ghost use Rattle.tables.specs.Layout.{startOf, Laid, Kept, namespacesIn};
+ghost use Rattle.tables.specs.Layout.{startOf, Laid, Kept, namespacesIn, atNamespaces, allSections};
 ghost use Rattle.graph_tables.specs.Tables.{headerIn};
 ghost use Rattle.graph.specs.Check.{graphIn};
 ghost use Rattle.graph.specs.Loaded.{Loaded};
@@ -53,9 +53,9 @@ pub fn commonjs_of(numbers: &[u32], tables: &[usize], s: SymbolIdx) -> usize
 // Enters the CommonJS namespaces that a module lists and owns.
 fn enter_namespaces(numbers: &[u32], tables: &mut [usize], m: ModuleIdx)
     requires { ⌜ Loaded (now numbers) (now tables) ⌝ }
-    requires { ⌜ Laid (headerIn (now numbers)) 10 (now tables) ⌝ }
+    requires { ⌜ Laid (headerIn (now numbers)) allSections (now tables) ⌝ }
     requires { ⌜ m .0 < headerIn (now numbers) .modules ⌝ }
-    ensures { λ _. ⌜ ((s : ℕ) → s < (headerIn (now (numbers .entry))) .symbols → getD (namespacesIn (now (tables .exit))) s 0 ≡ entered (graphIn (now (numbers .entry))) (m .0) s (getD (namespacesIn (now (tables .entry))) s 0)) × Kept (startOf (headerIn (now (numbers .entry))) 8) (now (tables .entry)) (now (tables .exit)) ⌝ }
+    ensures { λ _. ⌜ ((s : ℕ) → s < (headerIn (now (numbers .entry))) .symbols → getD (namespacesIn (now (tables .exit))) s 0 ≡ entered (graphIn (now (numbers .entry))) (m .0) s (getD (namespacesIn (now (tables .entry))) s 0)) × Kept (startOf (headerIn (now (numbers .entry))) atNamespaces) (now (tables .entry)) (now (tables .exit)) ⌝ }
 {
     let base = tables[NAMESPACES];
     let count = modules::commonjs_namespace_count(numbers, tables, m);
@@ -74,8 +74,8 @@ fn enter_namespaces(numbers: &[u32], tables: &mut [usize], m: ModuleIdx)
 // Fills the section of the CommonJS namespaces: for each symbol 1 more than the module that it is a namespace of, or 0.
 pub fn fill_namespaces(numbers: &[u32], tables: &mut [usize])
     requires { ⌜ Loaded (now numbers) (now tables) ⌝ }
-    requires { ⌜ Laid (headerIn (now numbers)) 10 (now tables) ⌝ }
-    ensures { λ _. ⌜ NamespaceTable (graphIn (now (numbers .entry))) (namespacesIn (now (tables .exit))) × Kept (startOf (headerIn (now (numbers .entry))) 8) (now (tables .entry)) (now (tables .exit)) ⌝ }
+    requires { ⌜ Laid (headerIn (now numbers)) allSections (now tables) ⌝ }
+    ensures { λ _. ⌜ NamespaceTable (graphIn (now (numbers .entry))) (namespacesIn (now (tables .exit))) × Kept (startOf (headerIn (now (numbers .entry))) atNamespaces) (now (tables .entry)) (now (tables .exit)) ⌝ }
 {
     let h = graph::header_of(numbers);
     tables::clear(tables, NAMESPACES);

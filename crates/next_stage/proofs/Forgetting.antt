@@ -10,7 +10,7 @@ use Rattle.graph_format.specs.declared.Header.{Header}
 use Rattle.graph_tables.specs.Tables.{headerIn}
 use Rattle.graph.specs.Check.{Graph, graphIn}
 use Rattle.keep_record.specs.declared.Line.{Line}
-use Rattle.worklist.specs.Links.{firstForward, lastForward, Linked}
+use Rattle.worklist.specs.Links.{firstForward, lastForward, Linked, firstsAt, nextsAt}
 
 -- In the loop: words from `from` up to i are zero, all others as they were.
 pub record Zeroing (from : ℕ) (old new : List ℕ) (i : ℕ) : Type 0 where
@@ -42,11 +42,11 @@ unfolding graphIn
 modules-are numbers h e = ap (λ (x : Header). x .modules) e
 
 -- no lines of the new stage, so no forwards
-pub stage-linked : (g : Graph) (count : ℕ) (old new : List ℕ) (lines : List Line) (modules : ℕ) → modules ≡ g .header .modules → length lines ≡ count → Linked g 0 old lines → length new ≡ length old
-    → ((i : ℕ) → i < modules → getD new i 0 ≡ getD old i 0) → ((i : ℕ) → modules ≤ i → i < 3 * modules → getD new i 0 ≡ 0)
+pub stage-linked : (g : Graph) (count : ℕ) (old new : List ℕ) (lines : List Line) (from to : ℕ) → from ≡ firstsAt (g .header) → to ≡ nextsAt (g .header) → length lines ≡ count → Linked g 0 old lines → length new ≡ length old
+    → ((i : ℕ) → i < from → getD new i 0 ≡ getD old i 0) → ((i : ℕ) → from ≤ i → i < to → getD new i 0 ≡ 0)
     → Linked g count new lines
 unfolding firstForward lastForward
-stage-linked g count old new lines modules e size k same front zeros =
+stage-linked g count old new lines from to e f size k same front zeros =
     let over : length lines ≤ count = omega arith in
     let none : drop count lines ≡ [] = drop-of-length-le lines over in
     record {
@@ -54,5 +54,5 @@ stage-linked g count old new lines modules e size k same front zeros =
       module-lines = λ m l. front m (omega arith) ∙ k .module-lines m l;
       firsts = λ m l. zeros (g .header .modules + m) (omega arith) (omega arith) ∙ sym (ap (λ (ls : List Line). firstForward g m count ls) none);
       lasts = λ m l. zeros (2 * g .header .modules + m) (omega arith) (omega arith) ∙ sym (ap (λ (ls : List Line). lastForward g m 0 count ls) none);
-      nexts = λ i s a b f. absurd (omega arith);
+      nexts = λ i s a b _. absurd (omega arith);
     }

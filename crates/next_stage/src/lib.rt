@@ -40,13 +40,14 @@ fn mark_kept(numbers: &[u32], tables: &[usize], marks: &mut [u8], lines: &[u32],
     }
 }
 
-// Takes the forwards out of the table of K1's partners; the lines of the modules stay.
-fn forget_forwards(partners: &mut [usize], modules: usize)
-    requires { ⌜ 3 * modules ≤ length (now partners) ⌝ }
-    ensures { λ _. ⌜ (length (now (partners .exit)) ≡ length (now (partners .entry))) × ((i : ℕ) → i < modules → getD (now (partners .exit)) i 0 ≡ getD (now (partners .entry)) i 0) × ((i : ℕ) → modules ≤ i → i < 3 * modules → getD (now (partners .exit)) i 0 ≡ 0) ⌝ }
+// Takes the forwards out of the table of K1's partners: the first and the last ones, which end where the next ones begin. The lines of the
+// modules stay.
+fn forget_forwards(partners: &mut [usize], firsts: usize, nexts: usize)
+    requires { ⌜ nexts ≤ length (now partners) ⌝ }
+    ensures { λ _. ⌜ (length (now (partners .exit)) ≡ length (now (partners .entry))) × ((i : ℕ) → i < firsts → getD (now (partners .exit)) i 0 ≡ getD (now (partners .entry)) i 0) × ((i : ℕ) → firsts ≤ i → i < nexts → getD (now (partners .exit)) i 0 ≡ 0) ⌝ }
 {
-    let mut i = modules;
-    while i < 3 * modules {
+    let mut i = firsts;
+    while i < nexts {
         partners[i] = 0;
         i += 1;
     }
@@ -67,5 +68,7 @@ pub fn begin(
 {
     let h = graph::header_of(numbers);
     mark_kept(numbers, tables, marks, lines, count);
-    forget_forwards(partners, h.modules);
+    let firsts = worklist::firsts_at(h);
+    let nexts = worklist::nexts_at(h);
+    forget_forwards(partners, firsts, nexts);
 }

@@ -11,7 +11,7 @@ use borrow.Author.Tests.{eq-eqb, ne-eqb, lt-ltb, ltb-true}
 use lib.Dec.{eqb, ltb}
 use lib.ListN.{length, getD, set, drop}
 use Rattle.graph_format.specs.declared.Header.{Header}
-use Rattle.tables.specs.Layout.{sizes, startOf, Laid, Kept, onDemandIn}
+use Rattle.tables.specs.Layout.{sizes, startOf, Laid, Kept, onDemandIn, atOnDemand, allSections}
 use Rattle.tables.proofs.Sections.{section-length, laid-kept}
 use Rattle.rows.specs.Walk.{Item, noItem}
 use Rattle.graph.specs.Check.{Graph}
@@ -33,10 +33,10 @@ marks-start g m x e = rw e
 
 -- a turn of the loop: the section has been written to, or not
 pub record Turn (es : List Item) (k : ℕ) (h : Header) (first tables later : List ℕ) : Type 0 where
-  pub kept : Kept (startOf h 6) first later
+  pub kept : Kept (startOf h atOnDemand) first later
   pub entries : (m : ℕ) → bySome (marks m) 1 (drop (k + 1) es) (getD (onDemandIn later) m 0) ≡ bySome (marks m) 1 (drop k es) (getD (onDemandIn tables) m 0)
 
-module _ (es : List Item) (k : ℕ) (l : k < length es) (h : Header) (first tables later : List ℕ) (t : Laid h 10 first) (q : Kept (startOf h 6) first tables) where
+module _ (es : List Item) (k : ℕ) (l : k < length es) (h : Header) (first tables later : List ℕ) (t : Laid h allSections first) (q : Kept (startOf h atOnDemand) first tables) where
   abbrev entry : Item
   entry = getD es k noItem
 

@@ -5,7 +5,7 @@ use mathlib.Core.Bool.{Bool, true, false, _||_}
 use mathlib.Core.List.{List}
 use lib.Dec.{eqb}
 use lib.ListN.{length, getD}
-use Rattle.tables.specs.Layout.{Laid, onDemandIn, bodiesIn}
+use Rattle.tables.specs.Layout.{Laid, onDemandIn, bodiesIn, allSections}
 use Rattle.graph_tables.specs.Tables.{headerIn}
 use Rattle.graph.specs.Check.{Graph, graphIn}
 use Rattle.graph_access.specs.Names.{namespace, ownExports, only}
@@ -38,9 +38,9 @@ pub record KeyTable (g : Graph) (table : List ℕ) : Type 0 where
 
 -- as parts of the one slice
 pub record Demands (numbers tables : List ℕ) : Type 0 where
-  pub laid : Laid (headerIn numbers) 10 tables
+  pub laid : Laid (headerIn numbers) allSections tables
   pub of-demand : DemandTable (graphIn numbers) (onDemandIn tables)
 
 pub record Keyed (numbers tables : List ℕ) : Type 0 where
-  pub laid : Laid (headerIn numbers) 10 tables
+  pub laid : Laid (headerIn numbers) allSections tables
   pub of-keys : KeyTable (graphIn numbers) (bodiesIn tables)

@@ -3,7 +3,7 @@ ghost use mathlib.Core.Path.{_≡_};
 ghost use Prim.Native.Nat.{ℕ, _+_, _-_, _<_, _≤_};
 ghost use mathlib.Core.Bool.{Bool, true, false};
 ghost use lib.ListN.{length, getD};
-ghost use Rattle.tables.specs.Layout.{startOf, Laid, Kept, onDemandIn, bodiesIn};
+ghost use Rattle.tables.specs.Layout.{startOf, Laid, Kept, onDemandIn, bodiesIn, atOnDemand, atBodies, allSections};
 ghost use Rattle.graph_tables.specs.Tables.{headerIn};
 ghost use Rattle.graph.specs.Check.{graphIn};
 ghost use Rattle.graph.specs.Loaded.{Loaded};
@@ -51,8 +51,8 @@ pub fn body_of_key(numbers: &[u32], tables: &[usize], s: SymbolIdx) -> usize
 // Marks the modules of user-defined entries with 1 in the section, all others with 0.
 fn mark_user_defined_entries(numbers: &[u32], tables: &mut [usize])
     requires { ⌜ Loaded (now numbers) (now tables) ⌝ }
-    requires { ⌜ Laid (headerIn (now numbers)) 10 (now tables) ⌝ }
-    ensures { λ _. ⌜ EntriesMarked (graphIn (now (numbers .entry))) (onDemandIn (now (tables .exit))) × Kept (startOf (headerIn (now (numbers .entry))) 6) (now (tables .entry)) (now (tables .exit)) ⌝ }
+    requires { ⌜ Laid (headerIn (now numbers)) allSections (now tables) ⌝ }
+    ensures { λ _. ⌜ EntriesMarked (graphIn (now (numbers .entry))) (onDemandIn (now (tables .exit))) × Kept (startOf (headerIn (now (numbers .entry))) atOnDemand) (now (tables .entry)) (now (tables .exit)) ⌝ }
 {
     let h = graph::header_of(numbers);
     tables::clear(tables, ON_DEMAND);
@@ -93,8 +93,8 @@ fn side_effects_included_on_demand(
 // Fills the section of the modules whose side effects are included on demand: 1 for each of them.
 pub fn fill_on_demand(numbers: &[u32], tables: &mut [usize])
     requires { ⌜ Loaded (now numbers) (now tables) × Settled (now numbers) (now tables) ⌝ }
-    requires { ⌜ Laid (headerIn (now numbers)) 10 (now tables) ⌝ }
-    ensures { λ _. ⌜ DemandTable (graphIn (now (numbers .entry))) (onDemandIn (now (tables .exit))) × Kept (startOf (headerIn (now (numbers .entry))) 6) (now (tables .entry)) (now (tables .exit)) ⌝ }
+    requires { ⌜ Laid (headerIn (now numbers)) allSections (now tables) ⌝ }
+    ensures { λ _. ⌜ DemandTable (graphIn (now (numbers .entry))) (onDemandIn (now (tables .exit))) × Kept (startOf (headerIn (now (numbers .entry))) atOnDemand) (now (tables .entry)) (now (tables .exit)) ⌝ }
 {
     mark_user_defined_entries(numbers, tables);
     let h = graph::header_of(numbers);
@@ -169,9 +169,9 @@ fn has_body(numbers: &[u32], tables: &[usize], m: ModuleIdx) -> bool
 // Enters the keys of a module's body: the roots of its own exports, and its namespace as it stands.
 fn enter_keys(numbers: &[u32], tables: &mut [usize], m: ModuleIdx)
     requires { ⌜ Loaded (now numbers) (now tables) ⌝ }
-    requires { ⌜ Laid (headerIn (now numbers)) 10 (now tables) ⌝ }
+    requires { ⌜ Laid (headerIn (now numbers)) allSections (now tables) ⌝ }
     requires { ⌜ (m .0 < headerIn (now numbers) .modules) × (normal (graphIn (now numbers)) (m .0) ≡ true) ⌝ }
-    ensures { λ _. ⌜ ((s : ℕ) → s < (headerIn (now (numbers .entry))) .symbols → getD (bodiesIn (now (tables .exit))) s 0 ≡ keyed (graphIn (now (numbers .entry))) (m .0) s (getD (bodiesIn (now (tables .entry))) s 0)) × Kept (startOf (headerIn (now (numbers .entry))) 7) (now (tables .entry)) (now (tables .exit)) ⌝ }
+    ensures { λ _. ⌜ ((s : ℕ) → s < (headerIn (now (numbers .entry))) .symbols → getD (bodiesIn (now (tables .exit))) s 0 ≡ keyed (graphIn (now (numbers .entry))) (m .0) s (getD (bodiesIn (now (tables .entry))) s 0)) × Kept (startOf (headerIn (now (numbers .entry))) atBodies) (now (tables .entry)) (now (tables .exit)) ⌝ }
 {
     let base = tables[BODY_OF_KEY];
     let count = modules::own_export_count(numbers, tables, m);
@@ -189,7 +189,7 @@ fn enter_keys(numbers: &[u32], tables: &mut [usize], m: ModuleIdx)
 // Fills the section of the keys: for each symbol 1 more than the module whose body it is a key of, or 0.
 pub fn compute_body_demand_keys(numbers: &[u32], tables: &mut [usize])
     requires { ⌜ Loaded (now numbers) (now tables) × Demands (now numbers) (now tables) ⌝ }
-    ensures { λ _. ⌜ KeyTable (graphIn (now (numbers .entry))) (bodiesIn (now (tables .exit))) × Kept (startOf (headerIn (now (numbers .entry))) 7) (now (tables .entry)) (now (tables .exit)) ⌝ }
+    ensures { λ _. ⌜ KeyTable (graphIn (now (numbers .entry))) (bodiesIn (now (tables .exit))) × Kept (startOf (headerIn (now (numbers .entry))) atBodies) (now (tables .entry)) (now (tables .exit)) ⌝ }
 {
     let h = graph::header_of(numbers);
     tables::clear(tables, BODY_OF_KEY);

@@ -1,3 +1,4 @@
 pub mod Writing
 pub mod Noting
 pub mod Bailing
+pub mod Live

@@ -1,4 +1,4 @@
--- Starts as triples, each once, in the order of starting.
+-- Starts as triples, each once, where it stands first.
 use Prim.Native.Nat.{ℕ}
 use mathlib.Core.Bool.{Bool, true, false}
 use mathlib.Core.List.{List, [], _∷_, _++_, map}

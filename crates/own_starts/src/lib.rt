@@ -1,8 +1,9 @@
-// A run's own starts, noted as triples, each once: what entries and bailouts start, beside `entry_starts` and `passes`, which start it.
+// A run's own starts, noted as triples, each once: what entries and bailouts start, beside `entry_starts` and `passes`, which start it. They are worked
+// out by kind from what the main part of a run leaves.
 ghost use mathlib.Core.Path.{_≡_};
 ghost use Prim.Native.Nat.{ℕ, _+_, _*_, _<_, _≤_};
 ghost use mathlib.Core.List.{List, [], _∷_};
-ghost use lib.ListN.{length, drop};
+ghost use lib.ListN.{length};
 ghost use Rattle.graph_tables.specs.Tables.{headerIn};
 ghost use Rattle.graph.specs.Check.{graphIn};
 ghost use Rattle.graph_access.specs.Names.{resolvedExports};
@@ -10,16 +11,24 @@ ghost use Rattle.graph_access.specs.Words.{moduleOf};
 ghost use Rattle.facts.specs.Facts.{Good, firstPart, secondPart};
 ghost use Rattle.keep_rules.specs.Prepared.{Prepared};
 ghost use Rattle.keep_record.specs.Held.{lineAt, linesOf};
+ghost use Rattle.entry_order.specs.Order.{userEntries};
+ghost use Rattle.entry_order.specs.Plan.{planSize, liveIn};
 ghost use Rattle.entry_starts.specs.Starts.{declared, referenceStarts, moduleStarts, userStarts};
+ghost use Rattle.dynamic_entries.specs.Tries.{Planned};
 ghost use Rattle.passes.specs.Bailouts.{exportStarts, bailoutsStarts};
+ghost use Rattle.tree_shaking.specs.Rounds.{usersStarts};
+ghost use Rattle.tree_shaking.specs.Own.{liveStarts, startsByKind};
 ghost use Rattle.own_starts.specs.Noting.{Noted, Notes, Writes};
 use facts::Fact;
 use facts::Reason;
+use graph_access::entries;
 use graph_access::modules;
 use graph_access::symbols;
+use index::EntryIdx;
 use index::ModuleIdx;
 use index::SymbolIdx;
 use marked::is_marked;
+use tree_shaking::Reached;
 
 // Writes triple n of a row, if the row has it.
 fn write_triple(out: &mut [u32], n: usize, fact: Fact)
@@ -113,7 +122,7 @@ fn note_reference(
 }
 
 // Notes what a module that is an entry starts.
-pub fn note_entry(
+fn note_entry(
     numbers: &[u32],
     tables: &[usize],
     seen: &mut [u8],
@@ -141,7 +150,7 @@ pub fn note_entry(
 }
 
 // Notes what a module that is a user-defined entry starts: its bailout first.
-pub fn note_user_entry(
+fn note_user_entry(
     numbers: &[u32],
     tables: &[usize],
     seen: &mut [u8],
@@ -189,24 +198,23 @@ fn note_cjs_exports(
     total
 }
 
-// Notes what the bailouts of the lines from number `taken` on start.
-pub fn note_cjs_bailout_exports(
+// Notes what the bailouts of the first `count` lines start.
+fn note_cjs_bailout_exports(
     numbers: &[u32],
     tables: &[usize],
     lines: &[u32],
     count: usize,
-    taken: usize,
     seen: &mut [u8],
     out: &mut [u32],
     n: usize,
 ) -> usize
     requires { ⌜ Prepared (now numbers) (now tables) ⌝ }
     requires { ⌜ Noted (graphIn (now numbers)) (now seen) (now out) n ⌝ }
-    requires { ⌜ (6 * count ≤ length (now lines)) × (taken ≤ count) × ((k : ℕ) → k < count → Good (graphIn (now numbers)) (lineAt (now lines) k .fact)) ⌝ }
-    ensures { λ r. ⌜ Notes (graphIn (now (numbers .entry))) (bailoutsStarts (graphIn (now (numbers .entry))) (drop taken (linesOf count (now (lines .entry))))) (now (seen .entry)) (now (out .entry)) n (now (seen .exit)) (now (out .exit)) r ⌝ }
+    requires { ⌜ (6 * count ≤ length (now lines)) × ((k : ℕ) → k < count → Good (graphIn (now numbers)) (lineAt (now lines) k .fact)) ⌝ }
+    ensures { λ r. ⌜ Notes (graphIn (now (numbers .entry))) (bailoutsStarts (graphIn (now (numbers .entry))) (linesOf count (now (lines .entry)))) (now (seen .entry)) (now (out .entry)) n (now (seen .exit)) (now (out .exit)) r ⌝ }
 {
     let mut total = n;
-    let mut k = taken;
+    let mut k: usize = 0;
     while k < count {
         let fact = keep_record::fact_at(lines, k);
         if facts::kind_of(fact) == 6 {
@@ -216,4 +224,81 @@ pub fn note_cjs_bailout_exports(
         k += 1;
     }
     total
+}
+
+// Notes what the user-defined entries start, in their order.
+fn note_user_entries(
+    numbers: &[u32],
+    tables: &[usize],
+    plan: &[usize],
+    users: usize,
+    seen: &mut [u8],
+    out: &mut [u32],
+) -> usize
+    requires { ⌜ Prepared (now numbers) (now tables) ⌝ }
+    requires { ⌜ Noted (graphIn (now numbers)) (now seen) (now out) 0 × Planned (graphIn (now numbers)) (now plan) users ⌝ }
+    ensures { λ r. ⌜ Notes (graphIn (now (numbers .entry))) (usersStarts (graphIn (now (numbers .entry))) (userEntries (graphIn (now (numbers .entry))))) (now (seen .entry)) (now (out .entry)) 0 (now (seen .exit)) (now (out .exit)) r ⌝ }
+{
+    let mut total: usize = 0;
+    let mut i: usize = 0;
+    while i < users {
+        let m = entries::entry_module(numbers, tables, EntryIdx(plan[i]));
+        total = note_user_entry(numbers, tables, seen, out, total, m);
+        i += 1;
+    }
+    total
+}
+
+// Notes what live modules start, by module.
+fn note_live_modules(
+    numbers: &[u32],
+    tables: &[usize],
+    plan: &[usize],
+    seen: &mut [u8],
+    out: &mut [u32],
+    n: usize,
+) -> usize
+    requires { ⌜ Prepared (now numbers) (now tables) ⌝ }
+    requires { ⌜ Noted (graphIn (now numbers)) (now seen) (now out) n × (planSize (headerIn (now numbers)) ≤ length (now plan)) ⌝ }
+    ensures { λ r. ⌜ Notes (graphIn (now (numbers .entry))) (liveStarts (graphIn (now (numbers .entry))) (liveIn (headerIn (now (numbers .entry))) (now (plan .entry))) 0 (headerIn (now (numbers .entry)) .modules)) (now (seen .entry)) (now (out .entry)) n (now (seen .exit)) (now (out .exit)) r ⌝ }
+{
+    let h = graph::header_of(numbers);
+    let live = entry_order::live_at(h);
+    let mut total = n;
+    let mut m: usize = 0;
+    while m < h.modules {
+        if plan[live + m] == 1 {
+            total = note_entry(numbers, tables, seen, out, total, ModuleIdx(m));
+        }
+        m += 1;
+    }
+    total
+}
+
+// Notes all of a run's own starts from what its main part leaves: plan and record, and what it has reached. Gives how many there are.
+pub fn note_all(
+    numbers: &[u32],
+    tables: &[usize],
+    plan: &[usize],
+    lines: &[u32],
+    reached: Reached,
+    seen: &mut [u8],
+    out: &mut [u32],
+) -> usize
+    requires { ⌜ Prepared (now numbers) (now tables) ⌝ }
+    requires { ⌜ Noted (graphIn (now numbers)) (now seen) (now out) 0 × Planned (graphIn (now numbers)) (now plan) (reached .users) ⌝ }
+    requires { ⌜ (6 * reached .taken ≤ length (now lines)) × ((k : ℕ) → k < reached .taken → Good (graphIn (now numbers)) (lineAt (now lines) k .fact)) ⌝ }
+    ensures { λ r. ⌜ Notes (graphIn (now (numbers .entry))) (startsByKind (graphIn (now (numbers .entry))) (liveIn (headerIn (now (numbers .entry))) (now (plan .entry))) (linesOf (reached .taken) (now (lines .entry)))) (now (seen .entry)) (now (out .entry)) 0 (now (seen .exit)) (now (out .exit)) r ⌝ }
+{
+    let users = note_user_entries(numbers, tables, plan, reached.users, seen, out);
+    let bailouts = note_cjs_bailout_exports(
+        numbers,
+        tables,
+        lines,
+        reached.taken,
+        seen,
+        out,
+        users,
+    );
+    note_live_modules(numbers, tables, plan, seen, out, bailouts)
 }

@@ -182,7 +182,7 @@ pub fn collect_helpers(numbers: &[u32], tables: &[usize], marks: &[u8], plan: &m
     ensures { λ _. ⌜ Untouched (wordsAt (headerIn (now (numbers .entry)))) (planSize (headerIn (now (numbers .entry)))) (now (plan .entry)) (now (plan .exit)) ⌝ }
 {
     let h = graph::header_of(numbers);
-    let at = 2 * h.entries + 2 * h.modules;
+    let at = entry_order::words_at(h);
     let mut m: usize = 0;
     while m < h.modules {
         plan[at + m] = helper_word(numbers, tables, marks, ModuleIdx(m));
@@ -198,7 +198,7 @@ fn is_needed(numbers: &[u32], tables: &[usize], marks: &[u8], plan: &[usize], he
     ensures { λ r. ⌜ r ≡ some (λ m. marked (graphIn (now (numbers .entry))) (now (marks .entry)) (moduleFact m) && flag helper (helperWord (graphIn (now (numbers .entry))) (marked (graphIn (now (numbers .entry))) (now (marks .entry))) m)) (tabulate (λ m. m) 0 (headerIn (now (numbers .entry)) .modules)) ⌝ }
 {
     let h = graph::header_of(numbers);
-    let at = 2 * h.entries + 2 * h.modules;
+    let at = entry_order::words_at(h);
     let mut m: usize = 0;
     while m < h.modules {
         if facts::flag(plan[at + m], helper) {

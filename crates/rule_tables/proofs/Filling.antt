@@ -3,7 +3,7 @@ use Prim.Native.Nat.{ℕ, _<_, _≤_}
 use mathlib.Core.Path.{_≡_, _∙_}
 use mathlib.Core.List.{List}
 use native.Mathlib.Omega.{arith}
-use Rattle.tables.specs.Layout.{startOf, verdictsIn, onDemandIn, bodiesIn, namespacesIn, firstBytesIn, Laid, Kept}
+use Rattle.tables.specs.Layout.{startOf, verdictsIn, onDemandIn, bodiesIn, namespacesIn, firstBytesIn, Laid, Kept, allSections}
 use Rattle.tables.proofs.Sections.{laid-less, laid-kept, section-kept}
 use Rattle.graph_tables.specs.Tables.{headerIn}
 use Rattle.graph.specs.Check.{graphIn}
@@ -17,7 +17,7 @@ use Rattle.keep_rules.specs.Prepared.{Prepared}
 use Rattle.answer_rows.specs.Tabled.{FirstByteTable, FirstBytes}
 
 -- section j and those behind it are written
-module _ {numbers xs ys : List ℕ} (t : Laid (headerIn numbers) 10 xs) (j : ℕ) (b : j ≤ 10) (q : Kept (startOf (headerIn numbers) j) xs ys) where
+module _ {numbers xs ys : List ℕ} (t : Laid (headerIn numbers) allSections xs) (j : ℕ) (b : j ≤ 10) (q : Kept (startOf (headerIn numbers) j) xs ys) where
   settled-kept : 5 < j → Settled numbers xs → Settled numbers ys
   settled-kept l s = record { laid = laid-less (omega arith) (laid-kept t j b q); are-last = section-kept t j b q 5 l ∙ s .are-last }
 
@@ -38,7 +38,7 @@ module _ {numbers xs ys : List ℕ} (t : Laid (headerIn numbers) 10 xs) (j : ℕ
 -- the sections in front of section n are filled
 pub record Filled (n : ℕ) (numbers tables : List ℕ) : Type 0 where
   pub loaded : Loaded numbers tables
-  pub laid : Laid (headerIn numbers) 10 tables
+  pub laid : Laid (headerIn numbers) allSections tables
   pub settled : 5 < n → Settled numbers tables
   pub demands : 6 < n → Demands numbers tables
   pub keyed : 7 < n → Keyed numbers tables
@@ -120,7 +120,7 @@ module _ (numbers xs ys : List ℕ) where
         record { laid = k .laid; of-bytes = e .0 },
       )
 
-pub filled-none : (numbers tables : List ℕ) → Loaded numbers tables → Laid (headerIn numbers) 10 tables → Filled 5 numbers tables
+pub filled-none : (numbers tables : List ℕ) → Loaded numbers tables → Laid (headerIn numbers) allSections tables → Filled 5 numbers tables
 filled-none numbers tables p t =
     record {
       loaded = p;

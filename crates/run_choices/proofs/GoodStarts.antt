@@ -1,5 +1,5 @@
 -- What entries, bailouts and the runtime stage start are good facts.
-use Prim.Native.Nat.{ℕ, suc, _<_}
+use Prim.Native.Nat.{ℕ, suc, _<_, _≤_}
 use mathlib.Core.Path.{_≡_, refl, ap, _∙_, sym}
 use mathlib.Core.Bool.{Bool, true, false, false≢true}
 use mathlib.Core.List.{List, [], _∷_, _++_, map}
@@ -25,6 +25,7 @@ use Rattle.determine_side_effects.specs.Effects.{hasEffects}
 use Rattle.keep_record.specs.declared.Line.{Line}
 use Rattle.entry_order.specs.Order.{those}
 use Rattle.entry_starts.specs.Starts.{declared, referenceStarts, referencesStarts, moduleStarts, userStarts}
+use Rattle.entry_starts.proofs.Referring.{module-none}
 use Rattle.passes.specs.Bailouts.{exportStarts, bailoutStarts, bailoutsStarts}
 use Rattle.passes.specs.Helpers.{runtimeStarts}
 use Rattle.closed_choices.proofs.Every.{Every, every-append, every-map, every-tabulate}
@@ -60,6 +61,14 @@ module _ {numbers tables : List ℕ} (t : Loaded numbers tables) where
           let z : getD (modulesIn numbers) m noItem ≡ noItem = List·getD-eq-default (modulesIn numbers) noItem (omega (arith, modules-long numbers _ (t .of-modules))) in
           let k : _≡_ {A = ℕ} 0 1 = ap (λ (x : Item). getD (x .head) 0 0) (sym z) ∙ eqb-true (getD (getD (modulesIn numbers) m noItem .head) 0 0) 1 e in
           absurd (omega (arith, k))
+
+  -- behind the modules nothing is started
+  pub none-behind : (m : ℕ) → headerIn numbers .modules ≤ m → moduleStarts g m ≡ []
+  none-behind m h = go (normal g m) refl
+    where
+      go : (b : Bool) → normal g m ≡ b → moduleStarts g m ≡ []
+      go true e = absurd (omega (arith, h, normal-below m e))
+      go false e = module-none g m e
 
   runtime-good : Good g (moduleFact (g .header .runtime))
   unfolding runtimeNormal normal kind moduleOf graphIn format.kindOf

@@ -26,15 +26,15 @@ use Rattle.run_choices.proofs.GoodStarts.{module-starts-good, user-star
 use Rattle.run_choices.proofs.Stages.{Whole, whole-none, whole-more}
 
 -- the facts of starts
-unfoldable factsOf : List Start → List Fact
+unfoldable pub factsOf : List Start → List Fact
 factsOf xs = map (λ s. s .fact) xs
 
-facts-append : (xs ys : List Start) → factsOf (xs ++ ys) ≡ factsOf xs ++ factsOf ys
+pub facts-append : (xs ys : List Start) → factsOf (xs ++ ys) ≡ factsOf xs ++ factsOf ys
 unfolding factsOf
 facts-append [] ys = refl
 facts-append (x ∷ xs) ys = ap (λ (l : List Fact). x .fact ∷ l) (facts-append xs ys)
 
-facts-by : (party : Party) (facts : List Fact) → factsOf (by party facts) ≡ facts
+pub facts-by : (party : Party) (facts : List Fact) → factsOf (by party facts) ≡ facts
 unfolding factsOf by
 facts-by party [] = refl
 facts-by party (f ∷ fs) = ap (λ (l : List Fact). f ∷ l) (facts-by party fs)
@@ -142,7 +142,7 @@ module _ {numbers tables : List ℕ} (t : Loaded numbers tables) where
 
       go : (b : Bool) → Grows g (ofRounds g v fuel (length (p .lines)) next) (next .lines) (roundsFrom g v fuel (made + 1) (length (p .lines)) next .end .lines)
           → Grows g (one ++ elim b [ true ↦ ofRounds g v fuel (length (p .lines)) next | false ↦ [] ]) (p .lines)
-          (endOf (elim b [ true ↦ roundsFrom g v fuel (made + 1) (length (p .lines)) next | false ↦ endedAt (made + 1) next ]))
+          (endOf (elim b [ true ↦ roundsFrom g v fuel (made + 1) (length (p .lines)) next | false ↦ endedAt (made + 1) (length (p .lines)) next ]))
       go true r = grows-on g one (ofRounds g v fuel (length (p .lines)) next) (p .lines) (next .lines) (roundsFrom g v fuel (made + 1) (length (p .lines)) next .end .lines) (round-grows taken p w) r
       go false r = grows-on g one [] (p .lines) (next .lines) (next .lines) (round-grows taken p w) (grows-none g (next .lines))
 

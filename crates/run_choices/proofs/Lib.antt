@@ -3,6 +3,7 @@ pub mod Stages
 pub mod Growing
 pub mod OnCycles
 pub mod Rounds
+pub mod ByKind
 pub mod Settled
 pub mod Done
 pub mod Sparing

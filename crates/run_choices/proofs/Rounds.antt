@@ -23,7 +23,7 @@ module _ (g : Graph) (v : List ℕ) where
       go (keptModule (length (p .lines)) (round g v taken p .lines)) (rounds-from fuel (made + 1) (length (p .lines)) (round g v taken p))
     where
       go : (b : Bool) → Made (made + 1) fuel (roundsFrom g v fuel (made + 1) (length (p .lines)) (round g v taken p))
-          → Made made (suc fuel) (elim b [ true ↦ roundsFrom g v fuel (made + 1) (length (p .lines)) (round g v taken p) | false ↦ endedAt (made + 1) (round g v taken p) ])
+          → Made made (suc fuel) (elim b [ true ↦ roundsFrom g v fuel (made + 1) (length (p .lines)) (round g v taken p) | false ↦ endedAt (made + 1) (length (p .lines)) (round g v taken p) ])
       go true r = record { least = omega (arith, r .least); most = omega (arith, r .most); some = λ h. omega (arith, r .least) }
       go false r = record { least = omega arith; most = omega arith; some = λ h. omega arith }
 

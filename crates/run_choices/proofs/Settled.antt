@@ -176,7 +176,7 @@ module _ {numbers tables : List ℕ} (t : Loaded numbers tables) where
       next k = roundsFrom g v k (made + 1) (length (p .lines)) (round g v taken p)
 
       go : (b : Bool) → keptModule (length (p .lines)) (round g v taken p .lines) ≡ b → (keptModule (length (p .lines)) (round g v taken p .lines) ≡ true → next (fuel + more) ≡ next fuel)
-          → _≡_ {A = Ended} (elim b [ true ↦ next (fuel + more) | false ↦ endedAt (made + 1) (round g v taken p) ]) (elim b [ true ↦ next fuel | false ↦ endedAt (made + 1) (round g v taken p) ])
+          → _≡_ {A = Ended} (elim b [ true ↦ next (fuel + more) | false ↦ endedAt (made + 1) (length (p .lines)) (round g v taken p) ]) (elim b [ true ↦ next fuel | false ↦ endedAt (made + 1) (length (p .lines)) (round g v taken p) ])
       go true e r = r e
       go false e r = refl
 

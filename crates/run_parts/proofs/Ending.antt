@@ -14,35 +14,30 @@ use Rattle.graph.specs.Check.{Graph}
 use Rattle.facts.specs.Facts.{markCount}
 use Rattle.determine_side_effects.proofs.Lists.{both}
 use Rattle.entry_order.specs.Plan.{planSize}
-use Rattle.answer_rows.specs.declared.Row.the-variants.{Modules, Statements, Used, External, Json, NamespaceReason}
-use Rattle.answer_rows.specs.Shown.{rowBytes, rowsEnough}
+use Rattle.answer_rows.specs.Shown.{rowsEnough}
+use Rattle.answer_rows.specs.Together.{SixRows, sixRows, lengthsOf}
 use Rattle.run_rows.specs.Run.{recordCount}
 use Rattle.run_parts.specs.declared.Ran.{Ran}
 use Rattle.run_parts.specs.declared.Ran.the-variants.{Refused as Stopped}
 use Rattle.run_parts.specs.Operation.{Rows, roomsOf, Outcome, before, enough, answered, marksAfter, recordAfter, rowAfter, deadAfter, helpersAfter, entriesAfter, Ends}
-use Rattle.run_parts.specs.Steps.{RowsFit}
+use Rattle.run_parts.specs.Parts.{RowsFit}
+
+-- the rows that a drain has too
+abbrev pub sixOf : Rows → SixRows
+sixOf r = sixRows (r .modules) (r .statements) (r .used) (r .external) (r .json) (r .reason)
 
 -- rows that are enough are long enough, each of them
-pub fits : (g : Graph) (lent : Rows) → enough g (roomsOf lent) ≡ true → (bytesFor (markCount g) ≤ length (lent .marks)) × RowsFit g lent
-unfolding enough rowsEnough roomsOf
+pub fits : (g : Graph) (lent : Rows) → enough g (roomsOf lent) ≡ true
+    → (bytesFor (markCount g) ≤ length (lent .marks)) × (rowsEnough g (lengthsOf (sixOf lent)) ≡ true) × RowsFit g (length (lent .dead)) (length (lent .helpers)) (length (lent .entries))
+unfolding enough roomsOf
 fits g lent e =
     let a = both (leb (bytesFor (markCount g)) (length (lent .marks))) _ e in
-    let s = both (rowsEnough g (record { modules = length (lent .modules); statements = length (lent .statements); used = length (lent .used); external = length (lent .external); json = length (lent .json); reason = length (lent .reason) })) _ (a .1) in
-    let m = both (leb (rowBytes g Modules) (length (lent .modules))) _ (s .0) in
-    let t = both (leb (rowBytes g Statements) (length (lent .statements))) _ (m .1) in
-    let u = both (leb (rowBytes g Used) (length (lent .used))) _ (t .1) in
-    let x = both (leb (rowBytes g External) (length (lent .external))) _ (u .1) in
-    let j = both (leb (rowBytes g Json) (length (lent .json))) _ (x .1) in
+    let s = both (rowsEnough g (lengthsOf (sixOf lent))) _ (a .1) in
     let d = both (leb (bytesFor (recordCount g)) (length (lent .dead))) _ (s .1) in
     let h = both (leb (g .header .modules) (length (lent .helpers))) _ (d .1) in (
       leb-true (bytesFor (markCount g)) (length (lent .marks)) (a .0),
+      s .0,
       record {
-        modules-fit = leb-true (rowBytes g Modules) (length (lent .modules)) (m .0);
-        statements-fit = leb-true (rowBytes g Statements) (length (lent .statements)) (t .0);
-        used-fit = leb-true (rowBytes g Used) (length (lent .used)) (u .0);
-        external-fit = leb-true (rowBytes g External) (length (lent .external)) (x .0);
-        json-fit = leb-true (rowBytes g Json) (length (lent .json)) (j .0);
-        reason-fit = leb-true (rowBytes g NamespaceReason) (length (lent .reason)) (j .1);
         dead-fit = leb-true (bytesFor (recordCount g)) (length (lent .dead)) (d .0);
         helpers-fit = leb-true (g .header .modules) (length (lent .helpers)) (h .0);
         entries-fit = leb-true (g .header .entries) (length (lent .entries)) (h .1);

@@ -1,49 +1,25 @@
--- The getting ready, by its ends.
+-- Whether a run may begin, by the ends.
 use Prim.Native.Nat.{ℕ, _<_, _≤_}
-use mathlib.Core.Path.{_≡_, refl, ap, _∙_, sym}
+use mathlib.Core.Path.{_≡_, ap, _∙_, sym}
 use mathlib.Core.Bool.{Bool, true, false, _&&_}
 use mathlib.Core.List.{List}
 use native.Mathlib.Omega.{arith}
 use borrow.Author.Tests.{lt-leb, le-leb}
 use lib.Dec.{leb}
-use lib.ListN.{length}
 use Rattle.bit_row.specs.Row.{bytesFor}
-use Rattle.rows.specs.Walk.{Parsed, got, fault}
-use Rattle.tables.specs.Layout.{startOf, Laid}
-use Rattle.tables.proofs.Sections.{start-mono, laid-more}
-use Rattle.graph_format.specs.declared.Header.{Header}
-use Rattle.graph_tables.specs.Tables.{headerIn}
-use Rattle.graph.specs.declared.Checked.the-variants.{Accepted, Refused as Rejected}
+use Rattle.graph.specs.declared.Checked.the-variants.{Accepted, Refused}
 use Rattle.graph.specs.Check.{Graph, graphIn, checkOf, answerOf}
-use Rattle.graph.specs.Loaded.{Loaded}
 use Rattle.graph.proofs.Checking.{once-refused}
-use Rattle.graph.proofs.WellFormed.{accepted-is}
 use Rattle.facts.specs.Facts.{markCount}
 use Rattle.keep_rules.specs.Prepared.{Prepared}
 use Rattle.answer_rows.specs.declared.Lengths.{Lengths as SixLengths}
 use Rattle.answer_rows.specs.Shown.{rowsEnough}
 use Rattle.answer_rows.specs.Tabled.{FirstBytes}
+use Rattle.rule_tables.proofs.Readying.{by-refusal, by-graph}
 use Rattle.run_rows.specs.Run.{runOf, recordCount}
 use Rattle.run_parts.specs.declared.Lengths.{Lengths}
-use Rattle.run_parts.specs.declared.Readiness.{Readiness}
-use Rattle.run_parts.specs.declared.Readiness.the-variants.{Good, Refused}
 use Rattle.run_parts.specs.Operation.{Rooms, before, worked, enough, outcomeIn, outcomeOf}
-use Rattle.run_parts.specs.Parts.{roomFor, Readied}
-
-clash : {n p : ℕ} → Refused n p ≡ Good → ⊥
-clash e = let z : _≡_ {A = ℕ} 0 1 = cc in omega arith
-
--- the tables of a graph that is loaded, by all ten sections
-pub all-laid : (numbers tables : List ℕ) (h : Header) (n : ℕ) → h ≡ headerIn numbers → Loaded numbers tables → length tables ≡ n → startOf h 10 ≤ n → Laid (headerIn numbers) 10 tables
-all-laid numbers tables h n e l k b = let s : startOf h 10 ≡ startOf (headerIn numbers) 10 = ap (λ w. startOf w 10) e in laid-more (l .laid) 10 (omega arith) (omega (arith, s, k, b))
-
-pub places-fit : (h : Header) (n : ℕ) → startOf h 10 ≤ n → startOf h 5 ≤ n
-places-fit h n b = let m : startOf h 5 ≤ startOf h 10 = start-mono h 5 10 (omega arith) in omega (arith, m, b)
-
--- so many marks are few
-pub few-marks : (numbers tables : List ℕ) → Loaded numbers tables → markCount (graphIn numbers) < 4294967296
-unfolding markCount graphIn
-few-marks numbers tables l = omega (arith, l .few-modules, l .few-symbols, l .few-statements)
+use Rattle.run_parts.specs.Parts.{roomFor, MayBegin}
 
 -- the lengths of the six rows that a drain has too
 abbrev sixOf : Lengths → SixLengths
@@ -104,47 +80,36 @@ module _ (g : Graph) (room : Rooms) where
 
 -- the outcome by the check's answer
 module _ (numbers : List ℕ) (room : Rooms) where
-  pub outcome-refused : {n p : ℕ} → answerOf (checkOf numbers) ≡ Rejected n p → outcomeOf numbers room ≡ before n p
-  unfolding outcomeOf answerOf
-  outcome-refused {n} {p} e = go (checkOf numbers) refl
-    where
-      go : (x : Parsed Graph) → checkOf numbers ≡ x → outcomeOf numbers room ≡ before n p
-      go (got g q) i = absurd (once-refused ⊥ .known (sym e ∙ ap answerOf i))
-      go (fault m o) i =
-          let f : Rejected m o ≡ Rejected n p = sym (ap answerOf i) ∙ e in
-          let b : before m o ≡ before n p = cc in
-          let a : outcomeOf numbers room ≡ before m o = rw (i, outcomeOf) in a ∙ b
+  pub outcome-refused : {n p : ℕ} → answerOf (checkOf numbers) ≡ Refused n p → outcomeOf numbers room ≡ before n p
+  unfolding outcomeOf
+  outcome-refused e = by-refusal numbers (λ g. outcomeIn g room) before e
 
   pub outcome-accepted : answerOf (checkOf numbers) ≡ Accepted → outcomeOf numbers room ≡ outcomeIn (graphIn numbers) room
   unfolding outcomeOf
-  outcome-accepted e = rw (accepted-is numbers e .1, outcomeOf)
+  outcome-accepted e = by-graph numbers (λ g. outcomeIn g room) before e
 
 module _ (numbers : List ℕ) (lengths : Lengths) (tables : List ℕ) where
-  readied-refused : (n p : ℕ) → ((lines : ℕ) → outcomeOf numbers (roomFor lines lengths) ≡ before n p) → Readied numbers lengths tables (Refused n p)
-  readied-refused n p e =
+  begins-refused : (n p : ℕ) → ((lines : ℕ) → outcomeOf numbers (roomFor lines lengths) ≡ before n p) → MayBegin numbers lengths tables (Refused n p)
+  begins-refused n p e =
       record {
         refused = λ m o q lines. let b : before n p ≡ before m o = cc in e lines ∙ b;
-        good = λ q. absurd (clash q);
-        fits = λ q lines. absurd (clash q);
-        goes = λ q lines. absurd (clash q);
+        good = λ q. once-refused _ .known q;
+        fits = λ q lines. absurd (once-refused ⊥ .known q);
+        goes = λ q lines. absurd (once-refused ⊥ .known q);
       }
 
-  pub ready-rejected : {n p : ℕ} → answerOf (checkOf numbers) ≡ Rejected n p → Readied numbers lengths tables (Refused n p)
-  ready-rejected {n} {p} e = readied-refused n p (λ lines. outcome-refused numbers (roomFor lines lengths) e)
+  pub begins-rejected : {n p : ℕ} → answerOf (checkOf numbers) ≡ Refused n p → MayBegin numbers lengths tables (Refused n p)
+  begins-rejected {n} {p} e = begins-refused n p (λ lines. outcome-refused numbers (roomFor lines lengths) e)
 
   module _ (a : answerOf (checkOf numbers) ≡ Accepted) {r : Bool} (o : (lines : ℕ) → r ≡ enough (graphIn numbers) (roomFor lines lengths)) where
-    pub ready-short : r ≡ false → Readied numbers lengths tables (Refused 5 0)
-    ready-short e =
-        readied-refused 5 0
-        (λ lines. outcome-accepted numbers (roomFor lines lengths) a ∙ outcome-short (graphIn numbers) (roomFor lines lengths) (sym (o lines) ∙ e))
+    pub begins-short : r ≡ false → MayBegin numbers lengths tables (Refused 5 0)
+    begins-short e = begins-refused 5 0 (λ lines. outcome-accepted numbers (roomFor lines lengths) a ∙ outcome-short (graphIn numbers) (roomFor lines lengths) (sym (o lines) ∙ e))
 
-    pub ready-good : r ≡ true → Prepared numbers tables → FirstBytes numbers tables → Readied numbers lengths tables Good
-    ready-good e p f =
+    pub begins-good : r ≡ true → Prepared numbers tables × FirstBytes numbers tables → MayBegin numbers lengths tables Accepted
+    begins-good e p =
         record {
-          refused = λ n m k lines. absurd (clash (sym k));
-          good = λ k. (p, f);
+          refused = λ n m k lines. absurd (once-refused ⊥ .known (sym k));
+          good = λ k. p;
           fits = λ k lines. sym (o lines) ∙ e;
-          goes = λ k lines.
-              outcome-accepted numbers (roomFor lines lengths) a
-              ∙ outcome-work (graphIn numbers) (roomFor lines lengths) (sym (o lines) ∙ e);
+          goes = λ k lines. outcome-accepted numbers (roomFor lines lengths) a ∙ outcome-work (graphIn numbers) (roomFor lines lengths) (sym (o lines) ∙ e);
         }

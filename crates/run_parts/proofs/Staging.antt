@@ -1,69 +1,38 @@
--- The two stages, by their ends.
-use Prim.Native.Nat.{ℕ, zero, suc, _+_, _*_, _<_, _≤_}
-use mathlib.Core.Path.{_≡_, refl, ap, _∙_, sym}
-use mathlib.Core.Bool.{Bool, true, false}
-use mathlib.Core.List.{List, [], _∷_}
+-- The stages of a part, by their ends.
+use Prim.Native.Nat.{ℕ, _+_, _*_, _<_, _≤_}
+use mathlib.Core.Path.{_≡_, ap, _∙_, sym, subst}
+use mathlib.Core.Bool.{Bool}
+use mathlib.Core.List.{List}
 use native.Mathlib.Decide.{decLt}
 use native.Mathlib.Omega.{arith}
 use borrow.Author.Tests.{le-ltb}
 use lib.Dec.{eqb}
 use lib.ListN.{length, getD, take}
-use lib.Seq.{take-append-le, take-all, getD-take, length-take-le, ext-getD}
+use lib.Seq.{take-all, getD-take, length-take-le, ext-getD}
 use Rattle.graph.specs.Check.{Graph}
-use Rattle.facts.specs.declared.Fact.{Fact}
-use Rattle.facts.specs.Facts.{markCount}
 use Rattle.determine_side_effects.specs.Effects.{lastVerdicts}
 use Rattle.keep_record.specs.declared.Line.{Line}
 use Rattle.keep_record.specs.declared.Added.{Added}
-use Rattle.keep_record.specs.declared.Added.the-variants.{Lines, Full}
-use Rattle.keep_record.specs.Lines.{has, added, adds}
+use Rattle.keep_record.specs.declared.Added.the-variants.{Lines, Full as AddedFull}
+use Rattle.keep_record.specs.Lines.{has}
 use Rattle.keep_record.specs.Held.{linesOf, Held}
 use Rattle.keep_record.proofs.Rows.{lines-length, lines-take}
-use Rattle.keep_record.proofs.Adding.{added-prefix, adds-prefix, added-longer, adds-longer}
-use Rattle.worklist.specs.Drain.{line, news, drained, started, drainedAll}
-use Rattle.worklist.proofs.Ends.{drained-stop, drained-next, drained-longer, started-longer, all-longer}
+use Rattle.worklist.specs.Drain.{drainedAll}
+use Rattle.worklist.proofs.Ends.{all-longer}
 use Rattle.entry_order.specs.Plan.{isSet, liveIn, deadIn, liveAt, deadAt, cycledAt, wordsAt, planSize, Untouched}
 use Rattle.dynamic_entries.specs.Tries.{Progress, progressIn, Planned}
 use Rattle.passes.specs.Helpers.{helperWord, helperUnion, runtimeStarts}
-use Rattle.tree_shaking.specs.declared.MainEnd.{MainEnd}
-use Rattle.tree_shaking.specs.declared.MainEnd.the-variants.{Ended, TooShort as MainTooShort}
+use Rattle.passes.proofs.Staying.{take-drained-all}
+use Rattle.tree_shaking.specs.declared.Reached.{Reached}
+use Rattle.tree_shaking.specs.declared.Work.{Work}
+use Rattle.tree_shaking.specs.declared.Work.the-variants.{Done, Full}
 use Rattle.tree_shaking.specs.Rounds.{mainPart, runtimeStage}
 use Rattle.tree_shaking.specs.Parts.{MainEnds, StageEnds}
+use Rattle.tree_shaking.proofs.Longer.{main-taken}
 use Rattle.run_rows.specs.Run.{Run, runOf, withRuntime}
-use Rattle.run_parts.specs.declared.BothStages.{BothStages}
-use Rattle.run_parts.specs.declared.BothStages.the-variants.{Worked, TooShort}
-use Rattle.run_parts.specs.Parts.{Holds}
-use Rattle.run_parts.specs.Steps.{StagesEnd}
-
--- the first lines stay, whatever is started
-module _ (g : Graph) (v : List ℕ) (base : ℕ) where
-  take-drained : (fuel k : ℕ) (lines : List Line) (n : ℕ) → n ≤ length lines → take n (drained g v base fuel k lines) ≡ take n lines
-  unfolding drained
-  take-drained zero k lines n h = refl
-  take-drained (suc fuel) k lines n h = go (decLt k (length lines)) (take-drained fuel (k + 1) (adds g base lines (news g v base lines k)) n)
-    where
-      go : Dec (k < length lines)
-          → (n ≤ length (adds g base lines (news g v base lines k)) → take n (drained g v base fuel (k + 1) (adds g base lines (news g v base lines k))) ≡ take n (adds g base lines (news g v base lines k)))
-          → take n (drained g v base (suc fuel) k lines) ≡ take n lines
-      go (yes l) more =
-          let p = adds-prefix g base lines (news g v base lines k) in
-          let m : n ≤ length (adds g base lines (news g v base lines k)) = omega (arith, adds-longer g base lines (news g v base lines k)) in
-          ap (take n) (drained-next g v base fuel k lines l) ∙ more m ∙ ap (take n) (p .1) ∙ take-append-le n lines (p .0) h
-      go (no l) more = let m : length lines ≤ k = omega arith in ap (take n) (drained-stop g v base (suc fuel) k lines m)
-
-  take-started : (lines : List Line) (f : Fact) (n : ℕ) → n ≤ length lines → take n (started g v base lines f) ≡ take n lines
-  unfolding started
-  take-started lines f n h =
-      let p = added-prefix g base lines (line f 0 0 0) in
-      let m : n ≤ length (added g base lines (line f 0 0 0)) = omega (arith, added-longer g base lines (line f 0 0 0)) in
-      take-drained (markCount g) (length lines) (added g base lines (line f 0 0 0)) n m ∙ ap (take n) (p .1) ∙ take-append-le n lines (p .0) h
-
-  pub take-drained-all : (fs : List Fact) (lines : List Line) (n : ℕ) → n ≤ length lines → take n (drainedAll g v base fs lines) ≡ take n lines
-  unfolding drainedAll
-  take-drained-all [] lines n h = refl
-  take-drained-all (f ∷ fs) lines n h =
-      let m : n ≤ length (started g v base lines f) = omega (arith, h, added-longer g base lines (line f 0 0 0), started-longer g v base lines f) in
-      take-drained-all fs (started g v base lines f) n m ∙ take-started lines f n h
+use Rattle.run_parts.specs.declared.Part.{Part}
+use Rattle.run_parts.specs.declared.Part.the-variants.{Whole, Main}
+use Rattle.run_parts.specs.Parts.{linesOfPart, Leaves, Holds, StagesEnd}
 
 -- a part of the plan that was not written
 same-part : (at count : ℕ) (before after : List ℕ) → ((i : ℕ) → i < count → getD after (at + i) 0 ≡ getD before (at + i) 0) → (m : ℕ) → isSet at count after m ≡ isSet at count before m
@@ -110,91 +79,128 @@ module _ (g : Graph) (before after : List ℕ) (u : Untouched (wordsAt (g .heade
         cycles = λ m h. ap (λ (x : ℕ). eqb x 1) (word-kept (cycledAt (g .header) + m) (omega arith)) ∙ p .cycles m h;
       }
 
-worked-short : {users rounds main total : ℕ} → Worked users rounds main total ≡ TooShort → ⊥
-worked-short e = let z : _≡_ {A = ℕ} 0 1 = cc in omega arith
-
 -- a record that is too short
-pub stages-short : (g : Graph) (marks row plan : List ℕ) → length row < 6 * length (runOf g .lines) → StagesEnd g marks row plan TooShort
-stages-short g marks row plan h =
+pub stages-short : (g : Graph) (part : Part) (marks row plan : List ℕ) → length row < 6 * length (linesOfPart part (runOf g)) → StagesEnd g part marks row plan Full
+stages-short g part marks row plan h =
     record {
-      holds = λ u r m t e. absurd (worked-short (sym e));
-      rounds-are = λ u r m t e. absurd (worked-short (sym e));
+      holds = λ x e. let z : _≡_ {A = ℕ} 0 1 = cc in absurd (omega arith);
       too-long = λ e. h;
     }
 
+pub stages-held : (g : Graph) (part : Part) (marks row plan : List ℕ) (x : Reached) → Holds g part marks row plan x → StagesEnd g part marks row plan (Done x)
+stages-held g part marks row plan x h =
+    record {
+      holds = λ y e. let z : x ≡ y = cc in subst (λ (w : Reached). Holds g part marks row plan w) z h;
+      too-long = λ e. let z : _≡_ {A = ℕ} 0 1 = cc in absurd (omega arith);
+    }
+
+-- the part that is asked for
+pub stages-of : {g : Graph} {part asked : Part} {marks row plan : List ℕ} {r : Work} → asked ≡ part → StagesEnd g part marks row plan r → StagesEnd g asked marks row plan r
+stages-of {g} {part} {asked} {marks} {row} {plan} {r} e s = subst (λ (p : Part). StagesEnd g p marks row plan r) (sym e) s
+
 -- the main part is the front of the run
-pub run-longer : (g : Graph) → length (mainPart g (lastVerdicts g) .end .lines) ≤ length (runOf g .lines)
+pub run-longer : (g : Graph) → length (runOf g .main) ≤ length (runOf g .lines)
 unfolding runOf withRuntime runtimeStage
 run-longer g =
     let main = mainPart g (lastVerdicts g) .end .lines in
     all-longer g (lastVerdicts g) (length main) (runtimeStarts g (lastVerdicts g) (helperUnion g (has g 0 main))) main
 
-module _ (g : Graph) (users : ℕ) (partners₁ marks₁ row₁ plan₁ : List ℕ) (r : MainEnd) (m : MainEnds g users (mainPart g (lastVerdicts g)) partners₁ marks₁ row₁ plan₁ r) where
-  pub main-short : r ≡ MainTooShort → StagesEnd g marks₁ row₁ plan₁ TooShort
-  main-short e = stages-short g marks₁ row₁ plan₁ (omega (arith, m .full e, run-longer g))
+run-taken : (g : Graph) → runOf g .taken ≤ length (runOf g .main)
+unfolding runOf withRuntime
+run-taken g = main-taken g (lastVerdicts g)
 
-  module _ {rounds main : ℕ} (e : r ≡ Ended rounds main) where
-    main-is : linesOf main row₁ ≡ runOf g .main
+module _ (g : Graph) (users : ℕ) (partners₁ marks₁ row₁ plan₁ : List ℕ) (r : Work) (m : MainEnds g users (mainPart g (lastVerdicts g)) partners₁ marks₁ row₁ plan₁ r) where
+  pub main-short : (part : Part) → r ≡ Full → StagesEnd g part marks₁ row₁ plan₁ Full
+  unfolding runOf withRuntime
+  main-short Whole e = stages-short g Whole marks₁ row₁ plan₁ (omega (arith, m .full e, run-longer g))
+  main-short Main e = stages-short g Main marks₁ row₁ plan₁ (m .full e)
+
+  module _ {x : Reached} (e : r ≡ Done x) where
+    main-is : linesOf (x .main) row₁ ≡ runOf g .main
     unfolding progressIn runOf withRuntime
-    main-is = ap (λ p. p .lines) (m .is rounds main e)
+    main-is = ap (λ p. p .lines) (m .is x e)
 
-    live-is : _≡_ {A = ℕ → Bool} (liveIn (g .header) plan₁) (runOf g .live)
-    unfolding progressIn runOf withRuntime
-    live-is = ap (λ p. p .live) (m .is rounds main e)
+    users-are : users ≡ x .users
+    users-are = ap (λ (y : Reached). y .users) (sym (m .reached x e))
 
-    dead-is : _≡_ {A = ℕ → Bool} (deadIn (g .header) plan₁) (runOf g .dead)
-    unfolding progressIn runOf withRuntime
-    dead-is = ap (λ p. p .dead) (m .is rounds main e)
-
-    rounds-is : rounds ≡ runOf g .rounds
+    rounds-is : x .rounds ≡ runOf g .rounds
     unfolding runOf withRuntime
-    rounds-is = m .rounds-are rounds main e
+    rounds-is = ap (λ (y : Reached). y .rounds) (m .reached x e)
 
-    module _ (partners₂ marks₂ row₂ plan₂ : List ℕ) (q : Added) (s : StageEnds g (linesOf main row₁) plan₁ partners₂ marks₂ row₂ plan₂ q) where
+    taken-is : x .taken ≡ runOf g .taken
+    unfolding runOf withRuntime
+    taken-is = ap (λ (y : Reached). y .taken) (m .reached x e)
+
+    taken-in : x .taken ≤ x .main
+    taken-in = omega (arith, taken-is, run-taken g, ap length main-is, lines-length (x .main) row₁)
+
+    leaves₁ : Leaves g plan₁ (x .users)
+    unfolding progressIn runOf withRuntime
+    leaves₁ =
+        record {
+          planned = subst (λ (u : ℕ). Planned g plan₁ u) users-are (m .planned x e);
+          live-are = ap (λ p. p .live) (m .is x e);
+          dead-are = ap (λ p. p .dead) (m .is x e);
+        }
+
+    total-is : x .main ≡ x .total
+    total-is = ap (λ (y : Reached). y .main) (m .reached x e) ∙ sym (ap (λ (y : Reached). y .total) (m .reached x e))
+
+    pub main-done : StagesEnd g Main marks₁ row₁ plan₁ (Done x)
+    main-done =
+        stages-held g Main marks₁ row₁ plan₁ x
+        (record {
+          main-lines = main-is;
+          all-lines = subst (λ (k : ℕ). linesOf k row₁ ≡ runOf g .main) total-is main-is;
+          held = subst (λ (k : ℕ). Held g 0 marks₁ row₁ k) total-is (m .working x e .held);
+          rounds-are = rounds-is;
+          taken-are = taken-is;
+          taken-inside = taken-in;
+          leaves = leaves₁;
+          words = λ q. let z : _≡_ {A = ℕ} 0 1 = cc in absurd (omega arith);
+        })
+
+    module _ (partners₂ marks₂ row₂ plan₂ : List ℕ) (q : Added) (s : StageEnds g (linesOf (x .main) row₁) plan₁ partners₂ marks₂ row₂ plan₂ q) where
       staged : List Line
-      staged = drainedAll g (lastVerdicts g) (length (linesOf main row₁)) (runtimeStarts g (lastVerdicts g) (helperUnion g (has g 0 (linesOf main row₁)))) (linesOf main row₁)
+      staged = drainedAll g (lastVerdicts g) (length (linesOf (x .main) row₁)) (runtimeStarts g (lastVerdicts g) (helperUnion g (has g 0 (linesOf (x .main) row₁)))) (linesOf (x .main) row₁)
 
       staged-is : staged ≡ runOf g .lines
       unfolding staged runOf withRuntime runtimeStage
       staged-is = ap (λ ls. runtimeStage g (lastVerdicts g) ls (helperUnion g (has g 0 ls))) main-is
 
-      pub stage-short : q ≡ Full → StagesEnd g marks₂ row₂ plan₂ TooShort
+      pub stage-short : q ≡ AddedFull → StagesEnd g Whole marks₂ row₂ plan₂ Full
       unfolding staged
-      stage-short f = stages-short g marks₂ row₂ plan₂ (omega (arith, s .started .grown .full f, ap length staged-is))
+      stage-short f = stages-short g Whole marks₂ row₂ plan₂ (omega (arith, s .started .grown .full f, ap length staged-is))
 
       module _ {total : ℕ} (f : q ≡ Lines total) where
-        held : Held g main marks₂ row₂ total
-        held = rw (lines-length main row₁) at (s .started .grown .held total f .1)
+        held₂ : Held g (x .main) marks₂ row₂ total
+        held₂ = rw (lines-length (x .main) row₁) at (s .started .grown .held total f .1)
 
-        front : linesOf main row₂ ≡ linesOf main row₁
+        front : linesOf (x .main) row₂ ≡ linesOf (x .main) row₁
         unfolding staged
         front =
-            let n : main ≤ length (linesOf main row₁) = omega (arith, lines-length main row₁) in
-            let k : length (linesOf main row₁) ≤ main = omega (arith, lines-length main row₁) in
-            sym (lines-take total row₂ main (held .base-inside))
-            ∙ ap (take main) (s .started .grown .held total f .0)
-            ∙ take-drained-all g (lastVerdicts g) (length (linesOf main row₁)) (runtimeStarts g (lastVerdicts g) (helperUnion g (has g 0 (linesOf main row₁)))) (linesOf main row₁) main n
-            ∙ take-all main (linesOf main row₁) k
+            let n : x .main ≤ length (linesOf (x .main) row₁) = omega (arith, lines-length (x .main) row₁) in
+            let k : length (linesOf (x .main) row₁) ≤ x .main = omega (arith, lines-length (x .main) row₁) in
+            sym (lines-take total row₂ (x .main) (held₂ .base-inside))
+            ∙ ap (take (x .main)) (s .started .grown .held total f .0)
+            ∙ take-drained-all g (lastVerdicts g) (length (linesOf (x .main) row₁)) (runtimeStarts g (lastVerdicts g) (helperUnion g (has g 0 (linesOf (x .main) row₁)))) (linesOf (x .main) row₁) (x .main) n
+            ∙ take-all (x .main) (linesOf (x .main) row₁) k
 
-        stage-holds : Holds g marks₂ row₂ plan₂ users main total
+        pub stages-done : StagesEnd g Whole marks₂ row₂ plan₂ (Done (record { users = x .users; rounds = x .rounds; taken = x .taken; main = x .main; total = total }))
         unfolding staged
-        stage-holds =
-            record {
+        stages-done =
+            stages-held g Whole marks₂ row₂ plan₂ (record { users = x .users; rounds = x .rounds; taken = x .taken; main = x .main; total = total })
+            (record {
               main-lines = front ∙ main-is;
               all-lines = s .started .grown .held total f .0 ∙ staged-is;
-              held = held;
-              planned = planned-kept g plan₁ plan₂ (s .others) (m .planned rounds main e);
-              live-are = live-kept g plan₁ plan₂ (s .others) ∙ live-is;
-              dead-are = dead-kept g plan₁ plan₂ (s .others) ∙ dead-is;
-              words = λ k h. (s .words k h .0 ∙ ap (λ ls. helperWord g (has g 0 ls) k) main-is, s .words k h .1);
-            }
-
-        pub stages-done : StagesEnd g marks₂ row₂ plan₂ (Worked users rounds main total)
-        stages-done =
-            record {
-              holds = λ u n k t w.
-                  (let a : users ≡ u = cc in let b : main ≡ k = cc in let d : total ≡ t = cc in
-                  let h : Holds g marks₂ row₂ plan₂ users main total = stage-holds in rw (a, b, d) at h);
-              rounds-are = λ u n k t w. (let a : n ≡ rounds = cc in a ∙ rounds-is);
-              too-long = λ w. absurd (worked-short w);
-            }
+              held = held₂;
+              rounds-are = rounds-is;
+              taken-are = taken-is;
+              taken-inside = taken-in;
+              leaves = record {
+                planned = planned-kept g plan₁ plan₂ (s .others) (leaves₁ .planned);
+                live-are = live-kept g plan₁ plan₂ (s .others) ∙ leaves₁ .live-are;
+                dead-are = dead-kept g plan₁ plan₂ (s .others) ∙ leaves₁ .dead-are;
+              };
+              words = λ w k h. (s .words k h .0 ∙ ap (λ ls. helperWord g (has g 0 ls) k) main-is, s .words k h .1);
+            })

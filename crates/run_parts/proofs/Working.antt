@@ -1,6 +1,6 @@
 -- The work: the rows that it begins with, and what it leaves.
 use Prim.Native.Nat.{ℕ, _+_, _*_, _≤_}
-use mathlib.Core.Path.{_≡_, ap, _∙_, sym}
+use mathlib.Core.Path.{_≡_, ap, _∙_}
 use mathlib.Core.List.{List, []}
 use native.Mathlib.Omega.{arith}
 use lib.ListN.{length, getD, replicate, length-replicate}
@@ -12,10 +12,11 @@ use Rattle.keep_record.proofs.Rows.{no-lines, held-cleared}
 use Rattle.worklist.specs.Drain.{moduleLine}
 use Rattle.worklist.specs.Links.{firstForward, lastForward, Linked}
 use Rattle.entry_starts.specs.Working.{Working}
-use Rattle.run_parts.specs.declared.BothStages.{BothStages}
-use Rattle.run_parts.specs.declared.BothStages.the-variants.{Worked, TooShort}
-use Rattle.run_parts.specs.Parts.{WorkEnds}
-use Rattle.run_parts.specs.Steps.{StagesEnd}
+use Rattle.tree_shaking.specs.declared.Reached.{Reached}
+use Rattle.tree_shaking.specs.declared.Work.{Work}
+use Rattle.tree_shaking.specs.declared.Work.the-variants.{Done, Full}
+use Rattle.run_parts.specs.declared.Part.{Part}
+use Rattle.run_parts.specs.Parts.{StagesEnd, WorkEnds}
 
 linked-none : (g : Graph) (links : List ℕ) → 3 * g .header .modules + g .header .symbols ≤ length links → ((i : ℕ) → getD links i 0 ≡ 0) → Linked g 0 links []
 unfolding moduleLine firstForward lastForward
@@ -43,23 +44,14 @@ working-start g marks₀ row₀ partners marks row h l z a b =
       linked = rw (no-lines row) (linked-none g partners l z);
     }
 
-clash : {users rounds main total : ℕ} → Worked users rounds main total ≡ TooShort → ⊥
-clash e = let z : _≡_ {A = ℕ} 0 1 = cc in omega arith
+module _ (g : Graph) (part : Part) (marks₀ row₀ marks₁ row₁ plan : List ℕ) (r : Work) (s : StagesEnd g part marks₁ row₁ plan r) where
+  pub work-holds : {x : Reached} → r ≡ Done x → WorkEnds g part marks₀ row₀ marks₁ row₁ plan (Done x)
+  work-holds e = record { holds = λ y q. s .holds y (e ∙ q); too-long = λ q. let z : _≡_ {A = ℕ} 0 1 = cc in absurd (omega arith) }
 
-module _ (g : Graph) (marks₀ row₀ marks₁ row₁ plan : List ℕ) (r : BothStages) (s : StagesEnd g marks₁ row₁ plan r) where
-  pub work-holds : {users rounds main total : ℕ} → r ≡ Worked users rounds main total → WorkEnds g marks₀ row₀ marks₁ row₁ plan (Worked users rounds main total)
-  work-holds e =
-      record {
-        holds = λ u n m t q. s .holds u n m t (e ∙ q);
-        rounds-are = λ u n m t q. s .rounds-are u n m t (e ∙ q);
-        too-long = λ q. absurd (clash q);
-      }
-
-  pub work-short : (marks row : List ℕ) → r ≡ TooShort → length marks₁ ≡ length marks₀ → length row₁ ≡ length row₀ → marks ≡ replicate (length marks₁) 0 → row ≡ replicate (length row₁) 0
-      → WorkEnds g marks₀ row₀ marks row plan TooShort
+  pub work-short : (marks row : List ℕ) → r ≡ Full → length marks₁ ≡ length marks₀ → length row₁ ≡ length row₀ → marks ≡ replicate (length marks₁) 0 → row ≡ replicate (length row₁) 0
+      → WorkEnds g part marks₀ row₀ marks row plan Full
   work-short marks row e a b m n =
       record {
-        holds = λ u k w t q. absurd (clash (sym q));
-        rounds-are = λ u k w t q. absurd (clash (sym q));
+        holds = λ x q. let z : _≡_ {A = ℕ} 0 1 = cc in absurd (omega arith);
         too-long = λ q. (omega (arith, s .too-long e, b), m ∙ ap (λ k. replicate k 0) a, n ∙ ap (λ k. replicate k 0) b);
       }

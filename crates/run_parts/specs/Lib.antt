@@ -2,4 +2,3 @@
 --     `entriesAfter`, `Runs`.
 pub mod Operation
 pub mod Parts
-pub mod Steps

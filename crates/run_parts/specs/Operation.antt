@@ -16,6 +16,7 @@ use Rattle.answer_rows.specs.declared.Row.{Row}
 use Rattle.answer_rows.specs.declared.Row.the-variants.{Modules, Statements, Used, External, Json, NamespaceReason}
 use Rattle.answer_rows.specs.Shown.{bytesOf, shownRow, rowsEnough}
 use Rattle.tree_shaking.specs.Rounds.{finalEntries}
+use Rattle.run_parts.specs.declared.Totals.{Totals}
 use Rattle.run_parts.specs.declared.Ran.{Ran}
 use Rattle.run_parts.specs.declared.Ran.the-variants.{Done, Refused}
 use Rattle.run_rows.specs.Run.{Run, runOf, recordCount, deadRow, helpersRow, entriesRow}
@@ -80,7 +81,7 @@ roomsOf r =
       entries = length (r .entries);
     }
 
--- the rows that only a run has: dead bits, helper words, entries
+-- marks and answer rows are long enough: the six that a drain has too, and those that only a run has, dead bits, helper words, entries
 unfoldable pub enough : Graph → Rooms → Bool
 enough g room =
     leb (bytesFor (markCount g)) (room .marks)
@@ -104,11 +105,21 @@ outcomeIn g room = elim (enough g room) [ true ↦ worked g (runOf g) (room .lin
 unfoldable pub outcomeOf : List ℕ → Rooms → Outcome
 outcomeOf numbers room = elim (checkOf numbers) [ got g q ↦ outcomeIn g room | fault n p ↦ before n p ]
 
--- the answer: rounds, lines of the main part, lines of the runtime stage, final entries; or a refusal's number and place
+-- what a run comes to: rounds, lines of the main part, lines of the runtime stage, final entries
+abbrev pub totalsOf : Graph → Run → Totals
+totalsOf g r =
+    record {
+      rounds = r .rounds;
+      lines = length (r .main);
+      «runtime_lines» = length (r .lines) - length (r .main);
+      entries = length (finalEntries g (r .live));
+    }
+
+-- the answer: that, or a refusal's number and place
 unfoldable pub answered : Outcome → Ran
 answered (before n p) = Refused n p
 answered short = Refused 5 0
-answered (done g r) = Done (r .rounds) (length (r .main)) (length (r .lines) - length (r .main)) (length (finalEntries g (r .live)))
+answered (done g r) = Done (totalsOf g r)
 
 -- the marks: as the runtime stage leaves them, in a row that is cleared whole
 unfoldable pub marksAfter : Outcome → List ℕ → List ℕ

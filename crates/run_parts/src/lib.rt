@@ -1,36 +1,46 @@
-// The run's parts: getting ready, working and showing what was kept.
-// Getting ready is handed the lengths of the lent rows, not the rows. No answer row is written before the last refusal is excluded.
+// The run's parts: whether it may begin, its work, what only a run shows, and all in their order.
+// Whether it may begin is told from the lengths of the lent rows, without the rows. No answer row is written before the last refusal is excluded.
 ghost use mathlib.Core.Path.{_≡_};
 ghost use Prim.Native.Nat.{ℕ, _+_, _*_, _-_, _<_, _≤_};
 ghost use mathlib.Core.Bool.{Bool, true, false};
-ghost use mathlib.Core.List.{List, [], _∷_};
 ghost use lib.ListN.{length, getD, replicate};
 ghost use Rattle.bit_row.specs.Row.{bytesFor};
-ghost use Rattle.tables.specs.Layout.{startOf};
+ghost use Rattle.tables.specs.Layout.{startOf, allSections};
 ghost use Rattle.graph_tables.specs.Tables.{headerIn};
 ghost use Rattle.graph.specs.Check.{graphIn, HeaderRead};
 ghost use Rattle.graph.specs.Loaded.{Loaded};
 ghost use Rattle.facts.specs.Facts.{markCount};
 ghost use Rattle.keep_rules.specs.Prepared.{Prepared};
+ghost use Rattle.worklist.specs.Links.{partnersSize};
 ghost use Rattle.answer_rows.specs.Tabled.{FirstBytes};
 ghost use Rattle.entry_order.specs.Plan.{planSize};
 ghost use Rattle.entry_starts.specs.Working.{Working};
-ghost use Rattle.tree_shaking.specs.Rounds.{finalEntries};
-ghost use Rattle.run_rows.specs.Run.{runOf};
-ghost use Rattle.run_parts.specs.Operation.{rows as rowsOf, enough};
-ghost use Rattle.run_parts.specs.Parts.{roomFor, Readied, WorkEnds, RowsShown};
-ghost use Rattle.run_parts.specs.Steps.{StagesEnd, Shows, RowsFit};
-use answer_rows::Row;
+ghost use Rattle.run_parts.specs.Operation.{rows as rowsOf, enough, Runs};
+ghost use Rattle.run_parts.specs.Parts.{roomFor, MayBegin, StagesEnd, WorkEnds, Shows, RowsFit, RunShown};
 use graph::Checked;
 use graph_format::Header;
 use keep_record::Added;
-use tree_shaking::MainEnd;
+use tree_shaking::Reached;
+use tree_shaking::Work;
 
-// How a run ends: how many rounds it made, how many lines the main part and the runtime stage have, how many final entries there are; or a
-// refusal's number and its place.
+// What a run comes to: how many rounds it made, how many lines the main part and the runtime stage have, and how many final entries there are.
+pub struct Totals {
+    pub rounds: usize,
+    pub lines: usize,
+    pub runtime_lines: usize,
+    pub entries: usize,
+}
+
+// How a run ends; or a refusal's number and its place.
 pub enum Ran {
-    Done(usize, usize, usize, usize),
+    Done(Totals),
     Refused(u32, usize),
+}
+
+// Which part of a run is made: all of it, or what comes before the runtime stage.
+pub enum Part {
+    Whole,
+    Main,
 }
 
 // The lengths of marks and answer rows.
@@ -45,19 +55,6 @@ pub struct Lengths {
     pub dead: usize,
     pub helpers: usize,
     pub entries: usize,
-}
-
-// Whether a run may begin: its tables are filled and all lengths but the record's are enough; or it is refused.
-pub enum Readiness {
-    Good,
-    Refused(u32, usize),
-}
-
-// How the work ends: how many user-defined entries there are, how many rounds were made, how many lines the main part has, and how many there are
-// in all; or the record is too short.
-pub enum BothStages {
-    Worked(usize, usize, usize, usize),
-    TooShort,
 }
 
 // Whether marks and answer rows of these lengths are long enough.
@@ -89,25 +86,24 @@ fn are_enough(numbers: &[u32], tables: &[usize], l: Lengths) -> bool
     l.entries >= h.entries
 }
 
-// Gets ready: loads and checks the graph, fills the tables, and compares the lengths of marks and answer rows.
-pub fn ready(numbers: &[u32], h: Header, lengths: Lengths, tables: &mut [usize]) -> Readiness
+// Whether a run may begin: the graph is accepted and its tables are filled, and all lengths but the record's are enough.
+fn may_begin(numbers: &[u32], h: Header, lengths: Lengths, tables: &mut [usize]) -> Checked
     requires { ⌜ HeaderRead (now numbers) h ⌝ }
-    requires { ⌜ (startOf h 10 ≤ length (now tables)) × (length (now tables) < 4294967296) ⌝ }
-    ensures { λ r. ⌜ Readied (now (numbers .entry)) lengths (now (tables .exit)) r ⌝ }
+    requires { ⌜ (startOf h allSections ≤ length (now tables)) × (length (now tables) < 4294967296) ⌝ }
+    ensures { λ r. ⌜ MayBegin (now (numbers .entry)) lengths (now (tables .exit)) r ⌝ }
 {
-    match graph::load(numbers, h, tables) {
-        Checked::Refused(n, p) => Readiness::Refused(n, p),
+    match rule_tables::ready(numbers, h, tables) {
+        Checked::Refused(n, p) => Checked::Refused(n, p),
         Checked::Accepted => {
-            rule_tables::fill(numbers, tables);
             if !are_enough(numbers, tables, lengths) {
-                return Readiness::Refused(5, 0);
+                return Checked::Refused(5, 0);
             }
-            Readiness::Good
+            Checked::Accepted
         }
     }
 }
 
-// The two stages over cleared rows.
+// The stages of a part over cleared rows.
 fn stages(
     numbers: &[u32],
     tables: &[usize],
@@ -115,25 +111,43 @@ fn stages(
     marks: &mut [u8],
     lines: &mut [u32],
     plan: &mut [usize],
-) -> BothStages
+    part: Part,
+) -> Work
     requires { ⌜ Prepared (now numbers) (now tables) ⌝ }
     requires { ⌜ Working (graphIn (now numbers)) 0 (now partners) (now marks) (now lines) 0 ⌝ }
     requires { ⌜ (planSize (headerIn (now numbers)) ≤ length (now plan)) × (length (now plan) < 4294967296) × ((i : ℕ) → getD (now plan) i 0 ≡ 0) ⌝ }
-    ensures { λ r. ⌜ StagesEnd (graphIn (now (numbers .entry))) (now (marks .exit)) (now (lines .exit)) (now (plan .exit)) r ⌝ }
+    ensures { λ r. ⌜ StagesEnd (graphIn (now (numbers .entry))) part (now (marks .exit)) (now (lines .exit)) (now (plan .exit)) r ⌝ }
 {
     let users = entry_sizes::order_entries(numbers, tables, plan);
     match tree_shaking::main_part(numbers, tables, partners, marks, lines, plan, users) {
-        MainEnd::TooShort => BothStages::TooShort,
-        MainEnd::Ended(rounds, main) => {
-            match tree_shaking::runtime_stage(numbers, tables, partners, marks, lines, plan, main) {
-                Added::Full => BothStages::TooShort,
-                Added::Lines(total) => BothStages::Worked(users, rounds, main, total),
+        Work::Full => Work::Full,
+        Work::Done(x) => match part {
+            Part::Main => Work::Done(x),
+            Part::Whole => {
+                match tree_shaking::runtime_stage(
+                    numbers,
+                    tables,
+                    partners,
+                    marks,
+                    lines,
+                    plan,
+                    x.main,
+                ) {
+                    Added::Full => Work::Full,
+                    Added::Lines(total) => Work::Done(Reached {
+                        users: x.users,
+                        rounds: x.rounds,
+                        taken: x.taken,
+                        main: x.main,
+                        total,
+                    }),
+                }
             }
-        }
+        },
     }
 }
 
-// The work: marks and record are cleared, and hold the lines of both stages afterwards, or are cleared again where the record is short.
+// The work: marks and record are cleared, and hold the lines of the part afterwards, or are cleared again where the record is short.
 pub fn work(
     numbers: &[u32],
     tables: &[usize],
@@ -141,37 +155,54 @@ pub fn work(
     marks: &mut [u8],
     lines: &mut [u32],
     plan: &mut [usize],
-) -> BothStages
+    part: Part,
+) -> Work
     requires { ⌜ Prepared (now numbers) (now tables) ⌝ }
-    requires { ⌜ (bytesFor (markCount (graphIn (now numbers))) ≤ length (now marks)) × (3 * headerIn (now numbers) .modules + headerIn (now numbers) .symbols ≤ length (now partners)) × ((i : ℕ) → getD (now partners) i 0 ≡ 0) ⌝ }
+    requires { ⌜ (bytesFor (markCount (graphIn (now numbers))) ≤ length (now marks)) × (partnersSize (headerIn (now numbers)) ≤ length (now partners)) × ((i : ℕ) → getD (now partners) i 0 ≡ 0) ⌝ }
     requires { ⌜ (planSize (headerIn (now numbers)) ≤ length (now plan)) × (length (now plan) < 4294967296) × ((i : ℕ) → getD (now plan) i 0 ≡ 0) ⌝ }
-    ensures { λ r. ⌜ WorkEnds (graphIn (now (numbers .entry))) (now (marks .entry)) (now (lines .entry)) (now (marks .exit)) (now (lines .exit)) (now (plan .exit)) r ⌝ }
+    ensures { λ r. ⌜ WorkEnds (graphIn (now (numbers .entry))) part (now (marks .entry)) (now (lines .entry)) (now (marks .exit)) (now (lines .exit)) (now (plan .exit)) r ⌝ }
 {
     keep_record::clear(marks, lines);
-    match stages(numbers, tables, partners, marks, lines, plan) {
-        BothStages::TooShort => {
+    match stages(numbers, tables, partners, marks, lines, plan, part) {
+        Work::Full => {
             keep_record::clear(marks, lines);
-            BothStages::TooShort
+            Work::Full
         }
-        BothStages::Worked(users, rounds, main, total) => BothStages::Worked(
-            users,
-            rounds,
-            main,
-            total,
-        ),
+        Work::Done(x) => Work::Done(x),
     }
 }
 
-// Writes the nine answer rows. The table of partners and the plan's order are used up. Gives how many final entries there are.
-pub fn show_all(
+// Writes the rows that only a run has: dead bits, helper words, final entries. The plan's order is used up, and `scratch`, which has a word for each
+// module and each entry. Gives how many final entries there are.
+fn show_run(
     numbers: &[u32],
     tables: &[usize],
+    plan: &mut [usize],
+    users: usize,
+    scratch: &mut [usize],
+    dead: &mut [u8],
+    helpers: &mut [u32],
+    entries: &mut [u32],
+) -> usize
+    requires { ⌜ Prepared (now numbers) (now tables) ⌝ }
+    requires { ⌜ Shows (graphIn (now numbers)) (now plan) users ⌝ }
+    requires { ⌜ (headerIn (now numbers) .modules + headerIn (now numbers) .entries ≤ length (now scratch)) × RowsFit (graphIn (now numbers)) (length (now dead)) (length (now helpers)) (length (now entries)) ⌝ }
+    ensures { λ r. ⌜ RunShown (graphIn (now (numbers .entry))) (now (dead .entry)) (now (helpers .entry)) (now (entries .entry)) (now (dead .exit)) (now (helpers .exit)) (now (entries .exit)) r ⌝ }
+{
+    run_rows::show_dead(numbers, tables, plan, scratch, dead);
+    run_rows::show_helpers(numbers, plan, helpers);
+    run_rows::show_entries(numbers, tables, plan, users, scratch, entries)
+}
+
+// The run with tables, partners and a plan that hold the graph. Partners and plan are cleared.
+pub fn run_in(
+    numbers: &[u32],
+    h: Header,
+    tables: &mut [usize],
     partners: &mut [usize],
     plan: &mut [usize],
-    lines: &[u32],
-    users: usize,
-    main: usize,
-    total: usize,
+    marks: &mut [u8],
+    lines: &mut [u32],
     modules_row: &mut [u8],
     statements_row: &mut [u8],
     used: &mut [u8],
@@ -181,26 +212,68 @@ pub fn show_all(
     dead: &mut [u8],
     helpers: &mut [u32],
     entries: &mut [u32],
-) -> usize
-    requires { ⌜ Prepared (now numbers) (now tables) × FirstBytes (now numbers) (now tables) ⌝ }
-    requires { ⌜ Shows (graphIn (now numbers)) (now lines) (now plan) users main total ⌝ }
-    requires { ⌜ (headerIn (now numbers) .modules + headerIn (now numbers) .entries ≤ length (now partners)) × RowsFit (graphIn (now numbers)) (rowsOf [] [] (now «modules_row») (now «statements_row») (now used) (now external) (now json) (now reason) (now dead) (now helpers) (now entries)) ⌝ }
-    ensures { λ r. ⌜ (r ≡ length (finalEntries (graphIn (now (numbers .entry))) (runOf (graphIn (now (numbers .entry))) .live))) × RowsShown (graphIn (now (numbers .entry))) (runOf (graphIn (now (numbers .entry)))) (rowsOf [] [] (now («modules_row» .entry)) (now («statements_row» .entry)) (now (used .entry)) (now (external .entry)) (now (json .entry)) (now (reason .entry)) (now (dead .entry)) (now (helpers .entry)) (now (entries .entry))) (rowsOf [] [] (now («modules_row» .exit)) (now («statements_row» .exit)) (now (used .exit)) (now (external .exit)) (now (json .exit)) (now (reason .exit)) (now (dead .exit)) (now (helpers .exit)) (now (entries .exit))) ⌝ }
+) -> Ran
+    requires { ⌜ HeaderRead (now numbers) h ⌝ }
+    requires { ⌜ (startOf h allSections ≤ length (now tables)) × (length (now tables) < 4294967296) ⌝ }
+    requires { ⌜ (partnersSize h ≤ length (now partners)) × (h .modules + h .entries ≤ length (now partners)) × ((i : ℕ) → getD (now partners) i 0 ≡ 0) ⌝ }
+    requires { ⌜ (planSize h ≤ length (now plan)) × (length (now plan) < 4294967296) × ((i : ℕ) → getD (now plan) i 0 ≡ 0) ⌝ }
+    ensures { λ r. ⌜ Runs (now (numbers .entry)) r (rowsOf (now (marks .entry)) (now (lines .entry)) (now («modules_row» .entry)) (now («statements_row» .entry)) (now (used .entry)) (now (external .entry)) (now (json .entry)) (now (reason .entry)) (now (dead .entry)) (now (helpers .entry)) (now (entries .entry))) (rowsOf (now (marks .exit)) (now (lines .exit)) (now («modules_row» .exit)) (now («statements_row» .exit)) (now (used .exit)) (now (external .exit)) (now (json .exit)) (now (reason .exit)) (now (dead .exit)) (now (helpers .exit)) (now (entries .exit))) ⌝ }
 {
-    answer_rows::show(numbers, tables, Row::Modules, lines, total, modules_row);
-    answer_rows::show(
-        numbers,
-        tables,
-        Row::Statements,
-        lines,
-        total,
-        statements_row,
-    );
-    answer_rows::show(numbers, tables, Row::Used, lines, total, used);
-    answer_rows::show(numbers, tables, Row::External, lines, total, external);
-    answer_rows::show(numbers, tables, Row::Json, lines, main, json);
-    answer_rows::show(numbers, tables, Row::NamespaceReason, lines, main, reason);
-    run_rows::show_dead(numbers, tables, plan, partners, dead);
-    run_rows::show_helpers(numbers, plan, helpers);
-    run_rows::show_entries(numbers, tables, plan, users, partners, entries)
+    let lengths = Lengths {
+        marks: marks.len(),
+        modules: modules_row.len(),
+        statements: statements_row.len(),
+        used: used.len(),
+        external: external.len(),
+        json: json.len(),
+        reason: reason.len(),
+        dead: dead.len(),
+        helpers: helpers.len(),
+        entries: entries.len(),
+    };
+    match may_begin(numbers, h, lengths, tables) {
+        Checked::Refused(n, p) => Ran::Refused(n, p),
+        Checked::Accepted => match work(
+            numbers,
+            tables,
+            partners,
+            marks,
+            lines,
+            plan,
+            Part::Whole,
+        ) {
+            Work::Full => Ran::Refused(5, 0),
+            Work::Done(x) => {
+                answer_rows::show_all(
+                    numbers,
+                    tables,
+                    lines,
+                    x.main,
+                    x.total,
+                    modules_row,
+                    statements_row,
+                    used,
+                    external,
+                    json,
+                    reason,
+                );
+                let count = show_run(
+                    numbers,
+                    tables,
+                    plan,
+                    x.users,
+                    partners,
+                    dead,
+                    helpers,
+                    entries,
+                );
+                Ran::Done(Totals {
+                    rounds: x.rounds,
+                    lines: x.main,
+                    runtime_lines: x.total - x.main,
+                    entries: count,
+                })
+            }
+        },
+    }
 }

@@ -16,10 +16,11 @@ use Rattle.dynamic_entries.specs.Tries.{Progress}
 use Rattle.passes.specs.Helpers.{helperWord, helperUnion}
 use Rattle.tree_shaking.specs.Rounds.{Ended, mainPart, finalEntries, runtimeStage}
 
--- how many rounds there were, the lines of the main part, those with the lines of the runtime stage behind them, and which entries were
--- live or found dead
+-- how many rounds there were, how many lines when the last one began, the lines of the main part, those with the lines of the runtime stage behind
+-- them, and which entries were live or found dead
 pub record Run : Type 0 where
   pub rounds : ℕ
+  pub taken : ℕ
   pub main : List Line
   pub lines : List Line
   pub live : ℕ → Bool
@@ -30,6 +31,7 @@ unfoldable pub withRuntime : Graph → List ℕ → Ended → Run
 withRuntime g v e =
     record {
       rounds = e .rounds;
+      taken = e .taken;
       main = e .end .lines;
       lines = runtimeStage g v (e .end .lines) (helperUnion g (has g 0 (e .end .lines)));
       live = e .end .live;

@@ -99,9 +99,10 @@ pub fn show_dead(
     let records = record_count(numbers, tables);
     bit_row::clear(bits, bit_row::bytes_for(records));
     fill_first_records(numbers, tables, firsts);
+    let dead = entry_order::dead_at(h);
     let mut e: usize = 0;
     while e < h.entries {
-        if plan[h.entries + h.modules + e] == 1 {
+        if plan[dead + e] == 1 {
             show_dead_of(numbers, tables, firsts, EntryIdx(e), bits);
         }
         e += 1;
@@ -115,7 +116,7 @@ pub fn show_helpers(numbers: &[u32], plan: &[usize], words: &mut [u32])
     ensures { λ _. ⌜ now (words .exit) ≡ tabulate (λ m. getD (now (plan .entry)) (wordsAt (headerIn (now (numbers .entry))) + m) 0) 0 (headerIn (now (numbers .entry)) .modules) ++ drop (headerIn (now (numbers .entry)) .modules) (now (words .entry)) ⌝ }
 {
     let h = graph::header_of(numbers);
-    let at = 2 * h.entries + 2 * h.modules;
+    let at = entry_order::words_at(h);
     let mut m: usize = 0;
     while m < h.modules {
         words[m] = facts::narrow(plan[at + m]);
@@ -145,7 +146,8 @@ fn is_final(
     let h = graph::header_of(numbers);
     let m = entries::entry_module(numbers, tables, EntryIdx(plan[i]));
     let u = m.0;
-    plan[h.entries + u] == 1
+    let live = entry_order::live_at(h);
+    plan[live + u] == 1
 }
 
 // Brings the final entries of the plan to its front. Gives how many there are.

@@ -1,1 +1,3 @@
+pub mod Tiers
+pub mod Giving
 pub mod Ending

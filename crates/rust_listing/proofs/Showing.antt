@@ -1,5 +1,5 @@
 -- The rows of an answer over an accepted graph show what the Rust has.
-use Prim.Native.Nat.{ℕ, _+_, _*_, _-_, _<_}
+use Prim.Native.Nat.{ℕ, _+_, _*_, _<_}
 use mathlib.Core.Path.{_≡_, refl, ap, _∙_, sym, subst}
 use mathlib.Core.Logic.{_↔_}
 use mathlib.Core.Bool.{Bool, true, _&&_}
@@ -21,7 +21,7 @@ use Rattle.tree_shaking.specs.Rounds.{finalEntries}
 use Rattle.run_rows.specs.Run.{Run, runOf}
 use Rattle.run_parts.specs.declared.Ran.the-variants.{Done}
 use Rattle.run_parts.specs.Operation as operation
-use Rattle.run_parts.specs.Operation.{Rows, rows, roomsOf, outcomeOf, done, answered, marksAfter, recordAfter, rowAfter, deadAfter, helpersAfter, entriesAfter, Ends}
+use Rattle.run_parts.specs.Operation.{Rows, rows, roomsOf, outcomeOf, done, totalsOf, answered, marksAfter, recordAfter, rowAfter, deadAfter, helpersAfter, entriesAfter, Ends}
 use Rattle.listing.specs.Listing.{Shown}
 use Rattle.answer_text.specs.Program.{programRooms, shownOf}
 use Rattle.answer_text.proofs.Texts.{lentRows, rooms-are}
@@ -60,7 +60,7 @@ afterRows g r lent =
     (rowAfter External o (lent .external)) (rowAfter Json o (lent .json)) (rowAfter NamespaceReason o (lent .reason)) (deadAfter o (lent .dead)) (helpersAfter o (lent .helpers)) (entriesAfter o (lent .entries))
 
 ends : (g : Graph) (r : Run) (lent : Rows)
-    → Ends (done g r) (Done (r .rounds) (length (r .main)) (length (r .lines) - length (r .main)) (length (finalEntries g (r .live)))) lent (afterRows g r lent)
+    → Ends (done g r) (Done (totalsOf g r)) lent (afterRows g r lent)
 unfolding answered
 ends g r lent =
     record {
@@ -110,8 +110,8 @@ module _ (numbers : List ℕ) (ok : answerOf (checkOf numbers) ≡ Accepted) (o 
 
     agree : RowsAgree g o (r .rounds) (length (finalEntries g (r .live))) after
     agree =
-        run-shows-rust numbers lent after (r .rounds) (length (r .main)) (length (r .lines) - length (r .main)) (length (finalEntries g (r .live)))
-        (subst (λ (w : operation.Outcome). Ends w (Done (r .rounds) (length (r .main)) (length (r .lines) - length (r .main)) (length (finalEntries g (r .live)))) lent after) (sym is) (ends g r lent)) o x
+        run-shows-rust numbers lent after (totalsOf g r)
+        (subst (λ (w : operation.Outcome). Ends w (Done (totalsOf g r)) lent after) (sym is) (ends g r lent)) o x
 
     reason-byte : (m : ℕ) → m < g .header .modules → getD (after .reason) m 0 ≡ reasonNumber o m
     unfolding rowAfter reasonNumber

@@ -28,6 +28,7 @@ use Rattle.passes.specs.Helpers.{helperWord, helperUnion, runtimeStarts}
 use Rattle.tree_shaking.specs.Rounds.{mainPart, runtimeStage, finalEntries}
 use Rattle.run_rows.specs.Run.{Run, withRuntime, runOf, recordCount, isDeadRecord, deadRow, helpersRow, entriesRow}
 use Rattle.run_rows.proofs.Numbering.{record-inside}
+use Rattle.run_parts.specs.declared.Totals.{Totals}
 use Rattle.run_parts.specs.declared.Ran.the-variants.{Done, Refused}
 use Rattle.run_parts.specs.Operation as operation
 use Rattle.run_parts.specs.Operation.{Rows, roomsOf, outcomeOf, before, short, done, answered, rowAfter, deadAfter, helpersAfter, entriesAfter, Ends}
@@ -150,16 +151,16 @@ module _ (g : Graph) (r : Run) (o : Outcome) (agrees : Agrees g o r) (lent : Lis
 
 -- The rows of a run that is done ---------------------------------------------------------------------------------------------------------
 
-module _ (g : Graph) (r : Run) (lent after : Rows) (rounds main stage entries : ℕ) (ends : Ends (done g r) (Done rounds main stage entries) lent after) where
-  rounds-same : rounds ≡ r .rounds
+module _ (g : Graph) (r : Run) (lent after : Rows) (totals : Totals) (ends : Ends (done g r) (Done totals) lent after) where
+  rounds-same : totals .rounds ≡ r .rounds
   unfolding answered
   rounds-same = let e = ends .answer in cc
 
-  entries-same : entries ≡ length (finalEntries g (r .live))
+  entries-same : totals .entries ≡ length (finalEntries g (r .live))
   unfolding answered
   entries-same = let e = ends .answer in cc
 
-  rows-agree : ((f : Fact) → HasLine (r .lines) f → Good g f) → (o : Outcome) → Agrees g o r → RowsAgree g o rounds entries after
+  rows-agree : ((f : Fact) → HasLine (r .lines) f → Good g f) → (o : Outcome) → Agrees g o r → RowsAgree g o (totals .rounds) (totals .entries) after
   unfolding rowAfter deadAfter helpersAfter entriesAfter
   rows-agree good o a =
       record {
@@ -178,19 +179,19 @@ module _ (g : Graph) (r : Run) (lent after : Rows) (rounds main stage entries : 
       }
 
 -- T11 at the boundary: a refused run answers otherwise, so this one is done, with the graph's own run
-not-refused : (rounds main stage entries n p : ℕ) → Done rounds main stage entries ≡ Refused n p → ⊥
-not-refused rounds main stage entries n p e = let z : _≡_ {A = ℕ} 0 1 = cc in omega arith
+not-refused : (totals : Totals) (n p : ℕ) → Done totals ≡ Refused n p → ⊥
+not-refused totals n p e = let z : _≡_ {A = ℕ} 0 1 = cc in omega arith
 
 pub run-shows-rust : RunShowsRust
 unfolding answered
-run-shows-rust numbers lent after rounds main stage entries runs o x = go (outcomeOf numbers (roomsOf lent)) refl
+run-shows-rust numbers lent after totals runs o x = go (outcomeOf numbers (roomsOf lent)) refl
   where
-    go : (w : operation.Outcome) → outcomeOf numbers (roomsOf lent) ≡ w → RowsAgree (graphIn numbers) o rounds entries after
-    go (before n p) e = absurd (not-refused rounds main stage entries n p (runs .answer ∙ ap answered e))
-    go short e = absurd (not-refused rounds main stage entries 5 0 (runs .answer ∙ ap answered e))
+    go : (w : operation.Outcome) → outcomeOf numbers (roomsOf lent) ≡ w → RowsAgree (graphIn numbers) o (totals .rounds) (totals .entries) after
+    go (before n p) e = absurd (not-refused totals n p (runs .answer ∙ ap answered e))
+    go short e = absurd (not-refused totals 5 0 (runs .answer ∙ ap answered e))
     go (done g r) e =
         let d = run-done numbers (roomsOf lent) g r e in
         let w : done g r ≡ done (graphIn numbers) (runOf (graphIn numbers)) = ap (λ h. done h r) (d .graph-is) ∙ ap (λ (y : Run). done (graphIn numbers) y) (d .run-is) in
-        rows-agree (graphIn numbers) (runOf (graphIn numbers)) lent after rounds main stage entries
-        (subst (λ (y : operation.Outcome). Ends y (Done rounds main stage entries) lent after) (e ∙ w) runs)
+        rows-agree (graphIn numbers) (runOf (graphIn numbers)) lent after totals
+        (subst (λ (y : operation.Outcome). Ends y (Done totals) lent after) (e ∙ w) runs)
         (lines-good numbers (d .accepted)) o (rust-agrees numbers (d .accepted) o x)

@@ -106,7 +106,7 @@ module _ (numbers : List ℕ) (ok : answerOf (checkOf numbers) ≡ Accepted) whe
     pub taken : List ℕ
     pub beside : Beside numbers ok z (e .end) taken
 
-  pub stops : (fuel made k : ℕ) (p : Progress) → keptModule (length (p .lines)) (round g v k p .lines) ≡ false → roundsFrom g v (suc fuel) made k p ≡ endedAt (made + 1) (round g v k p)
+  pub stops : (fuel made k : ℕ) (p : Progress) → keptModule (length (p .lines)) (round g v k p .lines) ≡ false → roundsFrom g v (suc fuel) made k p ≡ endedAt (made + 1) (length (p .lines)) (round g v k p)
   unfolding roundsFrom
   stops fuel made k p e = rw (e, roundsFrom)
 

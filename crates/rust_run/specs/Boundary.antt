@@ -12,6 +12,7 @@ use Rattle.graph_access.specs.Names.{owner, importRecords}
 use Rattle.graph_access.specs.Words.{moduleOf, symbolOf, statementList}
 use Rattle.answer_rows.specs.Shown.{bytesBefore}
 use Rattle.dynamic_entries.specs.Alive.{recordsBefore}
+use Rattle.run_parts.specs.declared.Totals.{Totals}
 use Rattle.run_parts.specs.declared.Ran.the-variants.{Done}
 use Rattle.run_parts.specs.Operation.{Rows, Runs}
 use Rattle.rust_values.specs.Values.{pair, In}
@@ -36,5 +37,5 @@ pub record RowsAgree (g : Graph) (o : Outcome) (rounds entries : ℕ) (after : R
 -- for every run that is not refused, whatever the numbers and the lent rows, and every outcome to which the Rust returns
 abbrev pub RunShowsRust : Type 0
 RunShowsRust =
-    (numbers : List ℕ) (lent after : Rows) (rounds main stage entries : ℕ) → Runs numbers (Done rounds main stage entries) lent after
-    → (o : Outcome) → Returns (graphIn numbers) o → RowsAgree (graphIn numbers) o rounds entries after
+    (numbers : List ℕ) (lent after : Rows) (totals : Totals) → Runs numbers (Done totals) lent after
+    → (o : Outcome) → Returns (graphIn numbers) o → RowsAgree (graphIn numbers) o (totals .rounds) (totals .entries) after

@@ -1,3 +1,4 @@
 pub mod Sections
 pub mod Laying
 pub mod Writing
+pub mod Zeros

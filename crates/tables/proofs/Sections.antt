@@ -10,7 +10,7 @@ use lib.Seq.{getD-take, getD-drop, length-take-le, take-append-le, drop-append-l
 use Rattle.graph_format.specs.declared.Header.{Header}
 use Rattle.tables.specs.declared.Size.{Size}
 use Rattle.tables.specs.declared.Size.the-variants.{Small, Middle, Large}
-use Rattle.tables.specs.Layout.{sizes, startFrom, startOf, section, Laid, Inside, Kept, FitsSize}
+use Rattle.tables.specs.Layout.{sizes, startFrom, startOf, section, Laid, Inside, Kept, FitsSize, atVerdicts, allSections}
 
 -- where sections begin
 from-low : (at : ℕ) (counts : List ℕ) (k : ℕ) → at ≤ startFrom at counts k
@@ -47,11 +47,11 @@ module _ (h : Header) where
   start-mono j k l = from-mono 11 (sizes h) j k l
 
   -- where the five sections of places end, and where all do
-  pub start-five : startOf h 5 ≡ 11 + h .modules + h .symbols + h .modules + h .statements + h .entries
+  pub start-five : startOf h atVerdicts ≡ 11 + h .modules + h .symbols + h .modules + h .statements + h .entries
   unfolding startOf startFrom sizes
   start-five = refl
 
-  pub start-ten : startOf h 10 ≡ startOf h 5 + h .modules + h .modules + h .symbols + h .symbols + h .modules
+  pub start-ten : startOf h allSections ≡ startOf h atVerdicts + h .modules + h .modules + h .symbols + h .symbols + h .modules
   unfolding startOf startFrom sizes
   start-ten = refl
 
@@ -67,12 +67,12 @@ wordsIn Middle = 4875
 wordsIn Large = 71691
 
 module _ (h : Header) where
-  pub fits-places : (size : Size) → FitsSize h size → startOf h 5 ≤ placesIn size
+  pub fits-places : (size : Size) → FitsSize h size → startOf h atVerdicts ≤ placesIn size
   fits-places Small f = omega (arith, start-five h, f)
   fits-places Middle f = omega (arith, start-five h, f)
   fits-places Large f = omega (arith, start-five h, f)
 
-  pub fits-all : (size : Size) → FitsSize h size → startOf h 10 ≤ wordsIn size
+  pub fits-all : (size : Size) → FitsSize h size → startOf h allSections ≤ wordsIn size
   fits-all Small f = omega (arith, start-five h, start-ten h, f)
   fits-all Middle f = omega (arith, start-five h, start-ten h, f)
   fits-all Large f = omega (arith, start-five h, start-ten h, f)

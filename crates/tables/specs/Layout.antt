@@ -13,6 +13,42 @@ unfoldable pub sizes : Header → List ℕ
 sizes h =
     h .modules ∷ h .symbols ∷ h .modules ∷ h .statements ∷ h .entries ∷ h .modules ∷ h .modules ∷ h .symbols ∷ h .symbols ∷ h .modules ∷ []
 
+-- The sections by number: the places of the modules, of the symbols, by module the number of its first statement, the places of the statements and of
+-- the entries; by module its last verdict and whether it is included on demand; by symbol the body that it is a key of and the CommonJS module that it is
+-- a namespace of; by module its first byte in the row of statements. A number is also how many sections stand in front.
+abbrev pub atModules : ℕ
+atModules = 0
+
+abbrev pub atSymbols : ℕ
+atSymbols = 1
+
+abbrev pub atFirstStatements : ℕ
+atFirstStatements = 2
+
+abbrev pub atStatements : ℕ
+atStatements = 3
+
+abbrev pub atEntries : ℕ
+atEntries = 4
+
+abbrev pub atVerdicts : ℕ
+atVerdicts = 5
+
+abbrev pub atOnDemand : ℕ
+atOnDemand = 6
+
+abbrev pub atBodies : ℕ
+atBodies = 7
+
+abbrev pub atNamespaces : ℕ
+atNamespaces = 8
+
+abbrev pub atFirstBytes : ℕ
+atFirstBytes = 9
+
+abbrev pub allSections : ℕ
+allSections = 10
+
 -- where section k begins, if the first begins at `at`
 unfoldable pub startFrom : ℕ → List ℕ → ℕ → ℕ
 startFrom at counts zero = at
@@ -29,42 +65,42 @@ section k tables = take (getD tables (k + 1) 0 - getD tables k 0) (drop (getD ta
 -- The sections by name: the places of the modules and of the symbols; by module the number of its first statement among all, and the
 -- places of all statements; the places of the entries;
 abbrev pub modulePlaces : List ℕ → List ℕ
-modulePlaces = section 0
+modulePlaces = section atModules
 
 abbrev pub symbolPlaces : List ℕ → List ℕ
-symbolPlaces = section 1
+symbolPlaces = section atSymbols
 
 abbrev pub firstStatements : List ℕ → List ℕ
-firstStatements = section 2
+firstStatements = section atFirstStatements
 
 abbrev pub statementPlaces : List ℕ → List ℕ
-statementPlaces = section 3
+statementPlaces = section atStatements
 
 abbrev pub entryPlaces : List ℕ → List ℕ
-entryPlaces = section 4
+entryPlaces = section atEntries
 
 -- by module its last verdict and whether it is included on demand; by symbol the body that it is a key of, and the CommonJS module that it
 -- is a namespace of; by module its first byte in the row of statements.
 abbrev pub verdictsIn : List ℕ → List ℕ
-verdictsIn = section 5
+verdictsIn = section atVerdicts
 
 abbrev pub onDemandIn : List ℕ → List ℕ
-onDemandIn = section 6
+onDemandIn = section atOnDemand
 
 abbrev pub bodiesIn : List ℕ → List ℕ
-bodiesIn = section 7
+bodiesIn = section atBodies
 
 abbrev pub namespacesIn : List ℕ → List ℕ
-namespacesIn = section 8
+namespacesIn = section atNamespaces
 
 abbrev pub firstBytesIn : List ℕ → List ℕ
-firstBytesIn = section 9
+firstBytesIn = section atFirstBytes
 
 -- the layout of a graph of these counts, whose first n sections are inside the slice
 pub record Laid (h : Header) (n : ℕ) (tables : List ℕ) : Type 0 where
-  pub known : n ≤ 10
+  pub known : n ≤ allSections
   pub few : length tables < 4294967296
-  pub starts : (k : ℕ) → k ≤ 10 → getD tables k 0 ≡ startOf h k
+  pub starts : (k : ℕ) → k ≤ allSections → getD tables k 0 ≡ startOf h k
   pub fits : startOf h n ≤ length tables
 
 -- section k is inside the slice

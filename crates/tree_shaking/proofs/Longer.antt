@@ -14,7 +14,7 @@ use Rattle.dynamic_entries.specs.Sorted.{sortedEntries}
 use Rattle.dynamic_entries.specs.Tries.{Progress, starting, lives, nowLive, nowDead, tried, tries}
 use Rattle.passes.specs.Bailouts.{bailoutsStarts}
 use Rattle.entry_liveness.proofs.Passing.{tried-live, tried-dead, tried-lives}
-use Rattle.tree_shaking.specs.Rounds.{bailed, round, keptModule, roundsFrom, endedAt}
+use Rattle.tree_shaking.specs.Rounds.{bailed, round, keptModule, roundsFrom, Ended, endedAt, begun, mainPart}
 
 module _ (g : Graph) (v : List ℕ) where
   pub starting-longer : (facts : List Fact) (p : Progress) → length (p .lines) ≤ length (starting g v facts p .lines)
@@ -49,7 +49,7 @@ module _ (g : Graph) (v : List ℕ) where
   unfolding roundsFrom
   rounds-next fuel made taken p e = rw (e, roundsFrom)
 
-  pub rounds-last : (fuel made taken : ℕ) (p : Progress) → keptModule (length (p .lines)) (round g v taken p .lines) ≡ false → roundsFrom g v (suc fuel) made taken p ≡ endedAt (made + 1) (round g v taken p)
+  pub rounds-last : (fuel made taken : ℕ) (p : Progress) → keptModule (length (p .lines)) (round g v taken p .lines) ≡ false → roundsFrom g v (suc fuel) made taken p ≡ endedAt (made + 1) (length (p .lines)) (round g v taken p)
   unfolding roundsFrom
   rounds-last fuel made taken p e = rw (e, roundsFrom)
 
@@ -69,3 +69,25 @@ module _ (g : Graph) (v : List ℕ) where
 
   pub first-longer : (fuel made taken : ℕ) (p : Progress) → length (round g v taken p .lines) ≤ length (roundsFrom g v (suc fuel) made taken p .end .lines)
   first-longer fuel made taken p = first-by fuel made taken p (λ m t q. rounds-longer fuel m t q)
+
+  -- the lines whose bailouts are taken are among the lines at the end, and those taken before are among them
+  pub taken-more : (fuel made taken : ℕ) (p : Progress) → taken ≤ length (p .lines)
+      → (taken ≤ roundsFrom g v fuel made taken p .taken) × (roundsFrom g v fuel made taken p .taken ≤ length (roundsFrom g v fuel made taken p .end .lines))
+  unfolding roundsFrom
+  taken-more zero made taken p h = (omega arith, h)
+  taken-more (suc fuel) made taken p h = go (taken-more fuel (made + 1) (length (p .lines)) (round g v taken p) longer) (keptModule (length (p .lines)) (round g v taken p .lines)) refl
+    where
+      longer : length (p .lines) ≤ length (round g v taken p .lines)
+      longer = omega (arith, bailed-longer taken p, round-longer taken p)
+
+      next : Ended
+      next = roundsFrom g v fuel (made + 1) (length (p .lines)) (round g v taken p)
+
+      go : (length (p .lines) ≤ next .taken) × (next .taken ≤ length (next .end .lines)) → (b : Bool) → keptModule (length (p .lines)) (round g v taken p .lines) ≡ b
+          → (taken ≤ roundsFrom g v (suc fuel) made taken p .taken) × (roundsFrom g v (suc fuel) made taken p .taken ≤ length (roundsFrom g v (suc fuel) made taken p .end .lines))
+      go q true e = rw (rounds-next fuel made taken p e) (omega (arith, h, q .0), q .1)
+      go q false e = rw (rounds-last fuel made taken p e) (h, longer)
+
+pub main-taken : (g : Graph) (v : List ℕ) → mainPart g v .taken ≤ length (mainPart g v .end .lines)
+unfolding mainPart
+main-taken g v = taken-more g v (g .header .modules + 1) 0 0 (begun g v) (omega arith) .1

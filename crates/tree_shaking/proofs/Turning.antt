@@ -21,10 +21,11 @@ use Rattle.dynamic_entries.specs.Sorted.{sortedEntries}
 use Rattle.dynamic_entries.specs.Tries.{Progress, progressIn, starting, tries, Planned, Unlived}
 use Rattle.entry_liveness.proofs.Plans.{set-not}
 use Rattle.passes.specs.Bailouts.{bailoutsStarts}
-use Rattle.tree_shaking.specs.declared.MainEnd.{MainEnd}
-use Rattle.tree_shaking.specs.declared.MainEnd.the-variants.{Ended, TooShort}
-use Rattle.tree_shaking.specs.Rounds.{bailed, round, keptModule, Ended as EndedRounds, endedAt, roundsFrom, usersStarts, noOne, begun, mainPart}
-use Rattle.tree_shaking.specs.Parts.{Progressed, MainEnds}
+use Rattle.tree_shaking.specs.declared.Reached.{Reached}
+use Rattle.tree_shaking.specs.declared.Work.{Work}
+use Rattle.tree_shaking.specs.declared.Work.the-variants.{Done, Full as Short}
+use Rattle.tree_shaking.specs.Rounds.{bailed, round, keptModule, Ended, endedAt, roundsFrom, usersStarts, noOne, begun, mainPart}
+use Rattle.tree_shaking.specs.Parts.{Progressed, reachedBy, MainEnds}
 use Rattle.tree_shaking.proofs.Longer.{bailed-longer, round-longer, rounds-longer, first-longer, rounds-next, rounds-last}
 use Rattle.tree_shaking.proofs.Trying.{progress-started}
 
@@ -52,7 +53,7 @@ module _ (g : Graph) (users taken : ℕ) (row : List ℕ) (c : ℕ) (plan : List
       }
 
 -- In the loop, after `made` rounds: what is left comes to the whole.
-pub record Turning (g : Graph) (users : ℕ) (out : EndedRounds) (partners marks row plan : List ℕ) (c taken made : ℕ) : Type 0 where
+pub record Turning (g : Graph) (users : ℕ) (out : Ended) (partners marks row plan : List ℕ) (c taken made : ℕ) : Type 0 where
   pub working : Working g 0 partners marks row c
   pub planned : Planned g plan users
   pub taken-inside : taken ≤ c
@@ -66,42 +67,56 @@ turning-start g users partners marks row plan c w p =
     record { working = w; planned = p; taken-inside = omega arith; few = omega arith; on = rw e }
 
 -- rows that hold what the main part comes to
-pub ended-as : (g : Graph) (users : ℕ) (out : EndedRounds) (partners marks row plan : List ℕ) (n c : ℕ) → Working g 0 partners marks row c → Planned g plan users
-    → endedAt n (progressIn (g .header) (linesOf c row) plan) ≡ out → MainEnds g users out partners marks row plan (Ended n c)
-ended-as g users out partners marks row plan n c w p e =
+pub ended-as : (g : Graph) (users : ℕ) (out : Ended) (partners marks row plan : List ℕ) (n taken c : ℕ) → Working g 0 partners marks row c → Planned g plan users
+    → endedAt n taken (progressIn (g .header) (linesOf c row) plan) ≡ out
+    → {x : Reached} → x ≡ record { users = users; rounds = n; taken = taken; main = c; total = c } → MainEnds g users out partners marks row plan (Done x)
+unfolding progressIn
+ended-as g users out partners marks row plan n taken c w p e {x} i =
     record {
-      working = λ m d q. (let z : c ≡ d = cc in rw (sym z) w);
-      rounds-are = λ m d q. (let z : m ≡ n = cc in z ∙ ap (λ (x : EndedRounds). x .rounds) e);
-      is = λ m d q. (let z : c ≡ d = cc in rw (sym z) (ap (λ (x : EndedRounds). x .end) e));
-      planned = λ m d q. p;
+      reached = λ y q. sym (the y q) ∙ i ∙ as-reached;
+      working = λ y q. subst (λ (k : ℕ). Working g 0 partners marks row k) (count y q) w;
+      is = λ y q. subst (λ (k : ℕ). progressIn (g .header) (linesOf k row) plan ≡ out .end) (count y q) (ap (λ (o : Ended). o .end) e);
+      planned = λ y q. p;
       full = λ q. let z : _≡_ {A = ℕ} 0 1 = cc in absurd (omega arith);
     }
+  where
+    the : (y : Reached) → Done x ≡ Done y → x ≡ y
+    the y q = cc
 
-pub too-short : (g : Graph) (users : ℕ) (out : EndedRounds) (partners marks row plan : List ℕ) → length row < 6 * length (out .end .lines) → MainEnds g users out partners marks row plan TooShort
+    count : (y : Reached) → Done x ≡ Done y → c ≡ y .main
+    count y q = sym (ap (λ (k : Reached). k .main) i) ∙ ap (λ (k : Reached). k .main) (the y q)
+
+    lines-are : c ≡ length (out .end .lines)
+    lines-are = sym (lines-length c row) ∙ ap (λ (o : Ended). length (o .end .lines)) e
+
+    as-reached : _≡_ {A = Reached} (record { users = users; rounds = n; taken = taken; main = c; total = c }) (reachedBy users out)
+    as-reached = λ k. record { users = users; rounds = e k .rounds; taken = e k .taken; main = lines-are k; total = lines-are k }
+
+pub too-short : (g : Graph) (users : ℕ) (out : Ended) (partners marks row plan : List ℕ) → length row < 6 * length (out .end .lines) → MainEnds g users out partners marks row plan Short
 too-short g users out partners marks row plan l =
     record {
-      working = λ m d q. let z : _≡_ {A = ℕ} 0 1 = cc in absurd (omega arith);
-      rounds-are = λ m d q. let z : _≡_ {A = ℕ} 0 1 = cc in absurd (omega arith);
-      is = λ m d q. let z : _≡_ {A = ℕ} 0 1 = cc in absurd (omega arith);
-      planned = λ m d q. let z : _≡_ {A = ℕ} 0 1 = cc in absurd (omega arith);
+      reached = λ x q. let z : _≡_ {A = ℕ} 0 1 = cc in absurd (omega arith);
+      working = λ x q. let z : _≡_ {A = ℕ} 0 1 = cc in absurd (omega arith);
+      is = λ x q. let z : _≡_ {A = ℕ} 0 1 = cc in absurd (omega arith);
+      planned = λ x q. let z : _≡_ {A = ℕ} 0 1 = cc in absurd (omega arith);
       full = λ q. l;
     }
 
-module _ (g : Graph) (users : ℕ) (out : EndedRounds) (partners marks row plan : List ℕ) (c taken made : ℕ) (t : Turning g users out partners marks row plan c taken made) where
+module _ (g : Graph) (users : ℕ) (out : Ended) (partners marks row plan : List ℕ) (c taken made : ℕ) (t : Turning g users out partners marks row plan c taken made) where
   -- all rounds were made that may be
-  pub turning-end : g .header .modules < made → MainEnds g users out partners marks row plan (Ended made c)
+  pub turning-end : g .header .modules < made → {x : Reached} → x ≡ record { users = users; rounds = made; taken = taken; main = c; total = c } → MainEnds g users out partners marks row plan (Done x)
   unfolding roundsFrom
-  turning-end h = let e : g .header .modules + 1 - made ≡ 0 = omega arith in ended-as g users out partners marks row plan made c (t .working) (t .planned) (rw e at (t .on))
+  turning-end h i = let e : g .header .modules + 1 - made ≡ 0 = omega arith in ended-as g users out partners marks row plan made taken c (t .working) (t .planned) (rw e at (t .on)) i
 
   -- one more
   module _ (h : made ≤ g .header .modules) (partners′ marks′ row′ plan′ : List ℕ) where
     one-less : roundsFrom g (lastVerdicts g) (suc (g .header .modules + 1 - (made + 1))) made taken (progressIn (g .header) (linesOf c row) plan) ≡ out
     one-less = let e : suc (g .header .modules + 1 - (made + 1)) ≡ g .header .modules + 1 - made = omega arith in rw e (t .on)
 
-    pub turn-short : Progressed g users (round g (lastVerdicts g) taken (progressIn (g .header) (linesOf c row) plan)) partners′ marks′ row′ plan′ Full → MainEnds g users out partners′ marks′ row′ plan′ TooShort
+    pub turn-short : Progressed g users (round g (lastVerdicts g) taken (progressIn (g .header) (linesOf c row) plan)) partners′ marks′ row′ plan′ Full → MainEnds g users out partners′ marks′ row′ plan′ Short
     turn-short s =
         too-short g users out partners′ marks′ row′ plan′
-        (omega (arith, s .full refl, first-longer g (lastVerdicts g) (g .header .modules + 1 - (made + 1)) made taken (progressIn (g .header) (linesOf c row) plan), ap (λ (x : EndedRounds). length (x .end .lines)) one-less))
+        (omega (arith, s .full refl, first-longer g (lastVerdicts g) (g .header .modules + 1 - (made + 1)) made taken (progressIn (g .header) (linesOf c row) plan), ap (λ (x : Ended). length (x .end .lines)) one-less))
 
     module _ (n : ℕ) (s : Progressed g users (round g (lastVerdicts g) taken (progressIn (g .header) (linesOf c row) plan)) partners′ marks′ row′ plan′ (Lines n)) where
       lines-are : linesOf n row′ ≡ round g (lastVerdicts g) taken (progressIn (g .header) (linesOf c row) plan) .lines
@@ -119,12 +134,13 @@ module _ (g : Graph) (users : ℕ) (out : EndedRounds) (partners marks row plan 
       kept-is : (b : Bool) → b ≡ keptModule c (linesOf n row′) → keptModule (length (progressIn (g .header) (linesOf c row) plan .lines)) (round g (lastVerdicts g) taken (progressIn (g .header) (linesOf c row) plan) .lines) ≡ b
       kept-is b e = rw (count-is, ← lines-are) (sym e)
 
-      pub turn-last : (b : Bool) → b ≡ keptModule c (linesOf n row′) → b ≡ false → MainEnds g users out partners′ marks′ row′ plan′ (Ended (made + 1) n)
-      turn-last b e f =
-          ended-as g users out partners′ marks′ row′ plan′ (made + 1) n (s .working n refl) (s .planned n refl)
-          (ap (endedAt (made + 1)) (s .is n refl)
+      pub turn-last : (b : Bool) → b ≡ keptModule c (linesOf n row′) → b ≡ false
+          → {x : Reached} → x ≡ record { users = users; rounds = made + 1; taken = c; main = n; total = n } → MainEnds g users out partners′ marks′ row′ plan′ (Done x)
+      turn-last b e f i =
+          ended-as g users out partners′ marks′ row′ plan′ (made + 1) c n (s .working n refl) (s .planned n refl)
+          ((λ k. endedAt (made + 1) (sym count-is k) (s .is n refl k))
           ∙ sym (rounds-last g (lastVerdicts g) (g .header .modules + 1 - (made + 1)) made taken (progressIn (g .header) (linesOf c row) plan) (kept-is b e ∙ f))
-          ∙ one-less)
+          ∙ one-less) i
 
       pub turn-next : (b : Bool) → b ≡ keptModule c (linesOf n row′) → b ≡ true → Turning g users out partners′ marks′ row′ plan′ n c (made + 1)
       turn-next b e f =
@@ -173,9 +189,9 @@ module _ (g : Graph) (users : ℕ) (partners marks row plan : List ℕ) where
   unfolding mainPart
   main-is d u s = ap (roundsFrom g (lastVerdicts g) (g .header .modules + 1) 0 0) (begun-is d u s)
 
-  pub main-full : (plan′ : List ℕ) → Started g 0 (usersStarts g (userEntries g)) [] partners marks row Full → MainEnds g users (mainPart g (lastVerdicts g)) partners marks row plan′ TooShort
+  pub main-full : (plan′ : List ℕ) → Started g 0 (usersStarts g (userEntries g)) [] partners marks row Full → MainEnds g users (mainPart g (lastVerdicts g)) partners marks row plan′ Short
   unfolding mainPart begun starting
   main-full plan′ s = too-short g users (mainPart g (lastVerdicts g)) partners marks row plan′ (omega (arith, s .grown .full refl, rounds-longer g (lastVerdicts g) (g .header .modules + 1) 0 0 (begun g (lastVerdicts g))))
 
-pub main-ended : (g : Graph) (users : ℕ) (a b : EndedRounds) → a ≡ b → (partners marks row plan : List ℕ) (r : MainEnd) → MainEnds g users a partners marks row plan r → MainEnds g users b partners marks row plan r
-main-ended g users a b e partners marks row plan r s = subst (λ (x : EndedRounds). MainEnds g users x partners marks row plan r) e s
+pub main-ended : (g : Graph) (users : ℕ) (a b : Ended) → a ≡ b → (partners marks row plan : List ℕ) (r : Work) → MainEnds g users a partners marks row plan r → MainEnds g users b partners marks row plan r
+main-ended g users a b e partners marks row plan r s = subst (λ (x : Ended). MainEnds g users x partners marks row plan r) e s

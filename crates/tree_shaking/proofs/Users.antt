@@ -1,6 +1,6 @@
 -- The user-defined entries of a plan, started one after another.
 use Prim.Native.Nat.{ℕ, _+_, _<_, _≤_}
-use mathlib.Core.Path.{_≡_, ap, _∙_, sym}
+use mathlib.Core.Path.{_≡_, refl, ap, _∙_, sym}
 use mathlib.Core.List.{List, [], _++_}
 use native.Mathlib.Numerals.{add-one}
 use native.Mathlib.Omega.{arith}
@@ -25,6 +25,10 @@ use Rattle.tree_shaking.specs.Rounds.{usersStarts}
 unfoldable pub usersFrom : Graph → ℕ → List Fact
 usersFrom g i = usersStarts g (drop i (userEntries g))
 
+pub users-all : (g : Graph) → usersFrom g 0 ≡ usersStarts g (userEntries g)
+unfolding usersFrom
+users-all g = refl
+
 -- in the loop, at place i
 abbrev pub Including : Graph → ℕ → List ℕ → List ℕ → List ℕ → ℕ → Type 0
 Including g i partners marks row c = Along g 0 (drainedAll g (lastVerdicts g) 0 (usersStarts g (userEntries g)) []) (usersFrom g i) partners marks row c
@@ -42,14 +46,14 @@ module _ (g : Graph) (plan : List ℕ) (users : ℕ) (p : Planned g plan users) 
       let l : i < length (userEntries g) = omega (arith, p .users-are) in
       sym (getD-take (g .header .entries) plan i 0 (omega (arith, p .users-are, p .all))) ∙ ap (λ (xs : List ℕ). getD xs i 0) (p .order) ∙ List·getD-append (userEntries g) (sortedEntries g) 0 i l
 
-  users-next : i < users → (u : ℕ) → u ≡ moduleOfEntry g (getD plan i 0) → usersFrom g i ≡ userStarts g u ++ usersFrom g (i + 1)
+  pub users-next : i < users → (u : ℕ) → u ≡ moduleOfEntry g (getD plan i 0) → usersFrom g i ≡ userStarts g u ++ usersFrom g (i + 1)
   unfolding usersFrom usersStarts
   users-next h u e =
       let l : i < length (userEntries g) = omega (arith, p .users-are) in
       let q : u ≡ moduleOfEntry g (getD (userEntries g) i 0) = e ∙ ap (moduleOfEntry g) (user-place h) in
       rw (q, add-one i, drop-cons (userEntries g) i 0 l)
 
-  users-over : users ≤ i → usersFrom g i ≡ []
+  pub users-over : users ≤ i → usersFrom g i ≡ []
   unfolding usersFrom usersStarts
   users-over h = let l : length (userEntries g) ≤ i = omega (arith, p .users-are) in rw (drop-of-length-le (userEntries g) l)
 

@@ -1,6 +1,6 @@
 -- The main definitions of each file.
 -- `Rounds`: `round`, `roundsFrom`, `mainPart`, `finalEntries`, `runtimeStage`.
--- `Own`: `ownStarts`, `runStarts`.
+-- `Own`: `ownStarts`, `runStarts`, `startsByKind`.
 pub mod Rounds
 pub mod Own
 pub mod Parts

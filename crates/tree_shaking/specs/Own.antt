@@ -5,12 +5,13 @@ use mathlib.Core.List.{List, [], _∷_, _++_, map}
 use lib.ListN.{length, drop}
 use Rattle.graph.specs.Check.{Graph}
 use Rattle.facts.specs.declared.Fact.{Fact}
+use Rattle.keep_record.specs.declared.Line.{Line}
 use Rattle.entry_order.specs.Order.{moduleOfEntry, userEntries}
 use Rattle.entry_starts.specs.Starts.{moduleStarts, userStarts}
 use Rattle.dynamic_entries.specs.Sorted.{sortedEntries}
 use Rattle.passes.specs.Bailouts.{bailoutsStarts}
 use Rattle.dynamic_entries.specs.Tries.{Progress, lives, tried}
-use Rattle.tree_shaking.specs.Rounds.{bailed, round, keptModule, begun}
+use Rattle.tree_shaking.specs.Rounds.{bailed, round, keptModule, usersStarts, begun}
 
 -- the parties of a run's main part
 pub data Party : Type 0 where
@@ -54,3 +55,12 @@ ownStarts g v = ofUsers g (userEntries g) ++ ofRounds g v (g .header .modules + 
 
 unfoldable pub runStarts : Graph → List ℕ → List Fact
 runStarts g v = map (λ s. s .fact) (ownStarts g v)
+
+-- The same by kind, from what a main part leaves, whatever the order in which it came about: what the user-defined entries start, the exports of the
+-- bailouts among the lines that were taken, what live modules start, of n modules from number m on. `own-by-kind` and `by-kind-own` in `run_choices` have both as one set.
+unfoldable pub liveStarts : Graph → (ℕ → Bool) → ℕ → ℕ → List Fact
+liveStarts g live m zero = []
+liveStarts g live m (suc n) = elim (live m) [ true ↦ moduleStarts g m | false ↦ [] ] ++ liveStarts g live (m + 1) n
+
+unfoldable pub startsByKind : Graph → (ℕ → Bool) → List Line → List Fact
+startsByKind g live taken = usersStarts g (userEntries g) ++ (bailoutsStarts g taken ++ liveStarts g live 0 (g .header .modules))

@@ -14,9 +14,10 @@ use Rattle.entry_order.specs.Plan.{wordsAt, planSize, Untouched}
 use Rattle.entry_starts.specs.Working.{Working, Started}
 use Rattle.dynamic_entries.specs.Tries.{Progress, progressIn, Planned}
 use Rattle.passes.specs.Helpers.{helperWord, helperUnion, runtimeStarts}
-use Rattle.tree_shaking.specs.declared.MainEnd.{MainEnd}
-use Rattle.tree_shaking.specs.declared.MainEnd.the-variants.{Ended, TooShort}
-use Rattle.tree_shaking.specs.Rounds.{Ended as EndedRounds}
+use Rattle.tree_shaking.specs.declared.Reached.{Reached}
+use Rattle.tree_shaking.specs.declared.Work.{Work}
+use Rattle.tree_shaking.specs.declared.Work.the-variants.{Done, Full as Short}
+use Rattle.tree_shaking.specs.Rounds.{Ended}
 
 -- the rows hold this progress, or its lines are too many for the record
 pub record Progressed (g : Graph) (users : ℕ) (p : Progress) (partners marks row plan : List ℕ) (r : Added) : Type 0 where
@@ -25,13 +26,18 @@ pub record Progressed (g : Graph) (users : ℕ) (p : Progress) (partners marks r
   pub planned : (c : ℕ) → r ≡ Lines c → Planned g plan users
   pub full : r ≡ Full → length row < 6 * length (p .lines)
 
--- the same of the whole main part, with its rounds
-pub record MainEnds (g : Graph) (users : ℕ) (e : EndedRounds) (partners marks row plan : List ℕ) (r : MainEnd) : Type 0 where
-  pub working : (n c : ℕ) → r ≡ Ended n c → Working g 0 partners marks row c
-  pub rounds-are : (n c : ℕ) → r ≡ Ended n c → n ≡ e .rounds
-  pub is : (n c : ℕ) → r ≡ Ended n c → progressIn (g .header) (linesOf c row) plan ≡ e .end
-  pub planned : (n c : ℕ) → r ≡ Ended n c → Planned g plan users
-  pub full : r ≡ TooShort → length row < 6 * length (e .end .lines)
+-- what the main part has reached, with no line of a runtime stage
+abbrev pub reachedBy : ℕ → Ended → Reached
+reachedBy users e =
+    record { users = users; rounds = e .rounds; taken = e .taken; main = length (e .end .lines); total = length (e .end .lines) }
+
+-- the same of the whole main part, with what it has reached
+pub record MainEnds (g : Graph) (users : ℕ) (e : Ended) (partners marks row plan : List ℕ) (r : Work) : Type 0 where
+  pub reached : (x : Reached) → r ≡ Done x → x ≡ reachedBy users e
+  pub working : (x : Reached) → r ≡ Done x → Working g 0 partners marks row (x .main)
+  pub is : (x : Reached) → r ≡ Done x → progressIn (g .header) (linesOf (x .main) row) plan ≡ e .end
+  pub planned : (x : Reached) → r ≡ Done x → Planned g plan users
+  pub full : r ≡ Short → length row < 6 * length (e .end .lines)
 
 -- the runtime stage behind the main part's lines: the words of the helpers are in the plan, and their union was started over these lines
 pub record StageEnds (g : Graph) (main : List Line) (plan₀ partners marks row plan : List ℕ) (r : Added) : Type 0 where

@@ -28,22 +28,23 @@ round g v taken p = tries g v (sortedEntries g) (bailed g v taken p)
 unfoldable pub keptModule : ℕ → List Line → Bool
 keptModule k lines = some (λ l. eqb (kindOf (l .fact)) 1) (drop k lines)
 
--- how many rounds were made, and what the run came to
+-- how many rounds were made, how many lines there were when the last one began (their bailouts are taken), and what the run came to
 pub record Ended : Type 0 where
   pub rounds : ℕ
+  pub taken : ℕ
   pub end : Progress
 
-abbrev pub endedAt : ℕ → Progress → Ended
-endedAt n p = record { rounds = n; end = p }
+abbrev pub endedAt : ℕ → ℕ → Progress → Ended
+endedAt n taken p = record { rounds = n; taken = taken; end = p }
 
 -- A round that keeps no further module is the last. Each round but the last keeps one more, so one round more than there are modules
 -- suffice (`rounds-settle` in `run_choices`).
 unfoldable pub roundsFrom : Graph → List ℕ → ℕ → ℕ → ℕ → Progress → Ended
-roundsFrom g v zero made taken p = endedAt made p
+roundsFrom g v zero made taken p = endedAt made taken p
 roundsFrom g v (suc fuel) made taken p =
     elim (keptModule (length (p .lines)) (round g v taken p .lines)) [
       | true ↦ roundsFrom g v fuel (made + 1) (length (p .lines)) (round g v taken p)
-      | false ↦ endedAt (made + 1) (round g v taken p)
+      | false ↦ endedAt (made + 1) (length (p .lines)) (round g v taken p)
     ]
 
 -- Step 1: the user-defined entries in order

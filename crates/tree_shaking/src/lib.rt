@@ -23,10 +23,20 @@ use index::EntryIdx;
 use keep_record::Added;
 use keep_record::Stage;
 
-// How the main part ends: after so many rounds, with so many lines; or the record is too short.
-pub enum MainEnd {
-    Ended(usize, usize),
-    TooShort,
+// What a run has reached: how many user-defined entries there are, how many rounds were made, how many lines there were when the last one began, how
+// many lines the main part has, and how many there are in all.
+pub struct Reached {
+    pub users: usize,
+    pub rounds: usize,
+    pub taken: usize,
+    pub main: usize,
+    pub total: usize,
+}
+
+// How the work of a run ends; or the record is too short.
+pub enum Work {
+    Done(Reached),
+    Full,
 }
 
 // Starts the user-defined entries in their order.
@@ -61,7 +71,7 @@ fn include_user_entries(
 }
 
 // The entry at place i of the plan is live: its module is live from now on, and is started.
-pub fn include_live_entry(
+fn include_live_entry(
     numbers: &[u32],
     tables: &[usize],
     partners: &mut [usize],
@@ -78,7 +88,8 @@ pub fn include_live_entry(
     let h = graph::header_of(numbers);
     let m = entries::entry_module(numbers, tables, EntryIdx(plan[i]));
     let u = m.0;
-    plan[h.entries + u] = 1;
+    let live = entry_order::live_at(h);
+    plan[live + u] = 1;
     entry_starts::include_entry(numbers, tables, partners, marks, lines, count, m)
 }
 
@@ -154,7 +165,7 @@ fn round(
 }
 
 // Whether a module is among the lines from number `from` up to `to`.
-pub fn has_module(lines: &[u32], from: usize, to: usize) -> bool
+fn has_module(lines: &[u32], from: usize, to: usize) -> bool
     requires { ⌜ (from ≤ to) × (6 * to ≤ length (now lines)) ⌝ }
     ensures { λ r. ⌜ r ≡ keptModule from (linesOf to (now (lines .entry))) ⌝ }
 {
@@ -168,6 +179,19 @@ pub fn has_module(lines: &[u32], from: usize, to: usize) -> bool
     false
 }
 
+// What a main part of `main` lines has reached.
+fn ended_with(users: usize, rounds: usize, taken: usize, main: usize) -> Reached
+    ensures { λ r. ⌜ r ≡ record { users = users; rounds = rounds; taken = taken; main = main; total = main } ⌝ }
+{
+    Reached {
+        users,
+        rounds,
+        taken,
+        main,
+        total: main,
+    }
+}
+
 // The rounds, up to one in which no module became kept; at most one more than there are modules.
 fn rounds(
     numbers: &[u32],
@@ -178,7 +202,7 @@ fn rounds(
     plan: &mut [usize],
     users: usize,
     count: usize,
-) -> MainEnd
+) -> Work
     requires { ⌜ Prepared (now numbers) (now tables) ⌝ }
     requires { ⌜ Working (graphIn (now numbers)) 0 (now partners) (now marks) (now lines) count × Planned (graphIn (now numbers)) (now plan) users ⌝ }
     ensures { λ r. ⌜ MainEnds (graphIn (now (numbers .entry))) users (roundsFrom (graphIn (now (numbers .entry))) (lastVerdicts (graphIn (now (numbers .entry)))) (headerIn (now (numbers .entry)) .modules + 1) 0 0 (progressIn (headerIn (now (numbers .entry))) (linesOf count (now (lines .entry))) (now (plan .entry)))) (now (partners .exit)) (now (marks .exit)) (now (lines .exit)) (now (plan .exit)) r ⌝ }
@@ -200,19 +224,19 @@ fn rounds(
             taken,
         ) {
             Added::Full => {
-                return MainEnd::TooShort;
+                return Work::Full;
             }
             Added::Lines(n) => {
                 made += 1;
                 if !has_module(lines, total, n) {
-                    return MainEnd::Ended(made, n);
+                    return Work::Done(ended_with(users, made, total, n));
                 }
                 taken = total;
                 total = n;
             }
         }
     }
-    MainEnd::Ended(made, total)
+    Work::Done(ended_with(users, made, taken, total))
 }
 
 // The main part: the user-defined entries, then the rounds. The rows are cleared.
@@ -224,13 +248,13 @@ pub fn main_part(
     lines: &mut [u32],
     plan: &mut [usize],
     users: usize,
-) -> MainEnd
+) -> Work
     requires { ⌜ Prepared (now numbers) (now tables) ⌝ }
     requires { ⌜ Working (graphIn (now numbers)) 0 (now partners) (now marks) (now lines) 0 × Planned (graphIn (now numbers)) (now plan) users × Unlived (graphIn (now numbers)) (now plan) ⌝ }
     ensures { λ r. ⌜ MainEnds (graphIn (now (numbers .entry))) users (mainPart (graphIn (now (numbers .entry))) (lastVerdicts (graphIn (now (numbers .entry))))) (now (partners .exit)) (now (marks .exit)) (now (lines .exit)) (now (plan .exit)) r ⌝ }
 {
     match include_user_entries(numbers, tables, partners, marks, lines, plan, users) {
-        Added::Full => MainEnd::TooShort,
+        Added::Full => Work::Full,
         Added::Lines(n) => rounds(numbers, tables, partners, marks, lines, plan, users, n),
     }
 }

@@ -4,6 +4,7 @@ use mathlib.Core.Path.{_≡_}
 use mathlib.Core.Bool.{Bool, true, false}
 use mathlib.Core.List.{List, [], _∷_, _++_}
 use lib.ListN.{length, getD, take, drop}
+use Rattle.graph_format.specs.declared.Header.{Header}
 use Rattle.graph.specs.Check.{Graph}
 use Rattle.graph_access.specs.Names.{owner}
 use Rattle.index.specs.declared.SymbolIdx.{SymbolIdx}
@@ -27,15 +28,28 @@ unfoldable pub lastForward : Graph → ℕ → ℕ → ℕ → List Line → ℕ
 lastForward g m none i [] = none
 lastForward g m none i (l ∷ ls) = lastForward g m (elim (forwardsTo g m l) [ true ↦ i + 1 | false ↦ none ]) (i + 1) ls
 
+-- where in the table the first forwards begin, the last ones, the next ones; and its size
+abbrev pub firstsAt : Header → ℕ
+firstsAt h = h .modules
+
+abbrev pub lastsAt : Header → ℕ
+lastsAt h = 2 * h .modules
+
+abbrev pub nextsAt : Header → ℕ
+nextsAt h = 3 * h .modules
+
+abbrev pub partnersSize : Header → ℕ
+partnersSize h = 3 * h .modules + h .symbols
+
 -- For M modules and the lines that have been handled: number m is the line of module m, M + m its first forward, 2 M + m its last, each
 -- plus 1 or 0; 3 M + s is the forward of the same module behind that of symbol s. Forwards of an earlier stage are not in it.
 pub record Linked (g : Graph) (base : ℕ) (links : List ℕ) (lines : List Line) : Type 0 where
-  pub long : 3 * g .header .modules + g .header .symbols ≤ length links
+  pub long : partnersSize (g .header) ≤ length links
   pub module-lines : (m : ℕ) → m < g .header .modules → getD links m 0 ≡ moduleLine m 0 lines
-  pub firsts : (m : ℕ) → m < g .header .modules → getD links (g .header .modules + m) 0 ≡ firstForward g m base (drop base lines)
-  pub lasts : (m : ℕ) → m < g .header .modules → getD links (2 * g .header .modules + m) 0 ≡ lastForward g m 0 base (drop base lines)
+  pub firsts : (m : ℕ) → m < g .header .modules → getD links (firstsAt (g .header) + m) 0 ≡ firstForward g m base (drop base lines)
+  pub lasts : (m : ℕ) → m < g .header .modules → getD links (lastsAt (g .header) + m) 0 ≡ lastForward g m 0 base (drop base lines)
   pub nexts : (k : ℕ) (s : SymbolIdx) → base ≤ k → k < length lines → factAt lines k ≡ Forward s
-      → getD links (3 * g .header .modules + s .0) 0 ≡ firstForward g (owner (symbolOf g (s .0))) (k + 1) (drop (k + 1) lines)
+      → getD links (nextsAt (g .header) + s .0) 0 ≡ firstForward g (owner (symbolOf g (s .0))) (k + 1) (drop (k + 1) lines)
 
 -- after an addition, the table is that of the first k lines
 pub record StillLinked (g : Graph) (base : ℕ) (links row : List ℕ) (k : ℕ) (r : Added) : Type 0 where

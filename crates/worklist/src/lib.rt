@@ -14,18 +14,43 @@ ghost use Rattle.keep_record.specs.Lines.{adds};
 ghost use Rattle.keep_record.specs.Held.{lineAt, linesOf, Held, Grown};
 ghost use Rattle.worklist.specs.Drain.{joined, joinsAll, joins, followed, news, drained, started, drainOf};
 ghost use Rattle.starts.specs.Starts.{startsOf};
-ghost use Rattle.worklist.specs.Links.{Linked, LinkReady, StillLinked, AllLinked};
+ghost use Rattle.worklist.specs.Links.{Linked, LinkReady, StillLinked, AllLinked, firstsAt, lastsAt, nextsAt, partnersSize};
 ghost use Rattle.starts.specs.Starts.{StartsGood};
 ghost use Rattle.facts.specs.declared.Fact.the-variants.{Forward};
 use consequences::Consequence;
 use consequences::Cursor;
 use facts::Fact;
 use graph_access::symbols;
+use graph_format::Header;
 use index::ModuleIdx;
 use index::SymbolIdx;
 use keep_record::Added;
 use keep_record::Line;
 use keep_record::Stage;
+
+// Where in the table of K1's partners the first forwards begin.
+pub fn firsts_at(h: Header) -> usize
+    requires { ⌜ partnersSize h < 18446744073709551616 ⌝ }
+    ensures { λ r. ⌜ r ≡ firstsAt h ⌝ }
+{
+    h.modules
+}
+
+// Where in the table of K1's partners the last forwards begin.
+pub fn lasts_at(h: Header) -> usize
+    requires { ⌜ partnersSize h < 18446744073709551616 ⌝ }
+    ensures { λ r. ⌜ r ≡ lastsAt h ⌝ }
+{
+    2 * h.modules
+}
+
+// Where in the table of K1's partners the next forwards begin.
+pub fn nexts_at(h: Header) -> usize
+    requires { ⌜ partnersSize h < 18446744073709551616 ⌝ }
+    ensures { λ r. ⌜ r ≡ nextsAt h ⌝ }
+{
+    3 * h.modules
+}
 
 // K1: adds the statements that declare forward s, naming lines a and b.
 fn declare(
@@ -94,10 +119,12 @@ fn join_forwards(
     ensures { λ r. ⌜ Grown (graphIn (now (numbers .entry))) (stage .base) (adds (graphIn (now (numbers .entry))) (stage .base) (linesOf (stage .count) (now (lines .entry))) (joinsAll (graphIn (now (numbers .entry))) (m .0) k (stage .base) (drop (stage .base) (take k (linesOf (stage .count) (now (lines .entry))))))) (now (marks .exit)) (now (lines .exit)) r ⌝ }
 {
     let h = graph::header_of(numbers);
+    let firsts = firsts_at(h);
+    let nexts = nexts_at(h);
     let owner = m.0;
     let base = stage.base;
     let mut total = stage.count;
-    let mut at = partners[h.modules + owner];
+    let mut at = partners[firsts + owner];
     while at > 0 {
         let s = SymbolIdx(facts::first_part(keep_record::fact_at(lines, at - 1)));
         match declare(
@@ -117,7 +144,7 @@ fn join_forwards(
                 return Added::Full;
             }
         }
-        at = partners[3 * h.modules + s.0];
+        at = partners[nexts + s.0];
     }
     Added::Lines(total)
 }
@@ -229,16 +256,19 @@ fn link_forward(
     ensures { λ _. ⌜ Linked (graphIn (now (numbers .entry))) (stage .base) (now (partners .exit)) (take (k + 1) (linesOf (stage .count) (now (lines .entry)))) ⌝ }
 {
     let h = graph::header_of(numbers);
+    let firsts = firsts_at(h);
+    let lasts = lasts_at(h);
+    let nexts = nexts_at(h);
     let owner = symbols::owner(numbers, tables, s);
-    let last = partners[2 * h.modules + owner.0];
+    let last = partners[lasts + owner.0];
     if last == 0 {
-        partners[h.modules + owner.0] = k + 1;
+        partners[firsts + owner.0] = k + 1;
     } else {
         let before = facts::first_part(keep_record::fact_at(lines, last - 1));
-        partners[3 * h.modules + before] = k + 1;
+        partners[nexts + before] = k + 1;
     }
-    partners[2 * h.modules + owner.0] = k + 1;
-    partners[3 * h.modules + s.0] = 0;
+    partners[lasts + owner.0] = k + 1;
+    partners[nexts + s.0] = 0;
 }
 
 // Enters line k, which has this fact, into the table.

@@ -205,9 +205,9 @@ mod judgements {
     use super::{best_of_both, compare};
     use compare::{library, own_starts, RunBuffers};
     use peer::generate::PRINTED;
+    use peer::loads::loads;
     use peer::reference::judge_by_rules::judge_by_rules;
-    use peer::reference::run::{self, Run};
-    use peer::reference::starts::triples;
+    use peer::reference::starts::{self, Starts};
     use peer::{reference, Refusal};
     use std::hint::black_box;
 
@@ -219,6 +219,11 @@ mod judgements {
         println!("{:<44} {:>8} {:>12} {:>12} {:>7}", "", "lines", "judge ns", "run ns", "share");
         bench_share("judge beside the run, 1,000 modules", bundle);
         bench_share("judge beside the run, printed case", &PRINTED);
+        println!("{:<44} {:>8} {:>12} {:>12} {:>7}", "starts beside the run", "lines", "starts ns", "run ns", "share");
+        for load in loads() {
+            bench_starts_share(load.name, &load.graph.numbers());
+        }
+        bench_starts_share("printed case", &PRINTED);
     }
 
     fn bench_judge(name: &str, numbers: &[u32]) {
@@ -251,12 +256,24 @@ mod judgements {
     }
 
     fn bench_starts(name: &str, numbers: &[u32]) {
-        let run = run::answer(numbers).expect("a good graph");
-        let (mut row, mut expected_row) = (RowsOfStarts::new(&run), RowsOfStarts::new(&run));
+        let starts = starts::answer(numbers).expect("a good graph");
+        let (mut row, mut expected_row) = (RowsOfStarts::new(&starts), RowsOfStarts::new(&starts));
         assert_eq!(row.library(numbers), expected_row.reference(numbers), "{name}");
         assert_eq!(row, expected_row, "{name}");
-        let lines = run.lines.len() + run.runtime_lines.len();
+        let lines = starts.lines.len();
         compare(name, lines, || row.library(black_box(numbers)), || expected_row.reference(black_box(numbers)));
+    }
+
+    /// The library's starts beside the library's run that has them.
+    fn bench_starts_share(name: &str, numbers: &[u32]) {
+        let starts = starts::answer(numbers).expect("a good graph");
+        let mut row = RowsOfStarts::new(&starts);
+        assert_eq!(row.library(numbers).number, 0, "{name}");
+        let mut run = RunBuffers::for_graph(numbers).expect("a good graph");
+        run.again();
+        let (starts_time, run) = best_of_both(|| row.library(black_box(numbers)), || run.again());
+        let lines = starts.lines.len();
+        println!("{name:<44} {lines:>8} {starts_time:>12.0} {run:>12.0} {:>7.2}", starts_time / run);
     }
 
     /// Rows to lend to a run's own starts, each exactly long enough.
@@ -268,9 +285,10 @@ mod judgements {
     }
 
     impl RowsOfStarts {
-        fn new(run: &Run) -> RowsOfStarts {
-            let (record, starts) = (run.record().len(), triples(run).len());
-            RowsOfStarts { marks: vec![0; run.marks.len()], record: vec![0; record], starts: vec![0; starts] }
+        fn new(starts: &Starts) -> RowsOfStarts {
+            let lengths = [starts.record().len(), starts.triples().len()];
+            let [record, triples] = lengths.map(|length| vec![0; length]);
+            RowsOfStarts { marks: vec![0; starts.marks.len()], record, starts: triples }
         }
 
         fn library(&mut self, numbers: &[u32]) -> peer::ReadAnswer {

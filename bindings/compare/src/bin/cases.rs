@@ -14,8 +14,7 @@ use peer::happenings::{happenings, Happenings};
 use peer::model::{Encoded, Graph};
 use peer::reference::drain::{Line, LINE};
 use peer::reference::run::Run;
-use peer::reference::starts::triples;
-use peer::reference::{drain, effects};
+use peer::reference::{drain, effects, starts};
 use peer::{reference, Refusal, Refused};
 use std::collections::{HashMap, HashSet};
 
@@ -284,7 +283,7 @@ fn print_run(RunCase { numbers, run, .. }: &RunCase) {
     parts.extend([words(&record(&run.lines)), words(&record(&run.runtime_lines))]);
     parts.extend([words(&run.entries), words(&run.dead), words(&run.helpers)]);
     parts.extend(rows.map(|row| words(row)));
-    parts.push(words(&triples(run)));
+    parts.push(words(&starts::answer(numbers).expect("a good graph").triples()));
     println!("{}", parts.join(" | "));
 }
 

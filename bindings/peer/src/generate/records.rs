@@ -51,7 +51,12 @@ impl Source {
     pub fn run(graph: Graph) -> Source {
         let run = Run::of(&graph);
         let numbers = |lines: &[drain::Line]| lines.iter().map(|line| line.numbers()).collect();
-        Source { starts: triples(&run), lines: numbers(&run.lines), runtime_lines: numbers(&run.runtime_lines), graph }
+        Source {
+            starts: triples(&run.starts),
+            lines: numbers(&run.lines),
+            runtime_lines: numbers(&run.runtime_lines),
+            graph,
+        }
     }
 
     /// Mostly a drain, else a run, of a graph of usual size.

@@ -16,7 +16,7 @@ use std::collections::HashSet;
 #[derive(Clone, Debug)]
 pub struct Run {
     pub rounds: u32,
-    /// The facts that were started before the runtime stage, each once, in order.
+    /// The facts that were started before the runtime stage, each once, in the order of starting.
     pub starts: Vec<Fact>,
     /// The lines of the main stage.
     pub lines: Vec<Line>,
@@ -55,16 +55,20 @@ pub struct Course {
     pub begins: Vec<usize>,
 }
 
-/// The main stage while it goes on.
-struct Main<'a> {
+/// The main stage while it goes on, and as the rounds leave it.
+pub(super) struct Main<'a> {
     rules: &'a Rules<'a>,
-    queue: Queue<'a>,
+    pub(super) queue: Queue<'a>,
     starts: Vec<Fact>,
     started: HashSet<Fact>,
+    /// The user-defined entries in their order.
+    pub(super) user_defined: Vec<u32>,
+    /// The dynamic entries in the order in which they are tried.
+    order: Sorted,
     /// By round: how many lines there were when it took its bailouts.
-    begins: Vec<usize>,
+    pub(super) begins: Vec<usize>,
     /// By module: whether a dynamic entry of it is live.
-    live: Vec<bool>,
+    pub(super) live: Vec<bool>,
     /// By entry: whether a try found it dead.
     found_dead: Vec<bool>,
     /// By module: its first record in the row over all records.
@@ -74,14 +78,27 @@ struct Main<'a> {
 }
 
 impl<'a> Main<'a> {
+    /// The main stage of a graph's run, from the user-defined entries to the last round.
+    pub(super) fn of(rules: &'a Rules<'a>) -> Main<'a> {
+        let mut main = Main::new(rules);
+        for entry in main.user_defined.clone() {
+            main.start(user_defined_starts(rules, rules.graph.entries[entry as usize].module));
+        }
+        main.all_rounds();
+        main
+    }
+
     fn new(rules: &'a Rules<'a>) -> Main<'a> {
         let modules = rules.graph.modules.len();
         let first_records = first_records(rules.graph);
+        let (user_defined, dynamic) = parted(rules.graph);
         Main {
             rules,
             queue: Queue::new(rules),
             starts: Vec::new(),
             started: HashSet::new(),
+            user_defined,
+            order: sorted(rules.graph, &dynamic),
             begins: Vec::new(),
             live: vec![false; modules],
             found_dead: vec![false; rules.graph.entries.len()],
@@ -100,10 +117,10 @@ impl<'a> Main<'a> {
     }
 
     /// Rounds until one keeps no further module.
-    fn all_rounds(&mut self, order: &Sorted) {
+    fn all_rounds(&mut self) {
         loop {
             let before = self.queue.lines().len();
-            self.round(order);
+            self.round();
             let new = &self.queue.lines()[before..];
             if !new.iter().any(|line| matches!(line.fact, Fact::Module(_))) {
                 return;
@@ -112,7 +129,7 @@ impl<'a> Main<'a> {
     }
 
     /// Uses what was gathered in bailouts, then tries the entries of modules that are not live yet.
-    fn round(&mut self, order: &Sorted) {
+    fn round(&mut self) {
         let taken = self.begins.last().copied().unwrap_or(0);
         let gathered = self.queue.lines()[taken..].iter().map(|line| line.fact);
         let bailouts: Vec<Fact> = gathered.filter(|fact| matches!(fact, Fact::Bailout(_))).collect();
@@ -120,12 +137,13 @@ impl<'a> Main<'a> {
         for bailout in bailouts {
             self.start(bailout_exports(self.rules, bailout));
         }
-        for &index in &order.entries {
+        for place in 0..self.order.entries.len() {
+            let index = self.order.entries[place];
             let entry = &self.rules.graph.entries[index as usize];
             if self.live[entry.module as usize] {
                 continue;
             }
-            if !order.on_cycle[entry.module as usize] {
+            if !self.order.on_cycle[entry.module as usize] {
                 if let Try::Dead(dead) = search(self.rules, entry, |fact| self.queue.has(fact)) {
                     self.found_dead[index as usize] = true;
                     self.mark_dead(&dead);
@@ -145,7 +163,7 @@ impl<'a> Main<'a> {
 }
 
 /// What a round uses of a module that was bailed out: its exports from CommonJS.
-fn bailout_exports(rules: &Rules, bailout: Fact) -> Vec<Fact> {
+pub(super) fn bailout_exports(rules: &Rules, bailout: Fact) -> Vec<Fact> {
     let Fact::Bailout(module) = bailout else { return Vec::new() };
     let exports = rules.module(module).resolved_exports.iter().filter(|row| row[2] == 1);
     exports.map(|&[_, symbol, _]| Fact::CheckedUse(symbol, reason::NORMAL)).collect()
@@ -155,20 +173,13 @@ impl Run {
     /// The run of a graph.
     pub fn of(graph: &Graph) -> Run {
         let rules = Rules::new(graph);
-        let mut main = Main::new(&rules);
-        let (user_defined, dynamic) = parted(graph);
-        for &entry in &user_defined {
-            main.start(user_defined_starts(&rules, graph.entries[entry as usize].module));
-        }
-        let order = sorted(graph, &dynamic);
-        main.all_rounds(&order);
-        let entries = final_entries(&rules, &user_defined, &order.entries, &main.live);
-        Run::end(main, order, entries)
+        Run::end(Main::of(&rules))
     }
 
     /// The runtime stage, and the rows of both.
-    fn end(main: Main, order: Sorted, entries: Vec<u32>) -> Run {
-        let Main { rules, queue, starts, dead, live, found_dead, begins, .. } = main;
+    fn end(main: Main) -> Run {
+        let Main { rules, queue, starts, user_defined, order, dead, live, found_dead, begins, .. } = main;
+        let entries = final_entries(rules, &user_defined, &order.entries, &live);
         let helpers = words(rules, |fact| queue.has(fact));
         let runtime_starts = runtime_starts(rules, &helpers, |fact| queue.has(fact));
         let lines = queue.into_lines();
@@ -295,11 +306,6 @@ pub fn run(numbers: &[u32], rows: &mut RunRows) -> RunAnswer {
 pub fn answer(numbers: &[u32]) -> Result<Run, Refused> {
     check(numbers)?;
     Ok(Run::of(&decode(numbers)))
-}
-
-/// The facts that the run of a graph starts before its runtime stage, each once, in order.
-pub fn run_starts(graph: &Graph) -> Vec<Fact> {
-    Run::of(graph).starts
 }
 
 /// What the program `keep` prints for numbers that were read: a listing, or the refusal. Its record has 1,024 lines.

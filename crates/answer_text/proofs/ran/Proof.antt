@@ -47,8 +47,8 @@ enum-known-n c = search needs
 refuse-requires : tie.Need-refuse-requires
 refuse-requires c κs = search needs
 
-enum-known-rounds : tie.Need-enum-known-rounds
-enum-known-rounds c = search needs
+enum-known-t : tie.Need-enum-known-t
+enum-known-t c = search needs
 
 slice-aggregate-listed : tie.Need-slice-aggregate-listed
 slice-aggregate-listed c = sym (c .before .before .before .before .before .before .before .before .before .before .before .before .before .before .before .run .kept .1 .1 .1 .1 .1 .1 .1 .1 .1 .1 .1 .0)
@@ -81,7 +81,7 @@ listed-requires : tie.Need-listed-requires
 listed-requires c κs =
     let s = c .before .before .before .before .before .before .before .before .before .before .before .before .before .before .before .before .before .before .before .before .before .before .before .before .before .before .before .before .before .before .before .before .before .before .before .before .before .before .before .pre in
     let r = c .before .before .before .before .before .before .before .before .before .before .before .before .before .before .before .before .before .before .before .before .before .before .before .before .run in
-    (s, ran-fits s (c .before .before .before .before .before .before .before .before .before .before .before .rounds .given .1) _ (r .ensures) (r .kept .1 .1 .1 .0) (r .kept .1 .1 .1 .1 .0) (r .kept .1 .1 .1 .1 .1 .0) (r .kept .1 .1 .1 .1 .1 .1 .0) (r .kept .1 .1 .1 .1 .1 .1 .1 .0) (r .kept .1 .1 .1 .1 .1 .1 .1 .1 .0) (r .kept .1 .1 .1 .1 .1 .1 .1 .1 .1 .0) (r .kept .1 .1 .1 .1 .1 .1 .1 .1 .1 .1 .0))
+    (s, ran-fits s (c .before .before .before .before .before .before .before .before .before .before .before .t .given .1) _ (r .ensures) (r .kept .1 .1 .1 .0) (r .kept .1 .1 .1 .1 .0) (r .kept .1 .1 .1 .1 .1 .0) (r .kept .1 .1 .1 .1 .1 .1 .0) (r .kept .1 .1 .1 .1 .1 .1 .1 .0) (r .kept .1 .1 .1 .1 .1 .1 .1 .1 .0) (r .kept .1 .1 .1 .1 .1 .1 .1 .1 .1 .0) (r .kept .1 .1 .1 .1 .1 .1 .1 .1 .1 .1 .0))
 
 same-length : tie.Need-same-length
 same-length c = search needs
@@ -93,7 +93,7 @@ same-length-2 : tie.Need-same-length-2
 same-length-2 c = search needs
 
 returns-2 : tie.Need-returns-2
-returns-2 c = told-as _ _ (ran-text (c .before .before .before .before .before .before .before .before .before .before .before .before .before .before .before .before .before .before .before .before .before .before .before .before .before .before .before .before .before .before .before .before .before .before .before .before .before .before .before .before .before .before .pre) (c .before .before .before .before .before .before .before .before .before .before .before .before .before .before .rounds .given .1) _ (c .before .before .before .before .before .before .before .before .before .before .before .before .before .before .before .before .before .before .before .before .before .before .before .before .before .before .before .run .ensures)) (c .before .before .listed .ensures)
+returns-2 c = told-as _ _ (ran-text (c .before .before .before .before .before .before .before .before .before .before .before .before .before .before .before .before .before .before .before .before .before .before .before .before .before .before .before .before .before .before .before .before .before .before .before .before .before .before .before .before .before .before .pre) (c .before .before .before .before .before .before .before .before .before .before .before .before .before .before .t .given .1) _ (c .before .before .before .before .before .before .before .before .before .before .before .before .before .before .before .before .before .before .before .before .before .before .before .before .before .before .before .run .ensures)) (c .before .before .listed .ensures)
 
 pub ran-spec : {M : Type 1} → statement M
 ran-spec =
@@ -113,7 +113,7 @@ ran-spec =
     run-requires
     enum-known-n
     refuse-requires
-    enum-known-rounds
+    enum-known-t
     slice-aggregate-listed
     slice-aggregate-listed-2
     slice-aggregate-listed-3

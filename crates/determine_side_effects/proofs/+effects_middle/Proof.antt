@@ -34,79 +34,36 @@ effects-middle-below t =
     (falls 2 effects-middle-kinds.ps _<_ μ-effects-middle t)
     effects-middle.Pre
 
+abbrev claims : ℕ → effects-middle-lts.Claims
+claims t = (effects-in-reads.Asked, effects-in-reads.Learnt, effects-middle-below t, effects-middle.Post)
+
 effects-middle-slice-aggregate-effects-in :
-    (t : ℕ) → effects-middle-lts.Need-slice-aggregate-effects-in (
-      effects-in-reads.Asked,
-      effects-in-reads.Learnt,
-      effects-middle-below t,
-      effects-middle.Post,
-    ) (effects-middle-at t) effects-middle.Post
+    (t : ℕ) → effects-middle-lts.Need-slice-aggregate-effects-in (claims t) (effects-middle-at t) effects-middle.Post
 effects-middle-slice-aggregate-effects-in t c = search needs
 
-effects-middle-effects-in-requires : (t : ℕ) → effects-middle-lts.Need-effects-in-requires (
-  effects-in-reads.Asked,
-  effects-in-reads.Learnt,
-  effects-middle-below t,
-  effects-middle.Post,
-) (effects-middle-at t) effects-middle.Post
+effects-middle-effects-in-requires : (t : ℕ) → effects-middle-lts.Need-effects-in-requires (claims t) (effects-middle-at t) effects-middle.Post
 effects-middle-effects-in-requires t c κs = let s = c .before .before .before .before in (s .pre .1 .0, rw (length-replicate {A = ℕ} 4875 0) (omega (arith, start-mono (s .args .h) 6 10 (omega arith), fits-all (s .args .h) Middle (s .pre .1 .1)), omega arith))
 
-effects-middle-sub-effects-middle : (t : ℕ) → effects-middle-lts.Need-sub-effects-middle (
-  effects-in-reads.Asked,
-  effects-in-reads.Learnt,
-  effects-middle-below t,
-  effects-middle.Post,
-) (effects-middle-at t) effects-middle.Post
+effects-middle-sub-effects-middle : (t : ℕ) → effects-middle-lts.Need-sub-effects-middle (claims t) (effects-middle-at t) effects-middle.Post
 effects-middle-sub-effects-middle t c = search needs
 
-effects-middle-effects-middle-requires : (t : ℕ) → effects-middle-lts.Need-effects-middle-requires (
-  effects-in-reads.Asked,
-  effects-in-reads.Learnt,
-  effects-middle-below t,
-  effects-middle.Post,
-) (effects-middle-at t) effects-middle.Post
+effects-middle-effects-middle-requires : (t : ℕ) → effects-middle-lts.Need-effects-middle-requires (claims t) (effects-middle-at t) effects-middle.Post
 effects-middle-effects-middle-requires t c κs = let s = c .before .before .before .before .before .before .before .before .before .before in (omega (arith, s .pre .0, c .before .if1 .taken), s .pre .1)
 
-effects-middle-same-length : (t : ℕ) → effects-middle-lts.Need-same-length (
-  effects-in-reads.Asked,
-  effects-in-reads.Learnt,
-  effects-middle-below t,
-  effects-middle.Post,
-) (effects-middle-at t) effects-middle.Post
+effects-middle-same-length : (t : ℕ) → effects-middle-lts.Need-same-length (claims t) (effects-middle-at t) effects-middle.Post
 effects-middle-same-length t c = ap length (c .before .before .effects-middle .ensures .1) ∙ row-length _ _ ∙ ap length (c .before .before .before .before .before .before .before .before .effects-in .ensures .1) ∙ row-length _ _
 
-effects-middle-returns : (t : ℕ) → effects-middle-lts.Need-returns (
-  effects-in-reads.Asked,
-  effects-in-reads.Learnt,
-  effects-middle-below t,
-  effects-middle.Post,
-) (effects-middle-at t) effects-middle.Post
+effects-middle-returns : (t : ℕ) → effects-middle-lts.Need-returns (claims t) (effects-middle-at t) effects-middle.Post
 effects-middle-returns t c = done-again _ _ _ _ _ (c .before .before .before .before .before .before .before .before .effects-in .ensures .1) (c .before .before .effects-middle .ensures)
 
-effects-middle-same-length-2 : (t : ℕ) → effects-middle-lts.Need-same-length-2 (
-  effects-in-reads.Asked,
-  effects-in-reads.Learnt,
-  effects-middle-below t,
-  effects-middle.Post,
-) (effects-middle-at t) effects-middle.Post
+effects-middle-same-length-2 : (t : ℕ) → effects-middle-lts.Need-same-length-2 (claims t) (effects-middle-at t) effects-middle.Post
 effects-middle-same-length-2 t c = ap length (c .before .before .before .before .effects-in .ensures .1) ∙ row-length _ _
 
-effects-middle-returns-2 : (t : ℕ) → effects-middle-lts.Need-returns-2 (
-  effects-in-reads.Asked,
-  effects-in-reads.Learnt,
-  effects-middle-below t,
-  effects-middle.Post,
-) (effects-middle-at t) effects-middle.Post
+effects-middle-returns-2 : (t : ℕ) → effects-middle-lts.Need-returns-2 (claims t) (effects-middle-at t) effects-middle.Post
 effects-middle-returns-2 t c = c .before .before .before .before .effects-in .ensures
 
 pub +effects-middle-spec : {M : Type 1} → statement M
-+effects-middle-spec = close μ-effects-middle λ t. effects-middle-lts.spec (
-  effects-in-reads.Asked,
-  effects-in-reads.Learnt,
-  effects-middle-below t,
-  effects-middle.Post,
-)
-    (effects-middle-at t)
++effects-middle-spec = close μ-effects-middle λ t. effects-middle-lts.spec (claims t) (effects-middle-at t)
     effects-middle.Post
     (effects-middle-slice-aggregate-effects-in t)
     (effects-middle-effects-in-requires t)

@@ -3,7 +3,7 @@ use mathlib.Core.Path.{_≡_, ap, _∙_}
 use mathlib.Core.List.{_++_}
 use native.Mathlib.Omega.{arith}
 use lib.ListN.{drop}
-use Rattle.tables.specs.Layout.{sizes, startOf, Kept, verdictsIn}
+use Rattle.tables.specs.Layout.{sizes, startOf, Kept, verdictsIn, atVerdicts}
 use Rattle.tables.proofs.Sections.{word-inside, kept-none}
 use Rattle.graph_tables.specs.Tables.{headerIn}
 use Rattle.graph.specs.Check.{graphIn}
@@ -15,7 +15,7 @@ use Rattle.determine_side_effects.proofs.first_verdicts.Statement.{stat
 use Rattle.determine_side_effects.proofs.first_verdicts.Tie as tie
 
 abbrev Inv-loop : tie.InvT-loop
-Inv-loop numbers tables₀ h again base m₀ tables m = Kept (startOf (headerIn numbers) 5) tables₀ tables × (m ≤ h .modules) × (verdictsIn tables ≡ tabulate (firstVerdict (graphIn numbers)) 0 m ++ drop m (verdictsIn tables₀))
+Inv-loop numbers tables₀ h again base m₀ tables m = Kept (startOf (headerIn numbers) atVerdicts) tables₀ tables × (m ≤ h .modules) × (verdictsIn tables ≡ tabulate (firstVerdict (graphIn numbers)) 0 m ++ drop m (verdictsIn tables₀))
 
 abbrev μ-loop : tie.MeasureT-loop
 μ-loop numbers tables₀ h again base m₀ tables m = h .modules - m

@@ -2,7 +2,7 @@ use Prim.Native.Nat.{_-_, _<_, _≤_}
 use mathlib.Core.Path.{_≡_, refl, ap, _∙_}
 use mathlib.Core.Bool.{false, true≢false}
 use native.Mathlib.Omega.{arith}
-use Rattle.tables.specs.Layout.{sizes, startOf, Kept, verdictsIn}
+use Rattle.tables.specs.Layout.{sizes, startOf, Kept, verdictsIn, atVerdicts}
 use Rattle.tables.proofs.Sections.{word-inside, kept-none}
 use Rattle.graph_tables.specs.Tables.{headerIn}
 use Rattle.graph.specs.Check.{graphIn}
@@ -13,7 +13,7 @@ use Rattle.determine_side_effects.proofs.pass.Statement.{statement}
 use Rattle.determine_side_effects.proofs.pass.Tie as tie
 
 abbrev Inv-loop : tie.InvT-loop
-Inv-loop numbers tables₀ base moved₀ m₀ tables moved m = Kept (startOf (headerIn numbers) 5) tables₀ tables × (m ≤ m₀) × (pass (graphIn numbers) m (verdictsIn tables) ≡ pass (graphIn numbers) m₀ (verdictsIn tables₀)) × (moved ≡ false → verdictsIn tables ≡ verdictsIn tables₀)
+Inv-loop numbers tables₀ base moved₀ m₀ tables moved m = Kept (startOf (headerIn numbers) atVerdicts) tables₀ tables × (m ≤ m₀) × (pass (graphIn numbers) m (verdictsIn tables) ≡ pass (graphIn numbers) m₀ (verdictsIn tables₀)) × (moved ≡ false → verdictsIn tables ≡ verdictsIn tables₀)
 
 abbrev μ-loop : tie.MeasureT-loop
 μ-loop numbers tables₀ base moved₀ m₀ tables moved m = m

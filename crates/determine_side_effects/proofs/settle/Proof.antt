@@ -1,7 +1,7 @@
 use mathlib.Core.Path.{_≡_, refl, ap, _∙_}
 use native.Mathlib.Omega.{arith}
 use borrow.Author.Tests.{not-true}
-use Rattle.tables.specs.Layout.{startOf, Kept, verdictsIn}
+use Rattle.tables.specs.Layout.{startOf, Kept, verdictsIn, atVerdicts}
 use Rattle.tables.proofs.Sections.{kept-none, kept-both}
 use Rattle.graph_tables.specs.Tables.{headerIn}
 use Rattle.graph.specs.Check.{graphIn}
@@ -12,7 +12,7 @@ use Rattle.determine_side_effects.proofs.settle.Statement.{statement}
 use Rattle.determine_side_effects.proofs.settle.Tie as tie
 
 abbrev Inv-loop : tie.InvT-loop
-Inv-loop numbers tables₀ left₀ tables left = Kept (startOf (headerIn numbers) 5) tables₀ tables × (passes (graphIn numbers) left (verdictsIn tables) ≡ passes (graphIn numbers) left₀ (verdictsIn tables₀))
+Inv-loop numbers tables₀ left₀ tables left = Kept (startOf (headerIn numbers) atVerdicts) tables₀ tables × (passes (graphIn numbers) left (verdictsIn tables) ≡ passes (graphIn numbers) left₀ (verdictsIn tables₀))
 
 abbrev μ-loop : tie.MeasureT-loop
 μ-loop numbers tables₀ left₀ tables left = left

@@ -10,167 +10,126 @@ use Rattle.drain.proofs.drain.Tie as tie
 begun : (c : tie.After-header-of) → HeaderRead (c .before .before .before .before .before .before .before .before .before .before .before .before .before .before .args .numbers .now) (c .header-of .result)
 begun c = record { end = c .before .enum-told .given .0 .0; read = sym (c .before .before .before .header .ensures) ∙ c .before .enum-told .given .1; is = c .header-of .ensures }
 
--- src/lib.rt:124:11
 header-requires : tie.Need-header-requires
 header-requires c κs = _
 
--- src/lib.rt:125:21
 enum-known-n : tie.Need-enum-known-n
 enum-known-n c = c .match .keys1
 
--- src/lib.rt:127:17
 enum-told : tie.Need-enum-told
 enum-told c = c .match .keys2
 
--- src/lib.rt:127:17
 header-of-requires : tie.Need-header-of-requires
 header-of-requires c κs = seven _ (at-got _ _ (sym (c .before .before .header .ensures) ∙ c .enum-told .given .1) .1)
 
--- src/lib.rt:128:17
 size-for-requires : tie.Need-size-for-requires
 size-for-requires c κs = begun c
 
--- src/lib.rt:134:21
 enum-told-2 : tie.Need-enum-told-2
 enum-told-2 c = c .match2 .keys1
 
--- src/lib.rt:130:32
 drain-small-requires : tie.Need-drain-small-requires
 drain-small-requires c κs = (begun (c .before .before .before .before .before .before .before .before .before .before .before), rw (c .before .before .before .before .before .before .before .before .enum-told2 .given .1) at (c .before .before .before .before .before .before .before .before .before .before .size-for .ensures))
 
--- src/lib.rt:147:21
 enum-told-3 : tie.Need-enum-told-3
 enum-told-3 c = c .match2 .keys2
 
--- src/lib.rt:155:21
 apart-requires : tie.Need-apart-requires
 apart-requires c κs = _
 
--- src/lib.rt:143:33
 drain-middle-requires : tie.Need-drain-middle-requires
 drain-middle-requires c κs = (begun (c .before .before .before .before .before .before .before .before .before .before .before .before), rw (c .before .before .before .before .before .before .before .before .before .enum-told3 .given .1) at (c .before .before .before .before .before .before .before .before .before .before .before .size-for .ensures))
 
--- src/lib.rt:161:21
 enum-told-4 : tie.Need-enum-told-4
 enum-told-4 c = c .match2 .keys3
 
--- src/lib.rt:169:21
 apart-requires-2 : tie.Need-apart-requires-2
 apart-requires-2 c κs = _
 
--- src/lib.rt:157:32
 drain-large-requires : tie.Need-drain-large-requires
 drain-large-requires c κs = (begun (c .before .before .before .before .before .before .before .before .before .before .before .before), rw (c .before .before .before .before .before .before .before .before .before .enum-told4 .given .1) at (c .before .before .before .before .before .before .before .before .before .before .before .size-for .ensures))
 
--- src/lib.rt:110:1
 returns : tie.Need-returns
 returns c = ends-before _ _ _ _ (outcome-refused _ _ _ (check-stop-header _ (sym (c .before .before .before .header .ensures) ∙ c .before .n .given .1)))
 
--- src/lib.rt:110:1
 same-length : tie.Need-same-length
 same-length c = c .before .before .before .before .before .before .before .before .before .before .before .before .before .before .before .before .drain-small .kept .1 .1 .1 .0
 
--- src/lib.rt:110:1
 same-length-2 : tie.Need-same-length-2
 same-length-2 c = c .before .before .before .before .before .before .before .before .before .before .before .before .before .before .before .before .drain-small .kept .1 .1 .1 .1 .0
 
--- src/lib.rt:110:1
 same-length-3 : tie.Need-same-length-3
 same-length-3 c = c .before .before .before .before .before .before .before .before .before .before .before .before .before .before .before .before .drain-small .kept .1 .1 .1 .1 .1 .0
 
--- src/lib.rt:110:1
 same-length-4 : tie.Need-same-length-4
 same-length-4 c = c .before .before .before .before .before .before .before .before .before .before .before .before .before .before .before .before .drain-small .kept .1 .1 .1 .1 .1 .1 .0
 
--- src/lib.rt:110:1
 same-length-5 : tie.Need-same-length-5
 same-length-5 c = c .before .before .before .before .before .before .before .before .before .before .before .before .before .before .before .before .drain-small .kept .1 .1 .1 .1 .1 .1 .1 .0
 
--- src/lib.rt:110:1
 same-length-6 : tie.Need-same-length-6
 same-length-6 c = c .before .before .before .before .before .before .before .before .before .before .before .before .before .before .before .before .drain-small .kept .1 .1 .1 .1 .1 .1 .1 .1 .0
 
--- src/lib.rt:110:1
 same-length-7 : tie.Need-same-length-7
 same-length-7 c = c .before .before .before .before .before .before .before .before .before .before .before .before .before .before .before .before .drain-small .kept .1 .1 .1 .1 .1 .1 .1 .1 .1 .0
 
--- src/lib.rt:110:1
 same-length-8 : tie.Need-same-length-8
 same-length-8 c = c .before .before .before .before .before .before .before .before .before .before .before .before .before .before .before .before .drain-small .kept .1 .1 .1 .1 .1 .1 .1 .1 .1 .1 .0
 
--- src/lib.rt:110:1
 returns-2 : tie.Need-returns-2
 returns-2 c = c .before .before .before .before .before .before .before .before .before .before .before .before .before .before .before .before .drain-small .ensures
 
--- src/lib.rt:110:1
 same-length-9 : tie.Need-same-length-9
 same-length-9 c = c .before .before .before .before .before .before .before .before .before .before .before .before .before .before .before .before .drain-middle .kept .1 .1 .1 .0
 
--- src/lib.rt:110:1
 same-length-10 : tie.Need-same-length-10
 same-length-10 c = c .before .before .before .before .before .before .before .before .before .before .before .before .before .before .before .before .drain-middle .kept .1 .1 .1 .1 .0
 
--- src/lib.rt:110:1
 same-length-11 : tie.Need-same-length-11
 same-length-11 c = c .before .before .before .before .before .before .before .before .before .before .before .before .before .before .before .before .drain-middle .kept .1 .1 .1 .1 .1 .0
 
--- src/lib.rt:110:1
 same-length-12 : tie.Need-same-length-12
 same-length-12 c = c .before .before .before .before .before .before .before .before .before .before .before .before .before .before .before .before .drain-middle .kept .1 .1 .1 .1 .1 .1 .0
 
--- src/lib.rt:110:1
 same-length-13 : tie.Need-same-length-13
 same-length-13 c = c .before .before .before .before .before .before .before .before .before .before .before .before .before .before .before .before .drain-middle .kept .1 .1 .1 .1 .1 .1 .1 .0
 
--- src/lib.rt:110:1
 same-length-14 : tie.Need-same-length-14
 same-length-14 c = c .before .before .before .before .before .before .before .before .before .before .before .before .before .before .before .before .drain-middle .kept .1 .1 .1 .1 .1 .1 .1 .1 .0
 
--- src/lib.rt:110:1
 same-length-15 : tie.Need-same-length-15
 same-length-15 c = c .before .before .before .before .before .before .before .before .before .before .before .before .before .before .before .before .drain-middle .kept .1 .1 .1 .1 .1 .1 .1 .1 .1 .0
 
--- src/lib.rt:110:1
 same-length-16 : tie.Need-same-length-16
 same-length-16 c = c .before .before .before .before .before .before .before .before .before .before .before .before .before .before .before .before .drain-middle .kept .1 .1 .1 .1 .1 .1 .1 .1 .1 .1 .0
 
--- src/lib.rt:110:1
 returns-3 : tie.Need-returns-3
 returns-3 c = c .before .before .before .before .before .before .before .before .before .before .before .before .before .before .before .before .drain-middle .ensures
 
--- src/lib.rt:110:1
 same-length-17 : tie.Need-same-length-17
 same-length-17 c = c .before .before .before .before .before .before .before .before .before .before .before .before .before .before .before .before .drain-large .kept .1 .1 .1 .0
 
--- src/lib.rt:110:1
 same-length-18 : tie.Need-same-length-18
 same-length-18 c = c .before .before .before .before .before .before .before .before .before .before .before .before .before .before .before .before .drain-large .kept .1 .1 .1 .1 .0
 
--- src/lib.rt:110:1
 same-length-19 : tie.Need-same-length-19
 same-length-19 c = c .before .before .before .before .before .before .before .before .before .before .before .before .before .before .before .before .drain-large .kept .1 .1 .1 .1 .1 .0
 
--- src/lib.rt:110:1
 same-length-20 : tie.Need-same-length-20
 same-length-20 c = c .before .before .before .before .before .before .before .before .before .before .before .before .before .before .before .before .drain-large .kept .1 .1 .1 .1 .1 .1 .0
 
--- src/lib.rt:110:1
 same-length-21 : tie.Need-same-length-21
 same-length-21 c = c .before .before .before .before .before .before .before .before .before .before .before .before .before .before .before .before .drain-large .kept .1 .1 .1 .1 .1 .1 .1 .0
 
--- src/lib.rt:110:1
 same-length-22 : tie.Need-same-length-22
 same-length-22 c = c .before .before .before .before .before .before .before .before .before .before .before .before .before .before .before .before .drain-large .kept .1 .1 .1 .1 .1 .1 .1 .1 .0
 
--- src/lib.rt:110:1
 same-length-23 : tie.Need-same-length-23
 same-length-23 c = c .before .before .before .before .before .before .before .before .before .before .before .before .before .before .before .before .drain-large .kept .1 .1 .1 .1 .1 .1 .1 .1 .1 .0
 
--- src/lib.rt:110:1
 same-length-24 : tie.Need-same-length-24
 same-length-24 c = c .before .before .before .before .before .before .before .before .before .before .before .before .before .before .before .before .drain-large .kept .1 .1 .1 .1 .1 .1 .1 .1 .1 .1 .0
 
--- src/lib.rt:110:1
 returns-4 : tie.Need-returns-4
 returns-4 c = c .before .before .before .before .before .before .before .before .before .before .before .before .before .before .before .before .drain-large .ensures
 

@@ -2,7 +2,8 @@ use mathlib.Core.Path.{_∙_, refl}
 use native.Mathlib.Omega.{arith}
 use Rattle.tables.specs.declared.Size.the-variants.{Middle}
 use Rattle.drain_sizes.proofs.Twice.{ends-twice}
-use Rattle.drain_sizes.proofs.Tiers.{tables-long, partners-long}
+use Rattle.tables.proofs.Zeros.{tables-long}
+use Rattle.drain_sizes.proofs.Tiers.{partners-long}
 use Prim.Native.Nat.{ℕ, _<_}
 use borrow.Fn.Kinds.{In}
 use borrow.Fn.PlainCycle.{Measures, is, falls, and}
@@ -28,222 +29,81 @@ drain-middle-below t =
     (falls 10 drain-middle-kinds.ps _<_ μ-drain-middle t)
     drain-middle.Pre
 
--- src/lib.rt:129:9
-drain-middle-slice-aggregate-drain-in : (t : ℕ) → drain-middle-lts.Need-slice-aggregate-drain-in (
-  drain-in-reads.Asked,
-  drain-in-reads.Learnt,
-  drain-middle-below t,
-  drain-middle.Post,
-) (drain-middle-at t) drain-middle.Post
+abbrev claims : ℕ → drain-middle-lts.Claims
+claims t = (drain-in-reads.Asked, drain-in-reads.Learnt, drain-middle-below t, drain-middle.Post)
+
+drain-middle-slice-aggregate-drain-in : (t : ℕ) → drain-middle-lts.Need-slice-aggregate-drain-in (claims t) (drain-middle-at t) drain-middle.Post
 drain-middle-slice-aggregate-drain-in t c = refl
 
--- src/lib.rt:130:9
 drain-middle-slice-aggregate-drain-in-2 :
-    (t : ℕ) → drain-middle-lts.Need-slice-aggregate-drain-in-2 (
-      drain-in-reads.Asked,
-      drain-in-reads.Learnt,
-      drain-middle-below t,
-      drain-middle.Post,
-    ) (drain-middle-at t) drain-middle.Post
+    (t : ℕ) → drain-middle-lts.Need-slice-aggregate-drain-in-2 (claims t) (drain-middle-at t) drain-middle.Post
 drain-middle-slice-aggregate-drain-in-2 t c = refl
 
--- src/lib.rt:125:9
-drain-middle-drain-in-requires : (t : ℕ) → drain-middle-lts.Need-drain-in-requires (
-  drain-in-reads.Asked,
-  drain-in-reads.Learnt,
-  drain-middle-below t,
-  drain-middle.Post,
-) (drain-middle-at t) drain-middle.Post
+drain-middle-drain-in-requires : (t : ℕ) → drain-middle-lts.Need-drain-in-requires (claims t) (drain-middle-at t) drain-middle.Post
 drain-middle-drain-in-requires t c κs = let s = c .before .before .before .before .before .before .before .before .before .before .before .before .before .before .before .before .before .before .before .before in (s .pre .1 .0, (tables-long (s .args .h) Middle 4875 refl (omega arith) (s .pre .1 .1), partners-long (s .args .h) 128 1024 1408 (omega arith) (s .pre .1 .1 .0) (s .pre .1 .1 .1)))
 
--- src/lib.rt:153:13
-drain-middle-sub-drain-middle : (t : ℕ) → drain-middle-lts.Need-sub-drain-middle (
-  drain-in-reads.Asked,
-  drain-in-reads.Learnt,
-  drain-middle-below t,
-  drain-middle.Post,
-) (drain-middle-at t) drain-middle.Post
+drain-middle-sub-drain-middle : (t : ℕ) → drain-middle-lts.Need-sub-drain-middle (claims t) (drain-middle-at t) drain-middle.Post
 drain-middle-sub-drain-middle t c = c .before .before .before .before .before .before .before .before .if1 .taken
 
--- src/lib.rt:141:9
-drain-middle-drain-middle-requires : (t : ℕ) → drain-middle-lts.Need-drain-middle-requires (
-  drain-in-reads.Asked,
-  drain-in-reads.Learnt,
-  drain-middle-below t,
-  drain-middle.Post,
-) (drain-middle-at t) drain-middle.Post
+drain-middle-drain-middle-requires : (t : ℕ) → drain-middle-lts.Need-drain-middle-requires (claims t) (drain-middle-at t) drain-middle.Post
 drain-middle-drain-middle-requires t c κs = let s = c .before .before .before .before .before .before .before .before .before .before .before .before .before .before .before .before .before .before .before .before .before .before .before .before .before .before .before .before .before .before .before .before .before .before .before .before .before .before .before .before .before .before .before .before .before .before .before .before in (omega (arith, s .pre .0, c .before .before .before .before .before .before .before .before .if1 .taken), s .pre .1)
 
--- src/lib.rt:141:9
-drain-middle-same-length : (t : ℕ) → drain-middle-lts.Need-same-length (
-  drain-in-reads.Asked,
-  drain-in-reads.Learnt,
-  drain-middle-below t,
-  drain-middle.Post,
-) (drain-middle-at t) drain-middle.Post
+drain-middle-same-length : (t : ℕ) → drain-middle-lts.Need-same-length (claims t) (drain-middle-at t) drain-middle.Post
 drain-middle-same-length t c = c .before .before .before .before .before .before .before .before .before .before .before .before .before .before .before .before .drain-middle .kept .1 .1 .1 .0 ∙ c .before .before .before .before .before .before .before .before .before .before .before .before .before .before .before .before .before .before .before .before .before .before .before .before .before .before .before .before .before .before .before .before .before .before .before .before .before .before .before .before .before .before .before .before .drain-in .kept .1 .1 .1 .1 .1 .0
 
--- src/lib.rt:141:9
-drain-middle-same-length-2 : (t : ℕ) → drain-middle-lts.Need-same-length-2 (
-  drain-in-reads.Asked,
-  drain-in-reads.Learnt,
-  drain-middle-below t,
-  drain-middle.Post,
-) (drain-middle-at t) drain-middle.Post
+drain-middle-same-length-2 : (t : ℕ) → drain-middle-lts.Need-same-length-2 (claims t) (drain-middle-at t) drain-middle.Post
 drain-middle-same-length-2 t c = c .before .before .before .before .before .before .before .before .before .before .before .before .before .before .before .before .drain-middle .kept .1 .1 .1 .1 .0 ∙ c .before .before .before .before .before .before .before .before .before .before .before .before .before .before .before .before .before .before .before .before .before .before .before .before .before .before .before .before .before .before .before .before .before .before .before .before .before .before .before .before .before .before .before .before .drain-in .kept .1 .1 .1 .1 .1 .1 .0
 
--- src/lib.rt:141:9
-drain-middle-same-length-3 : (t : ℕ) → drain-middle-lts.Need-same-length-3 (
-  drain-in-reads.Asked,
-  drain-in-reads.Learnt,
-  drain-middle-below t,
-  drain-middle.Post,
-) (drain-middle-at t) drain-middle.Post
+drain-middle-same-length-3 : (t : ℕ) → drain-middle-lts.Need-same-length-3 (claims t) (drain-middle-at t) drain-middle.Post
 drain-middle-same-length-3 t c = c .before .before .before .before .before .before .before .before .before .before .before .before .before .before .before .before .drain-middle .kept .1 .1 .1 .1 .1 .0 ∙ c .before .before .before .before .before .before .before .before .before .before .before .before .before .before .before .before .before .before .before .before .before .before .before .before .before .before .before .before .before .before .before .before .before .before .before .before .before .before .before .before .before .before .before .before .drain-in .kept .1 .1 .1 .1 .1 .1 .1 .0
 
--- src/lib.rt:141:9
-drain-middle-same-length-4 : (t : ℕ) → drain-middle-lts.Need-same-length-4 (
-  drain-in-reads.Asked,
-  drain-in-reads.Learnt,
-  drain-middle-below t,
-  drain-middle.Post,
-) (drain-middle-at t) drain-middle.Post
+drain-middle-same-length-4 : (t : ℕ) → drain-middle-lts.Need-same-length-4 (claims t) (drain-middle-at t) drain-middle.Post
 drain-middle-same-length-4 t c = c .before .before .before .before .before .before .before .before .before .before .before .before .before .before .before .before .drain-middle .kept .1 .1 .1 .1 .1 .1 .0 ∙ c .before .before .before .before .before .before .before .before .before .before .before .before .before .before .before .before .before .before .before .before .before .before .before .before .before .before .before .before .before .before .before .before .before .before .before .before .before .before .before .before .before .before .before .before .drain-in .kept .1 .1 .1 .1 .1 .1 .1 .1 .0
 
--- src/lib.rt:141:9
-drain-middle-same-length-5 : (t : ℕ) → drain-middle-lts.Need-same-length-5 (
-  drain-in-reads.Asked,
-  drain-in-reads.Learnt,
-  drain-middle-below t,
-  drain-middle.Post,
-) (drain-middle-at t) drain-middle.Post
+drain-middle-same-length-5 : (t : ℕ) → drain-middle-lts.Need-same-length-5 (claims t) (drain-middle-at t) drain-middle.Post
 drain-middle-same-length-5 t c = c .before .before .before .before .before .before .before .before .before .before .before .before .before .before .before .before .drain-middle .kept .1 .1 .1 .1 .1 .1 .1 .0 ∙ c .before .before .before .before .before .before .before .before .before .before .before .before .before .before .before .before .before .before .before .before .before .before .before .before .before .before .before .before .before .before .before .before .before .before .before .before .before .before .before .before .before .before .before .before .drain-in .kept .1 .1 .1 .1 .1 .1 .1 .1 .1 .0
 
--- src/lib.rt:141:9
-drain-middle-same-length-6 : (t : ℕ) → drain-middle-lts.Need-same-length-6 (
-  drain-in-reads.Asked,
-  drain-in-reads.Learnt,
-  drain-middle-below t,
-  drain-middle.Post,
-) (drain-middle-at t) drain-middle.Post
+drain-middle-same-length-6 : (t : ℕ) → drain-middle-lts.Need-same-length-6 (claims t) (drain-middle-at t) drain-middle.Post
 drain-middle-same-length-6 t c = c .before .before .before .before .before .before .before .before .before .before .before .before .before .before .before .before .drain-middle .kept .1 .1 .1 .1 .1 .1 .1 .1 .0 ∙ c .before .before .before .before .before .before .before .before .before .before .before .before .before .before .before .before .before .before .before .before .before .before .before .before .before .before .before .before .before .before .before .before .before .before .before .before .before .before .before .before .before .before .before .before .drain-in .kept .1 .1 .1 .1 .1 .1 .1 .1 .1 .1 .0
 
--- src/lib.rt:141:9
-drain-middle-same-length-7 : (t : ℕ) → drain-middle-lts.Need-same-length-7 (
-  drain-in-reads.Asked,
-  drain-in-reads.Learnt,
-  drain-middle-below t,
-  drain-middle.Post,
-) (drain-middle-at t) drain-middle.Post
+drain-middle-same-length-7 : (t : ℕ) → drain-middle-lts.Need-same-length-7 (claims t) (drain-middle-at t) drain-middle.Post
 drain-middle-same-length-7 t c = c .before .before .before .before .before .before .before .before .before .before .before .before .before .before .before .before .drain-middle .kept .1 .1 .1 .1 .1 .1 .1 .1 .1 .0 ∙ c .before .before .before .before .before .before .before .before .before .before .before .before .before .before .before .before .before .before .before .before .before .before .before .before .before .before .before .before .before .before .before .before .before .before .before .before .before .before .before .before .before .before .before .before .drain-in .kept .1 .1 .1 .1 .1 .1 .1 .1 .1 .1 .1 .0
 
--- src/lib.rt:141:9
-drain-middle-same-length-8 : (t : ℕ) → drain-middle-lts.Need-same-length-8 (
-  drain-in-reads.Asked,
-  drain-in-reads.Learnt,
-  drain-middle-below t,
-  drain-middle.Post,
-) (drain-middle-at t) drain-middle.Post
+drain-middle-same-length-8 : (t : ℕ) → drain-middle-lts.Need-same-length-8 (claims t) (drain-middle-at t) drain-middle.Post
 drain-middle-same-length-8 t c = c .before .before .before .before .before .before .before .before .before .before .before .before .before .before .before .before .drain-middle .kept .1 .1 .1 .1 .1 .1 .1 .1 .1 .1 .0 ∙ c .before .before .before .before .before .before .before .before .before .before .before .before .before .before .before .before .before .before .before .before .before .before .before .before .before .before .before .before .before .before .before .before .before .before .before .before .before .before .before .before .before .before .before .before .drain-in .kept .1 .1 .1 .1 .1 .1 .1 .1 .1 .1 .1 .1 .0
 
--- src/lib.rt:141:9
-drain-middle-returns : (t : ℕ) → drain-middle-lts.Need-returns (
-  drain-in-reads.Asked,
-  drain-in-reads.Learnt,
-  drain-middle-below t,
-  drain-middle.Post,
-) (drain-middle-at t) drain-middle.Post
+drain-middle-returns : (t : ℕ) → drain-middle-lts.Need-returns (claims t) (drain-middle-at t) drain-middle.Post
 drain-middle-returns t c = let d = c .before .before .before .before .before .before .before .before .before .before .before .before .before .before .before .before .before .before .before .before .before .before .before .before .before .before .before .before .before .before .before .before .before .before .before .before .before .before .before .before .before .before .before .before .drain-in in ends-twice _ _ (record { marks-long = d .kept .1 .1 .1 .1 .1 .0; lines-long = d .kept .1 .1 .1 .1 .1 .1 .0; modules-long = d .kept .1 .1 .1 .1 .1 .1 .1 .0; statements-long = d .kept .1 .1 .1 .1 .1 .1 .1 .1 .0; used-long = d .kept .1 .1 .1 .1 .1 .1 .1 .1 .1 .0; external-long = d .kept .1 .1 .1 .1 .1 .1 .1 .1 .1 .1 .0; json-long = d .kept .1 .1 .1 .1 .1 .1 .1 .1 .1 .1 .1 .0; reason-long = d .kept .1 .1 .1 .1 .1 .1 .1 .1 .1 .1 .1 .1 .0 }) _ _ _ _ _ (d .ensures) (c .before .before .before .before .before .before .before .before .before .before .before .before .before .before .before .before .drain-middle .ensures)
 
--- src/lib.rt:106:1
-drain-middle-same-length-9 : (t : ℕ) → drain-middle-lts.Need-same-length-9 (
-  drain-in-reads.Asked,
-  drain-in-reads.Learnt,
-  drain-middle-below t,
-  drain-middle.Post,
-) (drain-middle-at t) drain-middle.Post
+drain-middle-same-length-9 : (t : ℕ) → drain-middle-lts.Need-same-length-9 (claims t) (drain-middle-at t) drain-middle.Post
 drain-middle-same-length-9 t c = c .before .before .before .before .before .before .before .before .before .before .before .before .before .before .before .before .before .before .before .drain-in .kept .1 .1 .1 .1 .1 .0
 
--- src/lib.rt:106:1
-drain-middle-same-length-10 : (t : ℕ) → drain-middle-lts.Need-same-length-10 (
-  drain-in-reads.Asked,
-  drain-in-reads.Learnt,
-  drain-middle-below t,
-  drain-middle.Post,
-) (drain-middle-at t) drain-middle.Post
+drain-middle-same-length-10 : (t : ℕ) → drain-middle-lts.Need-same-length-10 (claims t) (drain-middle-at t) drain-middle.Post
 drain-middle-same-length-10 t c = c .before .before .before .before .before .before .before .before .before .before .before .before .before .before .before .before .before .before .before .drain-in .kept .1 .1 .1 .1 .1 .1 .0
 
--- src/lib.rt:106:1
-drain-middle-same-length-11 : (t : ℕ) → drain-middle-lts.Need-same-length-11 (
-  drain-in-reads.Asked,
-  drain-in-reads.Learnt,
-  drain-middle-below t,
-  drain-middle.Post,
-) (drain-middle-at t) drain-middle.Post
+drain-middle-same-length-11 : (t : ℕ) → drain-middle-lts.Need-same-length-11 (claims t) (drain-middle-at t) drain-middle.Post
 drain-middle-same-length-11 t c = c .before .before .before .before .before .before .before .before .before .before .before .before .before .before .before .before .before .before .before .drain-in .kept .1 .1 .1 .1 .1 .1 .1 .0
 
--- src/lib.rt:106:1
-drain-middle-same-length-12 : (t : ℕ) → drain-middle-lts.Need-same-length-12 (
-  drain-in-reads.Asked,
-  drain-in-reads.Learnt,
-  drain-middle-below t,
-  drain-middle.Post,
-) (drain-middle-at t) drain-middle.Post
+drain-middle-same-length-12 : (t : ℕ) → drain-middle-lts.Need-same-length-12 (claims t) (drain-middle-at t) drain-middle.Post
 drain-middle-same-length-12 t c = c .before .before .before .before .before .before .before .before .before .before .before .before .before .before .before .before .before .before .before .drain-in .kept .1 .1 .1 .1 .1 .1 .1 .1 .0
 
--- src/lib.rt:106:1
-drain-middle-same-length-13 : (t : ℕ) → drain-middle-lts.Need-same-length-13 (
-  drain-in-reads.Asked,
-  drain-in-reads.Learnt,
-  drain-middle-below t,
-  drain-middle.Post,
-) (drain-middle-at t) drain-middle.Post
+drain-middle-same-length-13 : (t : ℕ) → drain-middle-lts.Need-same-length-13 (claims t) (drain-middle-at t) drain-middle.Post
 drain-middle-same-length-13 t c = c .before .before .before .before .before .before .before .before .before .before .before .before .before .before .before .before .before .before .before .drain-in .kept .1 .1 .1 .1 .1 .1 .1 .1 .1 .0
 
--- src/lib.rt:106:1
-drain-middle-same-length-14 : (t : ℕ) → drain-middle-lts.Need-same-length-14 (
-  drain-in-reads.Asked,
-  drain-in-reads.Learnt,
-  drain-middle-below t,
-  drain-middle.Post,
-) (drain-middle-at t) drain-middle.Post
+drain-middle-same-length-14 : (t : ℕ) → drain-middle-lts.Need-same-length-14 (claims t) (drain-middle-at t) drain-middle.Post
 drain-middle-same-length-14 t c = c .before .before .before .before .before .before .before .before .before .before .before .before .before .before .before .before .before .before .before .drain-in .kept .1 .1 .1 .1 .1 .1 .1 .1 .1 .1 .0
 
--- src/lib.rt:106:1
-drain-middle-same-length-15 : (t : ℕ) → drain-middle-lts.Need-same-length-15 (
-  drain-in-reads.Asked,
-  drain-in-reads.Learnt,
-  drain-middle-below t,
-  drain-middle.Post,
-) (drain-middle-at t) drain-middle.Post
+drain-middle-same-length-15 : (t : ℕ) → drain-middle-lts.Need-same-length-15 (claims t) (drain-middle-at t) drain-middle.Post
 drain-middle-same-length-15 t c = c .before .before .before .before .before .before .before .before .before .before .before .before .before .before .before .before .before .before .before .drain-in .kept .1 .1 .1 .1 .1 .1 .1 .1 .1 .1 .1 .0
 
--- src/lib.rt:106:1
-drain-middle-same-length-16 : (t : ℕ) → drain-middle-lts.Need-same-length-16 (
-  drain-in-reads.Asked,
-  drain-in-reads.Learnt,
-  drain-middle-below t,
-  drain-middle.Post,
-) (drain-middle-at t) drain-middle.Post
+drain-middle-same-length-16 : (t : ℕ) → drain-middle-lts.Need-same-length-16 (claims t) (drain-middle-at t) drain-middle.Post
 drain-middle-same-length-16 t c = c .before .before .before .before .before .before .before .before .before .before .before .before .before .before .before .before .before .before .before .drain-in .kept .1 .1 .1 .1 .1 .1 .1 .1 .1 .1 .1 .1 .0
 
--- src/lib.rt:106:1
-drain-middle-returns-2 : (t : ℕ) → drain-middle-lts.Need-returns-2 (
-  drain-in-reads.Asked,
-  drain-in-reads.Learnt,
-  drain-middle-below t,
-  drain-middle.Post,
-) (drain-middle-at t) drain-middle.Post
+drain-middle-returns-2 : (t : ℕ) → drain-middle-lts.Need-returns-2 (claims t) (drain-middle-at t) drain-middle.Post
 drain-middle-returns-2 t c = c .before .before .before .before .before .before .before .before .before .before .before .before .before .before .before .before .before .before .before .drain-in .ensures
 
 pub +drain-middle-spec : {M : Type 1} → statement M
-+drain-middle-spec = close μ-drain-middle λ t. drain-middle-lts.spec (
-  drain-in-reads.Asked,
-  drain-in-reads.Learnt,
-  drain-middle-below t,
-  drain-middle.Post,
-)
-    (drain-middle-at t)
++drain-middle-spec = close μ-drain-middle λ t. drain-middle-lts.spec (claims t) (drain-middle-at t)
     drain-middle.Post
     (drain-middle-slice-aggregate-drain-in t)
     (drain-middle-slice-aggregate-drain-in-2 t)

@@ -1,55 +1,44 @@
 use mathlib.Core.Path.{refl}
 use native.Mathlib.Omega.{arith}
 use Rattle.tables.specs.declared.Size.the-variants.{Small}
-use Rattle.drain_sizes.proofs.Tiers.{tables-long, partners-long}
+use Rattle.tables.proofs.Zeros.{tables-long}
+use Rattle.drain_sizes.proofs.Tiers.{partners-long}
 use Rattle.drain_sizes.proofs.drain_small.Statement.{statement}
 use Rattle.drain_sizes.proofs.drain_small.Tie as tie
 
--- src/lib.rt:92:9
 slice-aggregate-drain-in : tie.Need-slice-aggregate-drain-in
 slice-aggregate-drain-in c = refl
 
--- src/lib.rt:93:9
 slice-aggregate-drain-in-2 : tie.Need-slice-aggregate-drain-in-2
 slice-aggregate-drain-in-2 c = refl
 
--- src/lib.rt:88:5
 drain-in-requires : tie.Need-drain-in-requires
 drain-in-requires c κs = let s = c .before .before .before .before .before .before .before .before .before .before .before .before .before .before .before .before .before .before .before .before in (s .pre .0, (tables-long (s .args .h) Small 363 refl (omega arith) (s .pre .1), partners-long (s .args .h) 16 64 112 (omega arith) (s .pre .1 .0) (s .pre .1 .1)))
 
--- src/lib.rt:70:1
 same-length : tie.Need-same-length
 same-length c = c .before .before .before .before .before .before .before .before .before .before .before .before .before .before .before .before .before .before .drain-in .kept .1 .1 .1 .1 .1 .0
 
--- src/lib.rt:70:1
 same-length-2 : tie.Need-same-length-2
 same-length-2 c = c .before .before .before .before .before .before .before .before .before .before .before .before .before .before .before .before .before .before .drain-in .kept .1 .1 .1 .1 .1 .1 .0
 
--- src/lib.rt:70:1
 same-length-3 : tie.Need-same-length-3
 same-length-3 c = c .before .before .before .before .before .before .before .before .before .before .before .before .before .before .before .before .before .before .drain-in .kept .1 .1 .1 .1 .1 .1 .1 .0
 
--- src/lib.rt:70:1
 same-length-4 : tie.Need-same-length-4
 same-length-4 c = c .before .before .before .before .before .before .before .before .before .before .before .before .before .before .before .before .before .before .drain-in .kept .1 .1 .1 .1 .1 .1 .1 .1 .0
 
--- src/lib.rt:70:1
 same-length-5 : tie.Need-same-length-5
 same-length-5 c = c .before .before .before .before .before .before .before .before .before .before .before .before .before .before .before .before .before .before .drain-in .kept .1 .1 .1 .1 .1 .1 .1 .1 .1 .0
 
--- src/lib.rt:70:1
 same-length-6 : tie.Need-same-length-6
 same-length-6 c = c .before .before .before .before .before .before .before .before .before .before .before .before .before .before .before .before .before .before .drain-in .kept .1 .1 .1 .1 .1 .1 .1 .1 .1 .1 .0
 
--- src/lib.rt:70:1
 same-length-7 : tie.Need-same-length-7
 same-length-7 c = c .before .before .before .before .before .before .before .before .before .before .before .before .before .before .before .before .before .before .drain-in .kept .1 .1 .1 .1 .1 .1 .1 .1 .1 .1 .1 .0
 
--- src/lib.rt:70:1
 same-length-8 : tie.Need-same-length-8
 same-length-8 c = c .before .before .before .before .before .before .before .before .before .before .before .before .before .before .before .before .before .before .drain-in .kept .1 .1 .1 .1 .1 .1 .1 .1 .1 .1 .1 .1 .0
 
--- src/lib.rt:70:1
 returns : tie.Need-returns
 returns c = c .before .before .before .before .before .before .before .before .before .before .before .before .before .before .before .before .before .before .drain-in .ensures
 

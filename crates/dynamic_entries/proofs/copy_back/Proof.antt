@@ -22,51 +22,39 @@ room c = copy-room _ _ _ _ (c .before .before .before .before .before .before .p
 wide : (c : tie.After-wide Inv-loop μ-loop) → length (c .before .before .before .loop .plan) * 8 < 2 ^ 63
 wide c = let s = c .before .before .before .before .before .before in let k = c .before .before .before .loop .inv .fill .long in omega (arith, k, s .good .1 .1 .0 .1)
 
--- src/lib.rt:115:5
 loop-holds : tie.Need-loop-holds Inv-loop μ-loop
 loop-holds c = copies-start _ _ _ _ (c .before .before .pre)
 
--- src/lib.rt:116:38
 mul-wide : tie.Need-mul-wide Inv-loop μ-loop
 mul-wide c = let s = c .before .before .before .before in let l = c .loop-test .taken in record { fits = omega (arith, l, s .pre .0, s .good .0 .1) }
 
--- src/lib.rt:116:38
 shared-slice-read-wide : tie.Need-shared-slice-read-wide Inv-loop μ-loop
 shared-slice-read-wide c = let s = c .before .before .before .before .before in let l = c .before .loop-test .taken in omega (arith, l, s .pre .0)
 
--- src/lib.rt:116:27
 wide-requires : tie.Need-wide-requires Inv-loop μ-loop
 wide-requires c κs = search needs
 
--- src/lib.rt:116:14
 add-plan : tie.Need-add-plan Inv-loop μ-loop
 add-plan c = let r = room c in let w = wide c in record { fits = omega (arith, r, w) }
 
--- src/lib.rt:116:9
 mul-plan : tie.Need-mul-plan Inv-loop μ-loop
 mul-plan c = let r = room c in let w = wide c in record { fits = omega (arith, r, w) }
 
--- src/lib.rt:116:9
 slice-write-plan : tie.Need-slice-write-plan Inv-loop μ-loop
 slice-write-plan c = room c
 
--- src/lib.rt:117:9
 add-i : tie.Need-add-i Inv-loop μ-loop
 add-i c = let r = room c in let w = wide c in record { fits = omega (arith, r, w) }
 
--- src/lib.rt:115:5
 loop-less : tie.Need-loop-less Inv-loop μ-loop
 loop-less c = let l = c .before .before .loop-test .taken in omega (arith, l)
 
--- src/lib.rt:115:5
 loop-again : tie.Need-loop-again Inv-loop μ-loop
 loop-again c = copy-next _ _ _ _ (c .before .before .before .before .before .before .pre) _ _ (c .before .before .before .loop .inv) (c .before .before .loop-test .taken) _ (c .wide .ensures)
 
--- src/lib.rt:110:1
 same-length : tie.Need-same-length Inv-loop μ-loop
 same-length c = c .before .loop .inv .fill .long
 
--- src/lib.rt:110:1
 returns : tie.Need-returns Inv-loop μ-loop
 returns c = copies-done _ _ _ _ (c .before .before .before .before .pre) _ _ (c .before .loop .inv) (c .loop-test .left)
 

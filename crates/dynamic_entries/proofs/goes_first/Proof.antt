@@ -5,31 +5,24 @@ use Rattle.dynamic_entries.proofs.goes_first.Tie as tie
 use Rattle.dynamic_entries.proofs.goes_first.Reads as reads
 use Rattle.dynamic_entries.proofs.goes_first.Lts as lts
 
--- src/lib.rt:33:13
 add-if1 : tie.Need-add-if1
 add-if1 c = search needs
 
--- src/lib.rt:33:8
 mul-if1 : tie.Need-mul-if1
 mul-if1 c = search needs
 
--- src/lib.rt:33:8
 shared-slice-read-if1 : tie.Need-shared-slice-read-if1
 shared-slice-read-if1 c = search needs
 
--- src/lib.rt:34:9
 returns : tie.Need-returns
 returns c = rw (eq-eqb _ _ (c .if1 .taken))
 
--- src/lib.rt:36:5
 mul-result : tie.Need-mul-result
 mul-result c = search needs
 
--- src/lib.rt:36:5
 shared-slice-read-result : tie.Need-shared-slice-read-result
 shared-slice-read-result c = search needs
 
--- src/lib.rt:29:1
 returns-2 : tie.Need-returns-2
 returns-2 c = rw (ne-eqb _ _ (c .before .if1 .left))
 

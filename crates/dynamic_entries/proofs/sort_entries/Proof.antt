@@ -16,41 +16,32 @@ use Rattle.dynamic_entries.proofs.take_first.Reads as take-first-reads
 use Rattle.entry_order.proofs.link.Reads as link-reads
 use Rattle.graph.proofs.header_of.Reads as header-of-reads
 
--- src/lib.rt:138:9
 header-of-requires : tie.Need-header-of-requires
 header-of-requires c κs = c .before .before .before .before .before .before .before .pre .0 .long
 
--- src/lib.rt:139:17
 sub-count : tie.Need-sub-count
 sub-count c = let s = c .before .before .before .before .before .before .before .before .before in users-inside _ _ _ (s .pre .1 .0 .0) _ (c .before .header-of .ensures)
 
--- src/lib.rt:140:40
 mul-link : tie.Need-mul-link
 mul-link c = let s = c .before .before .before .before .before .before .before .before .before in let u = users-long _ _ _ (s .pre .1 .0 .0) in record { fits = omega (arith, u, s .good .1 .1 .1 .1 .1 .1 .1 .1 .0 .1) }
 
--- src/lib.rt:140:40
 sub-link : tie.Need-sub-link
 sub-link c = let s = c .before .before .before .before .before .before .before .before .before in users-long _ _ _ (s .pre .1 .0 .0)
 
--- src/lib.rt:140:40
 part-link-start : tie.Need-part-link-start
 part-link-start c = let s = c .before .before .before .before .before .before .before .before .before .before in users-long _ _ _ (s .pre .1 .0 .0)
 
--- src/lib.rt:140:40
 part-link-end : tie.Need-part-link-end
 part-link-end c = omega arith
 
--- src/lib.rt:140:5
 link-requires : tie.Need-link-requires
 link-requires c κs =
     let s = c .before .before .before .before .before .before .before .before .before .before .before .before in
     rw (part-to-end (s .args .plan .now) (s .args .users)) (s .pre .0, (part-read _ _ _ (s .pre .1 .0 .0) _ (c .before .before .before .before .header-of .ensures), rw (c .before .before .before .before .header-of .ensures) (omega (arith, s .pre .1 .1 .0))))
 
--- src/lib.rt:141:9
 take-first-requires : tie.Need-take-first-requires
 take-first-requires c κs = let s = c .before .before .before .before .before .before .before .before .before .before .before .before .before .before .before .before .before in (s .pre .0, (s .pre .1 .0 .0, s .pre .1 .0 .1, s .pre .1 .0 .2, s .pre .1 .1 .1))
 
--- src/lib.rt:142:5
 take-by-completion-requires : tie.Need-take-by-completion-requires
 take-by-completion-requires c κs =
     let s = c .before .before .before .before .before .before .before .before .before .before .before .before .before .before .before .before .before .before .before .before .before .before .before in
@@ -59,26 +50,21 @@ take-by-completion-requires c κs =
     let o = rest-room _ _ h _ _ (s .pre .1 .0 .0) (s .pre .1 .0 .1) (s .pre .1 .1 .2) _ _ _ (c .before .before .before .before .before .take-first .ensures) (s .pre .1 .1 .1) (c .before .before .before .before .before .take-first .kept .1 .1 .1 .1 .1 .0) in
     ((s .pre .0 .long, s .pre .0 .few-entries), ((s .pre .1 .0 .0, s .pre .1 .0 .1, s .pre .1 .0 .3), (l, o)))
 
--- src/lib.rt:143:5
 copy-back-requires : tie.Need-copy-back-requires
 copy-back-requires c κs =
     let s = c .before .before .before .before .before .before .before .before .before .before .before .before .before .before .before .before .before .before .before .before .before .before .before .before .before .before .before .before in
     let k : length (c .before .before .before .before .take-by-completion .last .1 .1 .1 .1 .1 .1 .0) ≡ length (s .args .list .now) = c .before .before .before .before .take-by-completion .kept .1 .1 .1 .1 .1 .1 .0 ∙ c .before .before .before .before .before .before .before .before .before .before .take-first .kept .1 .1 .1 .1 .1 .0 in
     part-fits _ _ (c .before .before .before .before .before .before .before .before .before .before .before .before .before .before .before .before .before .before .before .before .header-of .ensures) _ _ (s .pre .1 .0 .0) (s .pre .1 .0 .1) (s .pre .1 .1 .2) (c .before .before .before .before .take-by-completion .last .1 .1 .1 .1 .1 .1 .0) (omega (arith, k, s .pre .1 .1 .1))
 
--- src/lib.rt:122:1
 same-length : tie.Need-same-length
 same-length c = c .before .before .before .before .before .before .before .before .before .before .before .before .before .before .before .before .before .before .link .kept .1 .1 .1 .1 .0
 
--- src/lib.rt:122:1
 same-length-2 : tie.Need-same-length-2
 same-length-2 c = c .before .before .before .before .before .before .before .take-by-completion .kept .1 .1 .1 .1 .1 .1 .0 ∙ c .before .before .before .before .before .before .before .before .before .before .before .before .before .take-first .kept .1 .1 .1 .1 .1 .0
 
--- src/lib.rt:122:1
 same-length-3 : tie.Need-same-length-3
 same-length-3 c = c .before .before .copy-back .kept .1 .1 .0
 
--- src/lib.rt:122:1
 returns : tie.Need-returns
 returns c =
     let s = c .before .before .before .before .before .before .before .before .before .before .before .before .before .before .before .before .before .before .before .before .before .before .before .before .before .before .before .before .before .before .before in

@@ -12,6 +12,7 @@ use Rattle.dynamic_entries.proofs.take_first.Tie as tie
 use Rattle.dynamic_entries.proofs.take_first.Reads as reads
 use Rattle.dynamic_entries.proofs.take_first.Lts as lts
 use Rattle.dynamic_entries.proofs.goes_first.Reads as goes-first-reads
+use Rattle.entry_order.proofs.cycled_at.Reads as cycled-at-reads
 use Rattle.facts.proofs.narrow.Reads as narrow-reads
 use Rattle.graph.proofs.header_of.Reads as header-of-reads
 use Rattle.graph_access.proofs.entries.entry_module.Reads as entry-module-reads
@@ -28,83 +29,63 @@ here c = let s = c .before .before .before .before .before .before .before .befo
 
 -- there is a place for it
 room : (c : tie.Then1 Inv-loop μ-loop) → c .before .before .before .before .before .loop .n < length (c .before .before .before .before .before .loop .list)
-room c = let s = c .before .before .before .before .before .before .before .before .before .before .before .before .before in turn-room _ _ _ _ _ (s .pre .1) _ (c .before .before .before .before .before .before .before .header-of .ensures) _ _ _ (c .before .before .before .before .before .loop .inv) (c .before .before .before .before .loop-test .taken) _ (c .before .before .entry-module .ensures) _ (c .before .goes-first .ensures) (c .if1 .taken)
+room c = let s = c .before .before .before .before .before .before .before .before .before .before .before .before .before in turn-room _ _ _ _ _ (s .pre .1) _ (c .before .before .before .before .before .before .before .header-of .ensures) _ _ _ (c .before .before .before .before .before .loop .inv) (c .before .before .before .before .loop-test .taken) _ (c .before .before .entry-module .ensures) _ (rw (c .before .before .before .before .before .before .cycled-at .ensures) at (c .before .goes-first .ensures)) (c .if1 .taken)
 
--- src/lib.rt:52:9
 header-of-requires : tie.Need-header-of-requires Inv-loop μ-loop
 header-of-requires c κs = c .before .before .before .before .before .pre .0 .long
 
--- src/lib.rt:54:14
-mul-at : tie.Need-mul-at Inv-loop μ-loop
-mul-at c = let s = c .before .before .before .before .before .before in let b = s .pre .0 .few-entries in rw (c .header-of .ensures) (record { fits = omega (arith, b) })
+cycled-at-requires : tie.Need-cycled-at-requires Inv-loop μ-loop
+cycled-at-requires c κs = let s = c .before .before .before .before .before .before in let b = s .pre .0 .few-entries in let m = s .pre .0 .few-modules in rw (c .header-of .ensures) (omega (arith, b, m))
 
--- src/lib.rt:54:14
-add-at : tie.Need-add-at Inv-loop μ-loop
-add-at c = let s = c .before .before .before .before .before .before .before in let b = s .pre .0 .few-entries in let m = s .pre .0 .few-modules in rw (c .before .header-of .ensures) (record { fits = omega (arith, b, m) })
-
--- src/lib.rt:57:5
 loop-holds : tie.Need-loop-holds Inv-loop μ-loop
 loop-holds c = let s = c .before .before .before .before .before .before .before in begins _ _ _ _ _ (s .pre .1) _ (c .before .header-of .ensures)
 
--- src/lib.rt:58:17
 mul-e : tie.Need-mul-e Inv-loop μ-loop
 mul-e c = let s = c .before .before .before .before .before .before .before .before .before in let t = here c .0 in record { fits = omega (arith, t, s .good .1 .1 .0 .1) }
 
--- src/lib.rt:58:17
 shared-slice-read-e : tie.Need-shared-slice-read-e Inv-loop μ-loop
 shared-slice-read-e c = here (c .before) .0
 
--- src/lib.rt:59:13
 entry-module-requires : tie.Need-entry-module-requires Inv-loop μ-loop
 entry-module-requires c κs = let s = c .before .before .before .before .before .before .before .before .before .before in (s .pre .0, here (c .before) .1)
 
--- src/lib.rt:60:12
 goes-first-requires : tie.Need-goes-first-requires Inv-loop μ-loop
-goes-first-requires c κs = let s = c .before .before .before .before .before .before .before .before .before .before .before in turn-words _ _ _ _ _ (s .pre .1) _ (c .before .before .before .before .before .header-of .ensures) _ _ _ (c .before .before .before .loop .inv) (c .before .before .loop-test .taken) _ (c .entry-module .ensures)
+goes-first-requires c κs = let s = c .before .before .before .before .before .before .before .before .before .before .before in rw (c .before .before .before .before .cycled-at .ensures) (turn-words _ _ _ _ _ (s .pre .1) _ (c .before .before .before .before .before .header-of .ensures) _ _ _ (c .before .before .before .loop .inv) (c .before .before .loop-test .taken) _ (c .entry-module .ensures))
 
--- src/lib.rt:61:23
 narrow-requires : tie.Need-narrow-requires Inv-loop μ-loop
 narrow-requires c κs = let s = c .before .before .before .before .before .before .before .before .before .before .before .before .before in let t = here (c .before .before .before .before) .1 in let b = s .pre .0 .few-entries in omega (arith, t, b)
 
--- src/lib.rt:61:13
 mul-list : tie.Need-mul-list Inv-loop μ-loop
 mul-list c = let t = room (c .before) in let s = c .before .before .before .before .before .before .before .before .before .before .before .before .before .before in let k = c .before .before .before .before .before .before .loop .inv .fill .long in record { fits = omega (arith, t, k, s .good .1 .1 .1 .1 .1 .0 .1) }
 
--- src/lib.rt:61:13
 slice-write-list : tie.Need-slice-write-list Inv-loop μ-loop
 slice-write-list c = room (c .before)
 
--- src/lib.rt:62:13
 add-n : tie.Need-add-n Inv-loop μ-loop
 add-n c = let t = room (c .before) in let s = c .before .before .before .before .before .before .before .before .before .before .before .before .before .before in let k = c .before .before .before .before .before .before .loop .inv .fill .long in record { fits = omega (arith, t, k, s .good .1 .1 .1 .1 .1 .0 .1) }
 
--- src/lib.rt:64:9
 add-i : tie.Need-add-i Inv-loop μ-loop
 add-i c = let s = c .before .before .before .before .before .before .before .before .before .before .before .before .before in let t = here (c .before .before .before .before) .0 in record { fits = omega (arith, t, s .good .1 .1 .0 .1) }
 
--- src/lib.rt:57:5
 loop-less : tie.Need-loop-less Inv-loop μ-loop
 loop-less c = let l = c .before .before .before .before .loop-test .taken in omega (arith, l)
 
--- src/lib.rt:57:5
 loop-again : tie.Need-loop-again Inv-loop μ-loop
 loop-again c =
     let s = c .before .before .before .before .before .before .before .before .before .before .before .before .before in
     let i = c .before .before .before .before .before .loop .inv in
     let l = c .before .before .before .before .loop-test .taken in
     let o = c .before .before .entry-module .ensures in
-    let e = c .before .goes-first .ensures in
+    let e = rw (c .before .before .before .before .before .before .cycled-at .ensures) at (c .before .goes-first .ensures) in
     let h = c .before .before .before .before .before .before .before .header-of .ensures in
     ⊎-elim
     (λ w. rw (w .2, w .3) (turn-here _ _ _ _ _ (s .pre .1) _ h _ _ _ i l _ o _ e (w .0 .taken) _ (w .1 .ensures)))
     (λ w. rw (w .1, w .2) (turn-not _ _ _ _ _ (s .pre .1) _ h _ _ _ i l _ o _ e (w .0 .left)))
     (c .if1 .came)
 
--- src/lib.rt:40:1
 same-length : tie.Need-same-length Inv-loop μ-loop
 same-length c = c .before .loop .inv .fill .long
 
--- src/lib.rt:40:1
 returns : tie.Need-returns Inv-loop μ-loop
 returns c = let s = c .before .before .before .before .before .before .before .before .before in ends _ _ _ _ _ (s .pre .1) _ (c .before .before .before .header-of .ensures) _ _ _ (c .before .loop .inv) (c .loop-test .left)
 
@@ -115,8 +96,7 @@ take-first-spec =
     Inv-loop
     μ-loop
     header-of-requires
-    mul-at
-    add-at
+    cycled-at-requires
     loop-holds
     mul-e
     shared-slice-read-e

@@ -22,79 +22,60 @@ here c = let s = c .before .before .before .before .before .before .before .befo
 wide : (c : tie.In-loop Inv-loop μ-loop) → length (c .before .loop .out) * 4 < 2 ^ 63
 wide c = let s = c .before .before .before .before .before .before .before .before in let l = c .before .loop .inv .fill .long in omega (arith, l, s .good .1 .1 .1 .1 .1 .0 .1)
 
--- src/lib.rt:64:9
 header-of-requires : tie.Need-header-of-requires Inv-loop μ-loop
 header-of-requires c κs = c .before .before .before .before .pre .0
 
--- src/lib.rt:67:18
 mul-at : tie.Need-mul-at Inv-loop μ-loop
 mul-at c = let s = c .before .before .before .before .before in let l = first-fits _ _ (c .header-of .ensures) _ _ _ _ (s .pre .1 .0 .0) (s .pre .1 .0 .1) (s .pre .1 .1 .0) (s .args .n) (s .args .out .now) in record { fits = omega (arith, l, s .good .1 .1 .1 .0 .1) }
 
--- src/lib.rt:67:18
 shared-slice-read-at : tie.Need-shared-slice-read-at Inv-loop μ-loop
 shared-slice-read-at c = let s = c .before .before .before .before .before .before in first-fits _ _ (c .before .header-of .ensures) _ _ _ _ (s .pre .1 .0 .0) (s .pre .1 .0 .1) (s .pre .1 .1 .0) (s .args .n) (s .args .out .now)
 
--- src/lib.rt:69:5
 loop-holds : tie.Need-loop-holds Inv-loop μ-loop
 loop-holds c = let s = c .before .before .before .before .before .before in along-start _ _ (c .before .header-of .ensures) _ _ _ _ (s .pre .1 .0 .0) (s .pre .1 .0 .1) (s .pre .1 .1 .0) _ _ (s .pre .1 .1 .2)
 
--- src/lib.rt:70:37
 sub-narrow : tie.Need-sub-narrow Inv-loop μ-loop
 sub-narrow c = c .loop-test .taken
 
--- src/lib.rt:70:32
 mul-narrow : tie.Need-mul-narrow Inv-loop μ-loop
 mul-narrow c = let s = c .before .before .before .before .before .before .before .before in let t = here c .0 in record { fits = omega (arith, t, s .good .1 .0 .1) }
 
--- src/lib.rt:70:32
 shared-slice-read-narrow : tie.Need-shared-slice-read-narrow Inv-loop μ-loop
 shared-slice-read-narrow c = here (c .before) .0
 
--- src/lib.rt:70:18
 narrow-requires : tie.Need-narrow-requires Inv-loop μ-loop
 narrow-requires c κs = let s = c .before .before .before .before .before .before .before .before .before in let t = here (c .before) .1 in omega (arith, t, s .pre .1 .1 .1)
 
--- src/lib.rt:70:9
 mul-out : tie.Need-mul-out Inv-loop μ-loop
 mul-out c = let t = here (c .before .before) .3 in let w = wide (c .before .before) in record { fits = omega (arith, t, w) }
 
--- src/lib.rt:70:9
 slice-write-out : tie.Need-slice-write-out Inv-loop μ-loop
 slice-write-out c = here (c .before .before) .3
 
--- src/lib.rt:71:9
 add-k : tie.Need-add-k Inv-loop μ-loop
 add-k c = let t = here (c .before .before) .3 in let w = wide (c .before .before) in record { fits = omega (arith, t, w) }
 
--- src/lib.rt:72:20
 add-at : tie.Need-add-at Inv-loop μ-loop
 add-at c = let s = c .before .before .before .before .before .before .before .before .before .before in let t = here (c .before .before) .2 in record { fits = omega (arith, t, s .good .1 .1 .1 .0 .1) }
 
--- src/lib.rt:72:20
 sub-at : tie.Need-sub-at Inv-loop μ-loop
 sub-at c = let h = c .before .before .loop-test .taken in omega (arith, h)
 
--- src/lib.rt:72:14
 mul-at-2 : tie.Need-mul-at-2 Inv-loop μ-loop
 mul-at-2 c = let s = c .before .before .before .before .before .before .before .before .before .before in let t = here (c .before .before) .2 in record { fits = omega (arith, t, s .good .1 .1 .1 .0 .1) }
 
--- src/lib.rt:72:14
 shared-slice-read-at-2 : tie.Need-shared-slice-read-at-2 Inv-loop μ-loop
 shared-slice-read-at-2 c = let h = c .before .before .before .loop-test .taken in let t = here (c .before .before .before) .2 in omega (arith, t, h)
 
--- src/lib.rt:69:5
 loop-less : tie.Need-loop-less Inv-loop μ-loop
 loop-less c = let s = c .before .before .before .before .before .before .before .before .before .before .before in along-less _ _ (c .before .before .before .before .before .before .header-of .ensures) _ _ _ _ (s .pre .1 .0 .0) (s .pre .1 .0 .1) (s .pre .1 .1 .0) _ _ _ _ _ (c .before .before .before .before .loop .inv) (c .before .before .before .loop-test .taken)
 
--- src/lib.rt:69:5
 loop-again : tie.Need-loop-again Inv-loop μ-loop
 loop-again c = let s = c .before .before .before .before .before .before .before .before .before .before .before in along-step _ _ (c .before .before .before .before .before .before .header-of .ensures) _ _ _ _ (s .pre .1 .0 .0) (s .pre .1 .0 .1) (s .pre .1 .1 .0) _ _ _ _ _ (c .before .before .before .before .loop .inv) (c .before .before .before .loop-test .taken) _ (c .before .narrow .ensures)
 
--- src/lib.rt:50:1
 same-length : tie.Need-same-length Inv-loop μ-loop
 same-length c = c .before .loop .inv .fill .long
 
--- src/lib.rt:50:1
 returns : tie.Need-returns Inv-loop μ-loop
 returns c = let s = c .before .before .before .before .before .before .before .before in along-done _ _ (c .before .before .before .header-of .ensures) _ _ _ _ (s .pre .1 .0 .0) (s .pre .1 .0 .1) (s .pre .1 .1 .0) _ _ _ _ _ (c .before .loop .inv) (c .loop-test .left)
 

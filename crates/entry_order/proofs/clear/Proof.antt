@@ -13,27 +13,21 @@ Inv-loop chain₀ count i₀ chain i = (length chain ≡ length chain₀) × (i 
 abbrev μ-loop : tie.MeasureT-loop
 μ-loop chain₀ count i₀ chain i = count - i
 
--- src/lib.rt:24:5
 loop-holds : tie.Need-loop-holds Inv-loop μ-loop
 loop-holds c = search needs
 
--- src/lib.rt:25:9
 mul-chain : tie.Need-mul-chain Inv-loop μ-loop
 mul-chain c = search needs
 
--- src/lib.rt:25:9
 slice-write-chain : tie.Need-slice-write-chain Inv-loop μ-loop
 slice-write-chain c = search needs
 
--- src/lib.rt:26:9
 add-i : tie.Need-add-i Inv-loop μ-loop
 add-i c = search needs
 
--- src/lib.rt:24:5
 loop-less : tie.Need-loop-less Inv-loop μ-loop
 loop-less c = search needs
 
--- src/lib.rt:24:5
 loop-again : tie.Need-loop-again Inv-loop μ-loop
 loop-again c =
     let l = c .before .loop in
@@ -41,11 +35,9 @@ loop-again c =
     let s = c .before .before .pre in
     (length-set {A = ℕ} (l .chain) (l .i) 0 ∙ l .inv .0, omega (arith, h), zero-more (l .chain) (l .i) (omega (arith, h, s, l .inv .0)) (l .inv .2))
 
--- src/lib.rt:19:1
 same-length : tie.Need-same-length Inv-loop μ-loop
 same-length c = search needs
 
--- src/lib.rt:19:1
 returns : tie.Need-returns Inv-loop μ-loop
 returns c = λ i h. (let l = c .loop-test .left in c .before .loop .inv .2 i (omega (arith, l, h)))
 

@@ -25,47 +25,36 @@ room c =
     let s = c .before .before .before .before .before .before .before .before .before .before in
     copy-room _ _ _ _ (s .pre .1 .0 .long) _ _ _ _ _ (c .before .before .before .before .before .loop .inv) (c .before .before .before .before .loop-test .taken) _ (c .before .before .wide .ensures) (kind-told _ _ _ _ _ (c .before .entry-kind .ensures .0) (c .if1 .taken))
 
--- src/lib.rt:119:5
 loop-holds : tie.Need-loop-holds Inv-loop μ-loop
 loop-holds c = let s = c .before .before .before .before in copy-start _ _ _ _ (s .pre .1 .0 .long) _ _ (s .pre .1 .1)
 
--- src/lib.rt:120:28
 mul-wide : tie.Need-mul-wide Inv-loop μ-loop
 mul-wide c = let s = c .before .before .before .before .before .before in let t = here c in record { fits = omega (arith, t .0, s .good .1 .1 .0 .1) }
 
--- src/lib.rt:120:28
 shared-slice-read-wide : tie.Need-shared-slice-read-wide Inv-loop μ-loop
 shared-slice-read-wide c = here (c .before) .0
 
--- src/lib.rt:120:13
 wide-requires : tie.Need-wide-requires Inv-loop μ-loop
 wide-requires c κs = tt
 
--- src/lib.rt:121:26
 entry-kind-requires : tie.Need-entry-kind-requires Inv-loop μ-loop
 entry-kind-requires c κs = let s = c .before .before .before .before .before .before .before .before in (s .pre .0, rw (c .wide .ensures) (here (c .before .before) .1))
 
--- src/lib.rt:123:13
 mul-plan : tie.Need-mul-plan Inv-loop μ-loop
 mul-plan c = let s = c .before .before .before .before .before .before .before .before .before .before in let t = room c in let l = c .before .before .before .before .before .loop .inv .fill .long in record { fits = omega (arith, t, l, s .good .1 .1 .1 .1 .1 .0 .1) }
 
--- src/lib.rt:123:13
 slice-write-plan : tie.Need-slice-write-plan Inv-loop μ-loop
 slice-write-plan c = room c
 
--- src/lib.rt:124:13
 add-to : tie.Need-add-to Inv-loop μ-loop
 add-to c = let s = c .before .before .before .before .before .before .before .before .before .before in let t = room c in let l = c .before .before .before .before .before .loop .inv .fill .long in record { fits = omega (arith, t, l, s .good .1 .1 .1 .1 .1 .0 .1) }
 
--- src/lib.rt:126:9
 add-i : tie.Need-add-i Inv-loop μ-loop
 add-i c = let s = c .before .before .before .before .before .before .before .before .before .before in let t = here (c .before .before .before .before) in record { fits = omega (arith, t .0, s .good .1 .1 .0 .1) }
 
--- src/lib.rt:119:5
 loop-less : tie.Need-loop-less Inv-loop μ-loop
 loop-less c = let h = c .before .before .before .before .loop-test .taken in omega (arith, h)
 
--- src/lib.rt:119:5
 loop-again : tie.Need-loop-again Inv-loop μ-loop
 loop-again c =
     let s = c .before .before .before .before .before .before .before .before .before .before in
@@ -78,11 +67,9 @@ loop-again c =
     (λ w. rw (w .1, w .2) (copy-other _ _ _ _ (s .pre .1 .0 .long) _ _ _ _ _ i h _ x (kind-told _ _ _ _ _ k (w .0 .left))))
     (c .if1 .came)
 
--- src/lib.rt:104:1
 same-length : tie.Need-same-length Inv-loop μ-loop
 same-length c = c .before .loop .inv .fill .long
 
--- src/lib.rt:104:1
 returns : tie.Need-returns Inv-loop μ-loop
 returns c = let s = c .before .before .before .before .before .before in copy-done _ _ _ _ (s .pre .1 .0 .long) _ _ _ _ _ (c .before .loop .inv) (c .loop-test .left)
 

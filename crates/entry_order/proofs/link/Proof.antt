@@ -34,82 +34,63 @@ owner c =
     let u : c .entry-module .result .0 < m .result .modules = rw (m .ensures) (c .entry-module .ensures .1) in
     (omega (arith, u, long), omega (arith, t, long), omega (arith, l .inv .0, k, s .good .1 .1 .1 .1 .0 .1))
 
--- src/lib.rt:36:9
 header-of-requires : tie.Need-header-of-requires Inv-loop μ-loop
 header-of-requires c κs = c .before .before .before .before .pre .0 .long
 
--- src/lib.rt:38:5
 clear-requires : tie.Need-clear-requires Inv-loop μ-loop
 clear-requires c κs = let s = c .before .before .before .before .before .before in rw (c .before .header-of .ensures) (omega (arith, s .pre .1 .1))
 
--- src/lib.rt:40:5
 loop-holds : tie.Need-loop-holds Inv-loop μ-loop
 loop-holds c = let s = c .before .before .before .before .before .before .before .before .before in (refl, omega arith, chain-ready _ _ (c .before .before .before .before .header-of .ensures) _ _ (s .args .chain .now) _ (s .pre .1 .1) (c .before .before .clear .kept .0) (c .before .before .clear .ensures))
 
--- src/lib.rt:41:9
 sub-i : tie.Need-sub-i Inv-loop μ-loop
 sub-i c = c .loop-test .taken
 
--- src/lib.rt:42:69
 mul-chain : tie.Need-mul-chain Inv-loop μ-loop
 mul-chain c = let s = c .before .before .before .before .before .before .before .before .before .before .before in let t = turn c in record { fits = omega (arith, t .1, s .good .1 .1 .0 .1) }
 
--- src/lib.rt:42:69
 shared-slice-read-chain : tie.Need-shared-slice-read-chain Inv-loop μ-loop
 shared-slice-read-chain c = turn (c .before) .1
 
--- src/lib.rt:42:13
 entry-module-requires : tie.Need-entry-module-requires Inv-loop μ-loop
 entry-module-requires c κs = let s = c .before .before .before .before .before .before .before .before .before .before .before .before in (s .pre .0, entry-below _ _ _ _ (s .pre .1 .0) (turn (c .before) .0) .1)
 
--- src/lib.rt:44:30
 mul-chain-2 : tie.Need-mul-chain-2 Inv-loop μ-loop
 mul-chain-2 c = let t = owner c in record { fits = omega (arith, t .0, t .2) }
 
--- src/lib.rt:44:30
 slice-read-chain : tie.Need-slice-read-chain Inv-loop μ-loop
 slice-read-chain c = owner (c .before) .0
 
--- src/lib.rt:44:15
 add-chain : tie.Need-add-chain Inv-loop μ-loop
 add-chain c = let t = owner (c .before) in record { fits = omega (arith, t .1, t .2) }
 
--- src/lib.rt:44:9
 mul-chain-3 : tie.Need-mul-chain-3 Inv-loop μ-loop
 mul-chain-3 c = let t = owner (c .before) in record { fits = omega (arith, t .1, t .2) }
 
--- src/lib.rt:44:9
 slice-write-chain : tie.Need-slice-write-chain Inv-loop μ-loop
 slice-write-chain c = owner (c .before) .1
 
--- src/lib.rt:45:20
 add-chain-2 : tie.Need-add-chain-2 Inv-loop μ-loop
 add-chain-2 c = let t = owner (c .before) in record { fits = omega (arith, t .1, t .2) }
 
--- src/lib.rt:45:9
 mul-chain-4 : tie.Need-mul-chain-4 Inv-loop μ-loop
 mul-chain-4 c = let t = owner (c .before) in record { fits = omega (arith, t .0, t .2) }
 
--- src/lib.rt:45:9
 slice-write-chain-2 : tie.Need-slice-write-chain-2 Inv-loop μ-loop
 slice-write-chain-2 c = let t = owner (c .before) in simp length-set (t .0)
 
--- src/lib.rt:40:5
 loop-less : tie.Need-loop-less Inv-loop μ-loop
 loop-less c = let h = c .before .before .before .loop-test .taken in omega (arith, h)
 
--- src/lib.rt:40:5
 loop-again : tie.Need-loop-again Inv-loop μ-loop
 loop-again c =
     let l = c .before .before .before .before .loop in
     let h = c .before .before .before .loop-test .taken in
     (simp length-set (l .inv .0), omega (arith, l .inv .1), chain-turn _ _ (c .before .before .before .before .before .before .before .before .before .header-of .ensures) _ _ _ _ _ h (l .inv .1) (c .before .entry-module .ensures) (l .inv .2))
 
--- src/lib.rt:31:1
 same-length : tie.Need-same-length Inv-loop μ-loop
 same-length c = c .before .loop .inv .0 ∙ c .before .before .before .before .clear .kept .0
 
--- src/lib.rt:31:1
 returns : tie.Need-returns Inv-loop μ-loop
 returns c = link-done _ _ _ _ _ (c .loop-test .left) (c .before .loop .inv .2)
 

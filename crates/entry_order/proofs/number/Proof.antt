@@ -13,38 +13,30 @@ Inv-loop plan₀ count e₀ plan e = (e ≤ count) × Filling 0 (tabulate (λ j.
 abbrev μ-loop : tie.MeasureT-loop
 μ-loop plan₀ count e₀ plan e = count - e
 
--- src/lib.rt:137:5
 loop-holds : tie.Need-loop-holds Inv-loop μ-loop
 loop-holds c = (omega arith, number-start _ _ (c .pre))
 
--- src/lib.rt:138:9
 mul-plan : tie.Need-mul-plan Inv-loop μ-loop
 mul-plan c = search needs
 
--- src/lib.rt:138:9
 slice-write-plan : tie.Need-slice-write-plan Inv-loop μ-loop
 slice-write-plan c = search needs
 
--- src/lib.rt:139:9
 add-e : tie.Need-add-e Inv-loop μ-loop
 add-e c = search needs
 
--- src/lib.rt:137:5
 loop-less : tie.Need-loop-less Inv-loop μ-loop
 loop-less c = search needs
 
--- src/lib.rt:137:5
 loop-again : tie.Need-loop-again Inv-loop μ-loop
 loop-again c =
     let l = c .before .loop in
     let h = c .loop-test .taken in
     (omega (arith, h), number-step _ _ _ _ (l .inv .1) h)
 
--- src/lib.rt:132:1
 same-length : tie.Need-same-length Inv-loop μ-loop
 same-length c = search needs
 
--- src/lib.rt:132:1
 returns : tie.Need-returns Inv-loop μ-loop
 returns c = number-done _ _ _ _ (c .before .loop .inv .1) (c .loop-test .left)
 

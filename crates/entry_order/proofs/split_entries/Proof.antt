@@ -16,29 +16,24 @@ counted : (c : tie.After-header-of) → let n = c .header-of .result .entries in
     (headerIn (s .args .numbers .now) .modules + n ≤ length (s .args .chain .now)) × (n ≤ length (s .args .list .now)) × (n ≤ length (s .args .plan .now))
 counted c = let s = c .before .before .before .before .before .before in rw (c .header-of .ensures) (s .pre .1)
 
--- src/lib.rt:157:9
 header-of-requires : tie.Need-header-of-requires
 header-of-requires c κs = c .before .before .before .before .before .pre .0 .long
 
--- src/lib.rt:159:5
 number-requires : tie.Need-number-requires
 number-requires c κs = counted (c .before) .2
 
--- src/lib.rt:160:5
 group-requires : tie.Need-group-requires
 group-requires c κs =
     let s = c .before .before .before .before .before .before .before .before .before .before .before .before .before in
     let n = counted (c .before .before .before .before .before .before .before) in
     (s .pre .0, (numbered _ _ (is (c .before .before .before .before .before .before .before)) _ _ (n .2) (c .before .before .before .before .before .number .ensures), n .0, n .1))
 
--- src/lib.rt:161:9
 copy-kind-requires : tie.Need-copy-kind-requires
 copy-kind-requires c κs =
     let s = c .before .before .before .before .before .before .before .before .before .before .before .before .before .before .before .before .before .before .before .before in
     let n = counted (c .before .before .before .before .before .before .before .before .before .before .before .before .before .before) in
     (s .pre .0, (list-entries _ _ (is (c .before .before .before .before .before .before .before .before .before .before .before .before .before .before)) _ _ (n .2) (c .before .before .before .before .before .before .before .before .before .before .before .before .number .ensures) _ _ (n .1) (c .before .before .before .before .before .before .group .ensures), user-room _ _ (is (c .before .before .before .before .before .before .before .before .before .before .before .before .before .before)) _ _ (n .2) (c .before .before .before .before .before .before .before .before .before .before .before .before .number .ensures) _ _ (n .1) (c .before .before .before .before .before .before .group .ensures)))
 
--- src/lib.rt:162:5
 copy-kind-requires-2 : tie.Need-copy-kind-requires-2
 copy-kind-requires-2 c κs =
     let s = c .before .before .before .before .before .before .before .before .before .before .before .before .before .before .before .before .before .before .before .before .before .before .before .before .before in
@@ -46,19 +41,15 @@ copy-kind-requires-2 c κs =
     let room = dynamic-room _ _ (is (c .before .before .before .before .before .before .before .before .before .before .before .before .before .before .before .before .before .before .before)) _ _ (n .2) (c .before .before .before .before .before .before .before .before .before .before .before .before .before .before .before .before .before .number .ensures) _ _ (n .1) (c .before .before .before .before .before .before .before .before .before .before .before .group .ensures) _ _ (c .before .before .before .before .copy-kind .ensures) in
     (s .pre .0, (list-entries _ _ (is (c .before .before .before .before .before .before .before .before .before .before .before .before .before .before .before .before .before .before .before)) _ _ (n .2) (c .before .before .before .before .before .before .before .before .before .before .before .before .before .before .before .before .before .number .ensures) _ _ (n .1) (c .before .before .before .before .before .before .before .before .before .before .before .group .ensures), omega (arith, room)))
 
--- src/lib.rt:145:1
 same-length : tie.Need-same-length
 same-length c = c .before .before .before .before .before .before .before .before .before .before .before .before .before .before .group .kept .1 .1 .1 .1 .0
 
--- src/lib.rt:145:1
 same-length-2 : tie.Need-same-length-2
 same-length-2 c = c .before .before .before .before .before .before .before .before .before .before .before .before .before .before .group .kept .1 .1 .1 .1 .1 .0
 
--- src/lib.rt:145:1
 same-length-3 : tie.Need-same-length-3
 same-length-3 c = c .before .before .copy-kind2 .kept .1 .1 .1 .1 .1 .0 ∙ c .before .before .before .before .before .before .before .copy-kind .kept .1 .1 .1 .1 .1 .0 ∙ c .before .before .before .before .before .before .before .before .before .before .before .before .before .before .before .before .before .before .before .before .number .kept .0
 
--- src/lib.rt:145:1
 returns : tie.Need-returns
 returns c =
     let n = counted (c .before .before .before .before .before .before .before .before .before .before .before .before .before .before .before .before .before .before .before .before .before .before) in

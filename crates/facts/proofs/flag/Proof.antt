@@ -4,11 +4,9 @@ use borrow.Author.Needs.{needs}
 use Rattle.facts.proofs.flag.Statement.{statement}
 use Rattle.facts.proofs.flag.Tie as tie
 
--- src/lib.rt:36:6
 shr-result : tie.Need-shr-result
 shr-result c = search needs
 
--- src/lib.rt:32:1
 returns : tie.Need-returns
 unfolding flagOf
 returns c = refl

@@ -9,27 +9,21 @@ use Rattle.facts.proofs.mark_count.Tie as tie
 few : (c : tie.After-header-of) → let h = c .header-of .result in (h .modules ≤ 1024) × (h .symbols ≤ 16384) × (h .statements ≤ 16384)
 few c = small (c .before .before .before .pre) _ (c .header-of .ensures)
 
--- src/lib.rt:116:9
 header-of-requires : tie.Need-header-of-requires
 header-of-requires c κs = (c .before .before .pre .long)
 
--- src/lib.rt:117:5
 mul-result : tie.Need-mul-result
 mul-result c = let b = few (c .before) in record { fits = omega (arith, b .0, b .1, b .2) }
 
--- src/lib.rt:117:5
 add-result : tie.Need-add-result
 add-result c = let b = few (c .before .before) in record { fits = omega (arith, b .0, b .1, b .2) }
 
--- src/lib.rt:117:36
 mul-result-2 : tie.Need-mul-result-2
 mul-result-2 c = let b = few (c .before .before .before) in record { fits = omega (arith, b .0, b .1, b .2) }
 
--- src/lib.rt:117:5
 add-result-2 : tie.Need-add-result-2
 add-result-2 c = let b = few (c .before .before .before) in record { fits = omega (arith, b .0, b .1, b .2) }
 
--- src/lib.rt:112:1
 returns : tie.Need-returns
 returns c = count-is (c .before .before .before .before .before .before .pre) _ (c .before .before .before .header-of .ensures)
 

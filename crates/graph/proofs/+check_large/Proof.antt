@@ -22,68 +22,29 @@ check-large-at t = and 1 check-large-kinds.ps (is 1 check-large-kinds.ps μ-chec
 abbrev check-large-below : ℕ → In 1 check-large-kinds.ps
 check-large-below t = and 1 check-large-kinds.ps (falls 1 check-large-kinds.ps _<_ μ-check-large t) check-large.Pre
 
--- src/lib.rt:264:34
-check-large-slice-aggregate-load : (t : ℕ) → check-large-lts.Need-slice-aggregate-load (
-  load-reads.Asked,
-  load-reads.Learnt,
-  check-large-below t,
-  check-large.Post,
-) (check-large-at t) check-large.Post
+abbrev claims : ℕ → check-large-lts.Claims
+claims t = (load-reads.Asked, load-reads.Learnt, check-large-below t, check-large.Post)
+
+check-large-slice-aggregate-load : (t : ℕ) → check-large-lts.Need-slice-aggregate-load (claims t) (check-large-at t) check-large.Post
 check-large-slice-aggregate-load t c = search needs
 
--- src/lib.rt:264:18
-check-large-load-requires : (t : ℕ) → check-large-lts.Need-load-requires (
-  load-reads.Asked,
-  load-reads.Learnt,
-  check-large-below t,
-  check-large.Post,
-) (check-large-at t) check-large.Post
+check-large-load-requires : (t : ℕ) → check-large-lts.Need-load-requires (claims t) (check-large-at t) check-large.Post
 check-large-load-requires t c κs = let s = c .before .before in (s .pre .1 .0, rw (length-replicate {A = ℕ} 35851 0) (fits-places (s .args .h) Large (s .pre .1 .1), omega arith))
 
--- src/lib.rt:266:40
-check-large-sub-check-large : (t : ℕ) → check-large-lts.Need-sub-check-large (
-  load-reads.Asked,
-  load-reads.Learnt,
-  check-large-below t,
-  check-large.Post,
-) (check-large-at t) check-large.Post
+check-large-sub-check-large : (t : ℕ) → check-large-lts.Need-sub-check-large (claims t) (check-large-at t) check-large.Post
 check-large-sub-check-large t c = search needs
 
--- src/lib.rt:266:16
-check-large-check-large-requires : (t : ℕ) → check-large-lts.Need-check-large-requires (
-  load-reads.Asked,
-  load-reads.Learnt,
-  check-large-below t,
-  check-large.Post,
-) (check-large-at t) check-large.Post
+check-large-check-large-requires : (t : ℕ) → check-large-lts.Need-check-large-requires (claims t) (check-large-at t) check-large.Post
 check-large-check-large-requires t c κs = let s = c .before .before .before .before .before in (omega (arith, s .pre .0, c .if1 .taken), s .pre .1)
 
--- src/lib.rt:266:16
-check-large-returns : (t : ℕ) → check-large-lts.Need-returns (
-  load-reads.Asked,
-  load-reads.Learnt,
-  check-large-below t,
-  check-large.Post,
-) (check-large-at t) check-large.Post
+check-large-returns : (t : ℕ) → check-large-lts.Need-returns (claims t) (check-large-at t) check-large.Post
 check-large-returns t c = c .check-large .ensures
 
--- src/lib.rt:259:1
-check-large-returns-2 : (t : ℕ) → check-large-lts.Need-returns-2 (
-  load-reads.Asked,
-  load-reads.Learnt,
-  check-large-below t,
-  check-large.Post,
-) (check-large-at t) check-large.Post
+check-large-returns-2 : (t : ℕ) → check-large-lts.Need-returns-2 (claims t) (check-large-at t) check-large.Post
 check-large-returns-2 t c = c .before .before .load .ensures .0
 
 pub +check-large-spec : {M : Type 1} → statement M
-+check-large-spec = close μ-check-large λ t. check-large-lts.spec (
-  load-reads.Asked,
-  load-reads.Learnt,
-  check-large-below t,
-  check-large.Post,
-)
-    (check-large-at t)
++check-large-spec = close μ-check-large λ t. check-large-lts.spec (claims t) (check-large-at t)
     check-large.Post
     (check-large-slice-aggregate-load t)
     (check-large-load-requires t)

@@ -22,68 +22,29 @@ check-middle-at t = and 1 check-middle-kinds.ps (is 1 check-middle-kinds.ps μ-c
 abbrev check-middle-below : ℕ → In 1 check-middle-kinds.ps
 check-middle-below t = and 1 check-middle-kinds.ps (falls 1 check-middle-kinds.ps _<_ μ-check-middle t) check-middle.Pre
 
--- src/lib.rt:251:34
-check-middle-slice-aggregate-load : (t : ℕ) → check-middle-lts.Need-slice-aggregate-load (
-  load-reads.Asked,
-  load-reads.Learnt,
-  check-middle-below t,
-  check-middle.Post,
-) (check-middle-at t) check-middle.Post
+abbrev claims : ℕ → check-middle-lts.Claims
+claims t = (load-reads.Asked, load-reads.Learnt, check-middle-below t, check-middle.Post)
+
+check-middle-slice-aggregate-load : (t : ℕ) → check-middle-lts.Need-slice-aggregate-load (claims t) (check-middle-at t) check-middle.Post
 check-middle-slice-aggregate-load t c = search needs
 
--- src/lib.rt:251:18
-check-middle-load-requires : (t : ℕ) → check-middle-lts.Need-load-requires (
-  load-reads.Asked,
-  load-reads.Learnt,
-  check-middle-below t,
-  check-middle.Post,
-) (check-middle-at t) check-middle.Post
+check-middle-load-requires : (t : ℕ) → check-middle-lts.Need-load-requires (claims t) (check-middle-at t) check-middle.Post
 check-middle-load-requires t c κs = let s = c .before .before in (s .pre .1 .0, rw (length-replicate {A = ℕ} 2443 0) (fits-places (s .args .h) Middle (s .pre .1 .1), omega arith))
 
--- src/lib.rt:253:41
-check-middle-sub-check-middle : (t : ℕ) → check-middle-lts.Need-sub-check-middle (
-  load-reads.Asked,
-  load-reads.Learnt,
-  check-middle-below t,
-  check-middle.Post,
-) (check-middle-at t) check-middle.Post
+check-middle-sub-check-middle : (t : ℕ) → check-middle-lts.Need-sub-check-middle (claims t) (check-middle-at t) check-middle.Post
 check-middle-sub-check-middle t c = search needs
 
--- src/lib.rt:253:16
-check-middle-check-middle-requires : (t : ℕ) → check-middle-lts.Need-check-middle-requires (
-  load-reads.Asked,
-  load-reads.Learnt,
-  check-middle-below t,
-  check-middle.Post,
-) (check-middle-at t) check-middle.Post
+check-middle-check-middle-requires : (t : ℕ) → check-middle-lts.Need-check-middle-requires (claims t) (check-middle-at t) check-middle.Post
 check-middle-check-middle-requires t c κs = let s = c .before .before .before .before .before in (omega (arith, s .pre .0, c .if1 .taken), s .pre .1)
 
--- src/lib.rt:253:16
-check-middle-returns : (t : ℕ) → check-middle-lts.Need-returns (
-  load-reads.Asked,
-  load-reads.Learnt,
-  check-middle-below t,
-  check-middle.Post,
-) (check-middle-at t) check-middle.Post
+check-middle-returns : (t : ℕ) → check-middle-lts.Need-returns (claims t) (check-middle-at t) check-middle.Post
 check-middle-returns t c = c .check-middle .ensures
 
--- src/lib.rt:246:1
-check-middle-returns-2 : (t : ℕ) → check-middle-lts.Need-returns-2 (
-  load-reads.Asked,
-  load-reads.Learnt,
-  check-middle-below t,
-  check-middle.Post,
-) (check-middle-at t) check-middle.Post
+check-middle-returns-2 : (t : ℕ) → check-middle-lts.Need-returns-2 (claims t) (check-middle-at t) check-middle.Post
 check-middle-returns-2 t c = c .before .before .load .ensures .0
 
 pub +check-middle-spec : {M : Type 1} → statement M
-+check-middle-spec = close μ-check-middle λ t. check-middle-lts.spec (
-  load-reads.Asked,
-  load-reads.Learnt,
-  check-middle-below t,
-  check-middle.Post,
-)
-    (check-middle-at t)
++check-middle-spec = close μ-check-middle λ t. check-middle-lts.spec (claims t) (check-middle-at t)
     check-middle.Post
     (check-middle-slice-aggregate-load t)
     (check-middle-load-requires t)

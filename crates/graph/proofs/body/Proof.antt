@@ -1,6 +1,6 @@
 use mathlib.Core.Path.{refl, _∙_, sym}
 use native.Mathlib.Omega.{arith}
-use Rattle.tables.specs.Layout.{Laid}
+use Rattle.tables.specs.Layout.{Laid, atVerdicts}
 use Rattle.tables.proofs.Sections.{laid-kept, kept-then}
 use Rattle.graph_tables.proofs.Sections.{modules-kept}
 use Rattle.graph.proofs.Loading.{once-fault, once-more, end-is, symbols-part, body-stop, body-go, symbol-table}
@@ -10,41 +10,33 @@ use Rattle.graph.proofs.body.Statement.{statement}
 use Rattle.graph.proofs.body.Tie as tie
 
 -- the layout, once the symbols are read
-laid : (c : tie.After-symbols) → Laid (c .before .before .before .before .args .h) 5 (c .symbols .last .1 .1 .1 .0)
+laid : (c : tie.After-symbols) → Laid (c .before .before .before .before .args .h) atVerdicts (c .symbols .last .1 .1 .1 .0)
 laid c = laid-kept (c .before .before .before .before .pre .0 .0) 1 (omega arith) (c .symbols .ensures .2)
 
--- src/lib.rt:181:11
 symbols-requires : tie.Need-symbols-requires
 symbols-requires c κs = (c .before .before .before .pre .0, (c .before .before .before .pre .1 .0, c .before .before .before .pre .1 .2))
 
--- src/lib.rt:182:21
 enum-known-n : tie.Need-enum-known-n
 enum-known-n c = search needs
 
--- src/lib.rt:183:18
 enum-known-q : tie.Need-enum-known-q
 enum-known-q c = search needs
 
--- src/lib.rt:183:24
 tail-requires : tie.Need-tail-requires
 tail-requires c κs = let p = c .before .before .before .before .before .before .before .before .before .before .pre in
     let e = sym (c .before .before .before .before .before .before .symbols .ensures .0) ∙ c .before .before .q .given .1 in
     let z = sym (end-is _ (rw (symbols-part _ _ (p .1 .0) _ (p .1 .1)) at e)) in
     ((laid (c .before .before .before .before .before .before), modules-kept (p .0 .0) 1 (omega arith) (omega arith) (c .before .before .before .before .before .before .symbols .ensures .2) (p .0 .1) refl), (p .1 .0, z))
 
--- src/lib.rt:176:1
 same-length : tie.Need-same-length
 same-length c = search needs
 
--- src/lib.rt:176:1
 returns : tie.Need-returns
 returns c = (sym (body-stop _ _ (c .before .before .before .before .before .before .before .before .before .pre .1 .0) _ (sym (c .before .before .before .before .before .symbols .ensures .0) ∙ c .before .n .given .1)), once-fault _, c .before .before .before .before .before .symbols .ensures .2)
 
--- src/lib.rt:176:1
 same-length-2 : tie.Need-same-length-2
 same-length-2 c = search needs
 
--- src/lib.rt:176:1
 returns-2 : tie.Need-returns-2
 returns-2 c =
     let p = c .before .before .before .before .before .before .before .before .before .before .before .before .before .pre .1 in

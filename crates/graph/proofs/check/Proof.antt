@@ -10,71 +10,54 @@ use Rattle.graph.proofs.check.Tie as tie
 begun : (c : tie.After-header-of) → HeaderRead (c .before .before .before .before .before .args .numbers .now) (c .header-of .result)
 begun c = record { end = c .before .enum-told .given .0 .0; read = sym (c .before .before .before .header .ensures) ∙ c .before .enum-told .given .1; is = c .header-of .ensures }
 
--- src/lib.rt:275:11
 header-requires : tie.Need-header-requires
 header-requires c κs = search needs
 
--- src/lib.rt:276:21
 enum-known-n : tie.Need-enum-known-n
 enum-known-n c = search needs
 
--- src/lib.rt:277:24
 enum-told : tie.Need-enum-told
 enum-told c = search needs
 
--- src/lib.rt:278:21
 header-of-requires : tie.Need-header-of-requires
 header-of-requires c κs = seven _ (at-got _ _ (sym (c .before .before .header .ensures) ∙ c .enum-told .given .1) .1)
 
--- src/lib.rt:279:24
 size-for-requires : tie.Need-size-for-requires
 size-for-requires c κs = begun c
 
--- src/lib.rt:281:32
 enum-told-2 : tie.Need-enum-told-2
 enum-told-2 c = search needs
 
--- src/lib.rt:281:32
 check-small-requires : tie.Need-check-small-requires
 check-small-requires c κs = (begun (c .before .before .before), rw (c .enum-told2 .given .1) at (c .before .before .size-for .ensures))
 
--- src/lib.rt:282:33
 enum-told-3 : tie.Need-enum-told-3
 enum-told-3 c = search needs
 
--- src/lib.rt:282:57
 apart-requires : tie.Need-apart-requires
 apart-requires c κs = search needs
 
--- src/lib.rt:282:33
 check-middle-requires : tie.Need-check-middle-requires
 check-middle-requires c κs = (begun (c .before .before .before .before), rw (c .before .enum-told3 .given .1) at (c .before .before .before .size-for .ensures))
 
--- src/lib.rt:283:32
 enum-told-4 : tie.Need-enum-told-4
 enum-told-4 c = search needs
 
--- src/lib.rt:283:55
 apart-requires-2 : tie.Need-apart-requires-2
 apart-requires-2 c κs = search needs
 
--- src/lib.rt:283:32
 check-large-requires : tie.Need-check-large-requires
 check-large-requires c κs = (begun (c .before .before .before .before), rw (c .before .enum-told4 .given .1) at (c .before .before .before .size-for .ensures))
 
--- src/lib.rt:272:1
 returns : tie.Need-returns
 returns c = sym (check-stop-header _ (sym (c .before .before .before .header .ensures) ∙ c .before .n .given .1))
 
--- src/lib.rt:272:1
 returns-2 : tie.Need-returns-2
 returns-2 c = c .check-small .ensures
 
--- src/lib.rt:272:1
 returns-3 : tie.Need-returns-3
 returns-3 c = c .check-middle .ensures
 
--- src/lib.rt:272:1
 returns-4 : tie.Need-returns-4
 returns-4 c = c .check-large .ensures
 

@@ -7,15 +7,12 @@ use borrow.Author.Needs.{needs}
 use Rattle.graph.proofs.check_small.Statement.{statement}
 use Rattle.graph.proofs.check_small.Tie as tie
 
--- src/lib.rt:242:22
 slice-aggregate-load : tie.Need-slice-aggregate-load
 slice-aggregate-load c = search needs
 
--- src/lib.rt:242:5
 load-requires : tie.Need-load-requires
 load-requires c κs = let s = c .before .before in (s .pre .0, rw (length-replicate {A = ℕ} 187 0) (fits-places (s .args .h) Small (s .pre .1), omega arith))
 
--- src/lib.rt:237:1
 returns : tie.Need-returns
 returns c = c .before .load .ensures .0
 

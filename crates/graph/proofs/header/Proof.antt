@@ -15,62 +15,48 @@ use Rattle.graph.proofs.last_counts.Reads as last-counts-reads
 use Rattle.rows.proofs.counter.Reads as counter-reads
 use Rattle.rows.proofs.row.Reads as row-reads
 
--- src/lib.rt:40:11
 row-requires : tie.Need-row-requires
 row-requires c κs = search needs
 
--- src/lib.rt:41:21
 enum-known-n : tie.Need-enum-known-n
 enum-known-n c = search needs
 
--- src/lib.rt:42:18
 enum-known-a : tie.Need-enum-known-a
 enum-known-a c = search needs
 
--- src/lib.rt:42:30
 counter-requires : tie.Need-counter-requires
 counter-requires c κs = search needs
 
--- src/lib.rt:43:25
 enum-known-n-2 : tie.Need-enum-known-n-2
 enum-known-n-2 c = search needs
 
--- src/lib.rt:44:22
 enum-known-b : tie.Need-enum-known-b
 enum-known-b c = search needs
 
--- src/lib.rt:44:34
 counter-requires-2 : tie.Need-counter-requires-2
 counter-requires-2 c κs = search needs
 
--- src/lib.rt:45:29
 enum-known-n-3 : tie.Need-enum-known-n-3
 enum-known-n-3 c = search needs
 
--- src/lib.rt:46:26
 enum-known-c : tie.Need-enum-known-c
 enum-known-c c = search needs
 
--- src/lib.rt:46:32
 last-counts-requires : tie.Need-last-counts-requires
 last-counts-requires c κs = search needs
 
--- src/lib.rt:37:1
 returns : tie.Need-returns
 unfolding headerRules columnsOf
 returns c = sym (row-stop (_ ∷ _ ∷ []) _ _ _ (sym (c .before .before .before .row .ensures) ∙ c .before .n .given .1))
 
--- src/lib.rt:37:1
 returns-2 : tie.Need-returns-2
 unfolding headerRules columnsOf
 returns-2 c = sym (row-go (_ ∷ _ ∷ []) _ _ _ (sym (c .before .before .before .before .before .before .before .row .ensures) ∙ c .before .before .before .before .before .a .given .1) ∙ cells-stop _ _ _ _ (sym (c .before .before .before .counter .ensures) ∙ c .before .n2 .given .1))
 
--- src/lib.rt:37:1
 returns-3 : tie.Need-returns-3
 unfolding headerRules columnsOf
 returns-3 c = sym (row-go (_ ∷ _ ∷ []) _ _ _ (sym (c .before .before .before .before .before .before .before .before .before .before .before .row .ensures) ∙ c .before .before .before .before .before .before .before .before .before .a .given .1) ∙ cells-go _ _ _ _ (sym (c .before .before .before .before .before .before .before .counter .ensures) ∙ c .before .before .before .before .before .b .given .1) ∙ cells-stop _ _ _ _ (sym (c .before .before .before .counter2 .ensures) ∙ c .before .n3 .given .1))
 
--- src/lib.rt:37:1
 returns-4 : tie.Need-returns-4
 unfolding headerRules columnsOf
 returns-4 c = c .last-counts .ensures ∙ sym (row-go (_ ∷ _ ∷ []) _ _ _ (sym (c .before .before .before .before .before .before .before .before .before .before .before .before .row .ensures) ∙ c .before .before .before .before .before .before .before .before .before .before .a .given .1) ∙ cells-go _ _ _ _ (sym (c .before .before .before .before .before .before .before .before .counter .ensures) ∙ c .before .before .before .before .before .before .b .given .1) ∙ cells-go _ _ _ _ (sym (c .before .before .before .before .counter2 .ensures) ∙ c .before .before .c .given .1))

@@ -13,45 +13,35 @@ use Rattle.graph.proofs.last_counts.Reads as reads
 use Rattle.graph.proofs.last_counts.Lts as lts
 use Rattle.rows.proofs.counter.Reads as counter-reads
 
--- src/lib.rt:27:11
 counter-requires : tie.Need-counter-requires
 counter-requires c κs = search needs
 
--- src/lib.rt:28:21
 enum-known-n : tie.Need-enum-known-n
 enum-known-n c = search needs
 
--- src/lib.rt:29:18
 enum-known-a : tie.Need-enum-known-a
 enum-known-a c = search needs
 
--- src/lib.rt:29:30
 counter-requires-2 : tie.Need-counter-requires-2
 counter-requires-2 c κs = search needs
 
--- src/lib.rt:30:25
 enum-known-n-2 : tie.Need-enum-known-n-2
 enum-known-n-2 c = search needs
 
--- src/lib.rt:31:22
 enum-known-b : tie.Need-enum-known-b
 enum-known-b c = search needs
 
--- src/lib.rt:31:28
 counter-requires-3 : tie.Need-counter-requires-3
 counter-requires-3 c κs = search needs
 
--- src/lib.rt:24:1
 returns : tie.Need-returns
 unfolding headerRules
 returns c = sym (cells-stop _ _ _ _ (sym (c .before .before .before .counter .ensures) ∙ c .before .n .given .1))
 
--- src/lib.rt:24:1
 returns-2 : tie.Need-returns-2
 unfolding headerRules
 returns-2 c = sym (cells-go _ _ _ _ (sym (c .before .before .before .before .before .before .before .counter .ensures) ∙ c .before .before .before .before .before .a .given .1) ∙ cells-stop _ _ _ _ (sym (c .before .before .before .counter2 .ensures) ∙ c .before .n2 .given .1))
 
--- src/lib.rt:24:1
 returns-3 : tie.Need-returns-3
 unfolding headerRules
 returns-3 c = c .counter3 .ensures ∙ sym (cells-go _ _ _ _ (sym (c .before .before .before .before .before .before .before .before .counter .ensures) ∙ c .before .before .before .before .before .before .a .given .1) ∙ cells-go _ _ _ _ (sym (c .before .before .before .before .counter2 .ensures) ∙ c .before .before .b .given .1) ∙ cells-one _ _ _)

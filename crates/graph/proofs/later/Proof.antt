@@ -9,35 +9,27 @@ use Rattle.graph.proofs.namespaces.Reads as namespaces-reads
 use Rattle.graph.proofs.roots.Reads as roots-reads
 use Rattle.graph.proofs.runtime_normal.Reads as runtime-normal-reads
 
--- src/lib.rt:96:8
 runtime-normal-requires : tie.Need-runtime-normal-requires
 runtime-normal-requires c κs = search needs
 
--- src/lib.rt:97:22
 namespaces-requires : tie.Need-namespaces-requires
 namespaces-requires c κs = let s = c .before .before .before .before .before in (s .pre .0, (s .pre .1 .0, ap (λ h. h .modules) (s .pre .1 .1)))
 
--- src/lib.rt:98:25
 enum-known-n : tie.Need-enum-known-n
 enum-known-n c = search needs
 
--- src/lib.rt:99:28
 enum-told : tie.Need-enum-told
 enum-told c = search needs
 
--- src/lib.rt:99:28
 roots-requires : tie.Need-roots-requires
 roots-requires c κs = let s = c .before .before .before .before .before .before .before .before in (s .pre .1 .0, ap (λ h. h .symbols) (s .pre .1 .1))
 
--- src/lib.rt:97:9
 returns : tie.Need-returns
 returns c = later-stop _ (sym (c .before .before .before .before .if1 .taken) ∙ c .before .before .before .before .before .runtime-normal .ensures) (sym (c .before .before .before .namespaces .ensures) ∙ c .before .n .given .1)
 
--- src/lib.rt:97:9
 returns-2 : tie.Need-returns-2
 returns-2 c = c .roots .ensures ∙ later-go _ (sym (c .before .before .before .before .if1 .taken) ∙ c .before .before .before .before .before .runtime-normal .ensures) (sym (c .before .before .before .namespaces .ensures) ∙ c .before .enum-told .given .1)
 
--- src/lib.rt:90:1
 returns-3 : tie.Need-returns-3
 returns-3 c = later-none _ (sym (c .if1 .left) ∙ c .before .runtime-normal .ensures)
 

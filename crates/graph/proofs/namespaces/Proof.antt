@@ -20,43 +20,33 @@ Inv-loop numbers modules symbols count m₀ m = (m ≤ count) × (each (ownsName
 abbrev μ-loop : tie.MeasureT-loop
 μ-loop numbers modules symbols count m₀ m = count - m
 
--- src/lib.rt:64:5
 loop-holds : tie.Need-loop-holds Inv-loop μ-loop
 loop-holds c = (omega arith, refl)
 
--- src/lib.rt:65:13
 owns-namespace-requires : tie.Need-owns-namespace-requires Inv-loop μ-loop
 owns-namespace-requires c κs = let s = c .before .before .before .before .before in let n : c .before .loop .m < headerIn (s .args .numbers .now) .modules = omega (arith, s .pre .1 .1, c .loop-test .taken) in (s .pre .0, (s .pre .1 .0, n))
 
--- src/lib.rt:66:35
 mul-t8 : tie.Need-mul-t8 Inv-loop μ-loop
 mul-t8 c = search needs
 
--- src/lib.rt:66:35
 shared-slice-read-t10 : tie.Need-shared-slice-read-t10 Inv-loop μ-loop
 shared-slice-read-t10 c = search needs
 
--- src/lib.rt:66:35
 add-t11 : tie.Need-add-t11 Inv-loop μ-loop
 add-t11 c = let s = c .before .before .before .before .before .before .before .before in let n : c .before .before .before .before .loop .m < headerIn (s .args .numbers .now) .modules = omega (arith, s .pre .1 .1, c .before .before .before .loop-test .taken) in omega (arith, at-inside _ _ (s .pre .0) _ n 7 (omega arith))
 
--- src/lib.rt:66:13
 returns : tie.Need-returns Inv-loop μ-loop
 returns c = let s = c .before .before .before .before .before .before .before .before in let n : c .before .before .before .before .loop .m < headerIn (s .args .numbers .now) .modules = omega (arith, s .pre .1 .1, c .before .before .before .loop-test .taken) in all-stop _ _ _ _ (c .before .before .before .before .loop .inv .1) (omega (arith, modules-long _ _ (s .pre .0), n)) (c .before .before .owns-namespace .ensures) (not-true _ (c .before .if1 .taken)) (its-place _ _ (s .pre .0) _ n)
 
--- src/lib.rt:68:9
 add-m : tie.Need-add-m Inv-loop μ-loop
 add-m c = search needs
 
--- src/lib.rt:64:5
 loop-less : tie.Need-loop-less Inv-loop μ-loop
 loop-less c = search needs
 
--- src/lib.rt:64:5
 loop-again : tie.Need-loop-again Inv-loop μ-loop
 loop-again c = let s = c .before .before .before .before .before .before .before in (omega (arith, c .before .before .loop-test .taken), all-go _ _ _ _ (c .before .before .before .loop .inv .1) (omega (arith, modules-long _ _ (s .pre .0), s .pre .1 .1, c .before .before .loop-test .taken)) (c .before .owns-namespace .ensures) (not-false _ (c .if1 .left)))
 
--- src/lib.rt:57:1
 returns-2 : tie.Need-returns-2 Inv-loop μ-loop
 returns-2 c = let s = c .before .before .before .before .before in all-end _ _ _ _ (c .before .loop .inv .1) (omega (arith, modules-long _ _ (s .pre .0), s .pre .1 .1, c .loop-test .left))
 

@@ -7,15 +7,12 @@ use Rattle.graph.proofs.root_is_root.Reads as reads
 use Rattle.graph.proofs.root_is_root.Lts as lts
 use Rattle.graph_tables.proofs.symbol_number.Reads as symbol-number-reads
 
--- src/lib.rt:52:9
 symbol-number-requires : tie.Need-symbol-number-requires
 symbol-number-requires c κs = search needs
 
--- src/lib.rt:53:5
 symbol-number-requires-2 : tie.Need-symbol-number-requires-2
 symbol-number-requires-2 c κs = let s = c .before .before .before in (s .pre .0, (rw (c .symbol-number .ensures) (root-fits _ _ (s .pre .0) _ (s .pre .1)), omega arith))
 
--- src/lib.rt:47:1
 returns : tie.Need-returns
 returns c = root-same _ _ _ _ _ (c .before .symbol-number .ensures) (c .symbol-number2 .ensures)
 

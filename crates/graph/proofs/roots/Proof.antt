@@ -20,43 +20,33 @@ Inv-loop numbers symbols count s₀ s = (s ≤ count) × (each (rootIsRoot (symb
 abbrev μ-loop : tie.MeasureT-loop
 μ-loop numbers symbols count s₀ s = count - s
 
--- src/lib.rt:80:5
 loop-holds : tie.Need-loop-holds Inv-loop μ-loop
 loop-holds c = (omega arith, refl)
 
--- src/lib.rt:81:13
 root-is-root-requires : tie.Need-root-is-root-requires Inv-loop μ-loop
 root-is-root-requires c κs = let s = c .before .before .before .before in let n : c .before .loop .s < headerIn (s .args .numbers .now) .symbols = omega (arith, s .pre .1, c .loop-test .taken) in (s .pre .0, n)
 
--- src/lib.rt:82:35
 mul-t7 : tie.Need-mul-t7 Inv-loop μ-loop
 mul-t7 c = search needs
 
--- src/lib.rt:82:35
 shared-slice-read-t9 : tie.Need-shared-slice-read-t9 Inv-loop μ-loop
 shared-slice-read-t9 c = search needs
 
--- src/lib.rt:82:35
 add-t10 : tie.Need-add-t10 Inv-loop μ-loop
 add-t10 c = let s = c .before .before .before .before .before .before .before in let n : c .before .before .before .before .loop .s < headerIn (s .args .numbers .now) .symbols = omega (arith, s .pre .1, c .before .before .before .loop-test .taken) in omega (arith, symbol-inside _ _ (s .pre .0) _ n 2 (omega arith))
 
--- src/lib.rt:82:13
 returns : tie.Need-returns Inv-loop μ-loop
 returns c = let s = c .before .before .before .before .before .before .before in let n : c .before .before .before .before .loop .s < headerIn (s .args .numbers .now) .symbols = omega (arith, s .pre .1, c .before .before .before .loop-test .taken) in all-stop _ _ _ _ (c .before .before .before .before .loop .inv .1) (omega (arith, symbols-long _ _ (s .pre .0), n)) (c .before .before .root-is-root .ensures) (not-true _ (c .before .if1 .taken)) (symbol-place _ _ (s .pre .0) _ n)
 
--- src/lib.rt:84:9
 add-s : tie.Need-add-s Inv-loop μ-loop
 add-s c = search needs
 
--- src/lib.rt:80:5
 loop-less : tie.Need-loop-less Inv-loop μ-loop
 loop-less c = search needs
 
--- src/lib.rt:80:5
 loop-again : tie.Need-loop-again Inv-loop μ-loop
 loop-again c = let s = c .before .before .before .before .before .before in (omega (arith, c .before .before .loop-test .taken), all-go _ _ _ _ (c .before .before .before .loop .inv .1) (omega (arith, symbols-long _ _ (s .pre .0), s .pre .1, c .before .before .loop-test .taken)) (c .before .root-is-root .ensures) (not-false _ (c .if1 .left)))
 
--- src/lib.rt:74:1
 returns-2 : tie.Need-returns-2 Inv-loop μ-loop
 returns-2 c = let s = c .before .before .before .before in all-end _ _ _ _ (c .before .loop .inv .1) (omega (arith, symbols-long _ _ (s .pre .0), s .pre .1, c .loop-test .left))
 

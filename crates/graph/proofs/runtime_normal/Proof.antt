@@ -7,15 +7,12 @@ use Rattle.graph.proofs.runtime_normal.Reads as reads
 use Rattle.graph.proofs.runtime_normal.Lts as lts
 use Rattle.graph_tables.proofs.module_number.Reads as module-number-reads
 
--- src/lib.rt:27:16
 module-number-requires : tie.Need-module-number-requires
 module-number-requires c κs = let s = c .before .before .before .before in (s .pre .0, (rw (sym (s .pre .1)) (c .if1 .taken), omega arith))
 
--- src/lib.rt:27:9
 returns : tie.Need-returns
 returns c = runtime-kind _ _ (c .before .before .before .before .before .pre .1) _ (c .before .if1 .taken) (c .module-number .ensures)
 
--- src/lib.rt:21:1
 returns-2 : tie.Need-returns-2
 returns-2 c = runtime-none _ _ (c .before .before .before .before .pre .1) (c .if1 .left)
 

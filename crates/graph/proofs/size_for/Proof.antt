@@ -2,11 +2,9 @@ use Rattle.graph.proofs.Checking.{bounded}
 use Rattle.graph.proofs.size_for.Statement.{statement}
 use Rattle.graph.proofs.size_for.Tie as tie
 
--- src/lib.rt:233:5
 size-for-requires : tie.Need-size-for-requires
 size-for-requires c κs = bounded _ _ (c .before .pre)
 
--- src/lib.rt:229:1
 returns : tie.Need-returns
 returns c = c .size-for .ensures
 

@@ -1,6 +1,6 @@
 use mathlib.Core.Path.{refl, _∙_, sym}
 use native.Mathlib.Omega.{arith}
-use Rattle.tables.specs.Layout.{Laid}
+use Rattle.tables.specs.Layout.{Laid, atVerdicts}
 use Rattle.tables.proofs.Sections.{laid-kept, kept-then}
 use Rattle.graph_tables.proofs.Sections.{modules-kept}
 use Rattle.graph.proofs.Loading.{once-fault, end-is, statements-part, tail-stop, tail-go, statement-table, entry-table}
@@ -10,38 +10,30 @@ use Rattle.graph.proofs.tail.Statement.{statement}
 use Rattle.graph.proofs.tail.Tie as tie
 
 -- the layout, once the statements are read
-laid : (c : tie.After-statements) → Laid (c .before .before .before .before .args .h) 5 (c .statements .last .1 .1 .1 .0)
+laid : (c : tie.After-statements) → Laid (c .before .before .before .before .args .h) atVerdicts (c .statements .last .1 .1 .1 .0)
 laid c = laid-kept (c .before .before .before .before .pre .0 .0) 2 (omega arith) (c .statements .ensures .2)
 
--- src/lib.rt:169:11
 statements-requires : tie.Need-statements-requires
 statements-requires c κs = (c .before .before .before .pre .0, c .before .before .before .pre .1 .0)
 
--- src/lib.rt:170:21
 enum-known-n : tie.Need-enum-known-n
 enum-known-n c = search needs
 
--- src/lib.rt:171:18
 enum-known-q : tie.Need-enum-known-q
 enum-known-q c = search needs
 
--- src/lib.rt:171:24
 entries-requires : tie.Need-entries-requires
 entries-requires c κs = let p = c .before .before .before .before .before .before .before .before .before .before .pre in ((laid (c .before .before .before .before .before .before), modules-kept (p .0 .0) 2 (omega arith) (omega arith) (c .before .before .before .before .before .before .statements .ensures .2) (p .0 .1) refl), p .1 .0)
 
--- src/lib.rt:164:1
 same-length : tie.Need-same-length
 same-length c = search needs
 
--- src/lib.rt:164:1
 returns : tie.Need-returns
 returns c = (sym (tail-stop _ _ (c .before .before .before .before .before .before .before .before .before .pre .1 .0) _ (sym (c .before .before .before .before .before .statements .ensures .0) ∙ c .before .n .given .1)), once-fault _, c .before .before .before .before .before .statements .ensures .2)
 
--- src/lib.rt:164:1
 same-length-2 : tie.Need-same-length-2
 same-length-2 c = search needs
 
--- src/lib.rt:164:1
 returns-2 : tie.Need-returns-2
 returns-2 c =
     let p = c .before .before .before .before .before .before .before .before .before .before .before .before .before .pre .1 in

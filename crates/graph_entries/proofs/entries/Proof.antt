@@ -5,7 +5,7 @@ use lib.ListN.{length, getD}
 use Rattle.rows.specs.Walk.{got, Item}
 use Rattle.rows.proofs.Walks.{at-got}
 use Rattle.graph_format.specs.Format.{entryAt, entriesAt, following}
-use Rattle.tables.specs.Layout.{sizes, startOf}
+use Rattle.tables.specs.Layout.{sizes, startOf, atEntries}
 use Rattle.tables.proofs.Sections.{ends-inside, word-inside}
 use Rattle.graph_tables.specs.Tables.{modulesIn}
 use Rattle.graph_tables.proofs.Filling.{Filling, filling-start, filling-inside, filling-step, filling-stop, filling-end}
@@ -17,7 +17,7 @@ use Rattle.graph_entries.proofs.entries.Statement.{statement}
 use Rattle.graph_entries.proofs.entries.Tie as tie
 
 abbrev Inv-loop : tie.InvT-loop
-Inv-loop numbers at h tables₀ base k₀ q₀ tables k q = (done : List Item) × Filling (entryAt h (modulesIn numbers) numbers) following (h .entries) 0 at (startOf h 4) tables₀ tables k q k done
+Inv-loop numbers at h tables₀ base k₀ q₀ tables k q = (done : List Item) × Filling (entryAt h (modulesIn numbers) numbers) following (h .entries) 0 at (startOf h atEntries) tables₀ tables k q k done
 
 abbrev μ-loop : tie.MeasureT-loop
 μ-loop numbers at h tables₀ base k₀ q₀ tables k q = h .entries - k
@@ -29,80 +29,64 @@ unfolding entryAt
 turned c = at-got _ _ (sym (c .before .before .before .entry .ensures) ∙ c .before .next .given .1)
 
 -- the section is inside the tables, and so is the word that a turn writes
-room : (c : tie.Start Inv-loop μ-loop) → startOf (c .args .h) 4 + c .args .h .entries ≤ length (c .args .tables .now)
+room : (c : tie.Start Inv-loop μ-loop) → startOf (c .args .h) atEntries + c .args .h .entries ≤ length (c .args .tables .now)
 unfolding sizes
 room c = ends-inside (c .pre .0 .0) 4 (omega arith)
 
-spot : (c : tie.After-known-told2 Inv-loop μ-loop) → getD (c .before .before .before .before .before .before .before .before .before .before .before .before .args .tables .now) 4 0 + c .before .before .before .before .before .before .before .before .loop .k ≡ startOf (c .before .before .before .before .before .before .before .before .before .before .before .before .args .h) 4 + c .before .before .before .before .before .before .before .before .loop .k
+spot : (c : tie.After-known-told2 Inv-loop μ-loop) → getD (c .before .before .before .before .before .before .before .before .before .before .before .before .args .tables .now) 4 0 + c .before .before .before .before .before .before .before .before .loop .k ≡ startOf (c .before .before .before .before .before .before .before .before .before .before .before .before .args .h) atEntries + c .before .before .before .before .before .before .before .before .loop .k
 spot c = ap (λ b. b + c .before .before .before .before .before .before .before .before .loop .k) (c .before .before .before .before .before .before .before .before .before .before .before .before .pre .0 .0 .starts 4 (omega arith))
 
 writes : (c : tie.After-known-told2 Inv-loop μ-loop) → getD (c .before .before .before .before .before .before .before .before .before .before .before .before .args .tables .now) 4 0 + c .before .before .before .before .before .before .before .before .loop .k < length (c .before .before .before .before .before .before .before .before .loop .tables)
 writes c = rw (spot c) (filling-inside (c .before .before .before .before .before .before .before .before .loop .inv .1) (room (c .before .before .before .before .before .before .before .before .before .before .before .before)) (c .before .before .before .before .before .before .if1 .taken))
 
--- src/lib.rt:134:16
 slice-read-base : tie.Need-slice-read-base Inv-loop μ-loop
 slice-read-base c = word-inside (c .before .before .before .pre .0 .0) 4 (omega arith)
 
--- src/lib.rt:137:5
 loop-holds : tie.Need-loop-holds Inv-loop μ-loop
 loop-holds c = ([], filling-start)
 
--- src/lib.rt:138:31
 section-requires : tie.Need-section-requires Inv-loop μ-loop
 section-requires c κs = modules-inside (c .before .before .before .before .before .before .before .pre .0 .0) 4 (omega arith) (omega arith) (c .before .before .before .loop .inv .1 .kept)
 
--- src/lib.rt:138:15
 entry-requires : tie.Need-entry-requires Inv-loop μ-loop
 entry-requires c κs = let p = c .before .before .before .before .before .before .before .before .pre in (modules-kept (p .0 .0) 4 (omega arith) (omega arith) (c .before .before .before .before .loop .inv .1 .kept) (p .0 .1) (c .section .ensures), p .1)
 
--- src/lib.rt:139:25
 enum-known-n : tie.Need-enum-known-n Inv-loop μ-loop
 enum-known-n c = search needs
 
--- src/lib.rt:140:17
 same-length : tie.Need-same-length Inv-loop μ-loop
 same-length c = c .before .before .before .before .before .before .before .before .loop .inv .1 .kept .same-length
 
--- src/lib.rt:140:17
 returns : tie.Need-returns Inv-loop μ-loop
 unfolding entriesAt entryAt
 returns c = filling-stop (c .before .before .before .before .before .before .before .before .loop .inv .1) (c .before .before .before .before .before .before .if1 .taken) (sym (c .before .before .before .entry .ensures) ∙ c .before .n .given .1)
 
--- src/lib.rt:142:22
 enum-known-next : tie.Need-enum-known-next Inv-loop μ-loop
 enum-known-next c = search needs
 
--- src/lib.rt:143:24
 add-tables : tie.Need-add-tables Inv-loop μ-loop
 add-tables c = omega (arith, writes c, c .before .before .before .before .before .before .before .before .loop .inv .1 .kept .same-length, c .before .before .before .before .before .before .before .before .before .before .before .before .pre .0 .0 .few)
 
--- src/lib.rt:143:17
 mul-tables : tie.Need-mul-tables Inv-loop μ-loop
 mul-tables c = omega (arith, writes c, c .before .before .before .before .before .before .before .before .loop .inv .1 .kept .same-length, c .before .before .before .before .before .before .before .before .before .before .before .before .pre .0 .0 .few)
 
--- src/lib.rt:143:17
 slice-write-tables : tie.Need-slice-write-tables Inv-loop μ-loop
 slice-write-tables c = writes c
 
--- src/lib.rt:147:9
 add-k : tie.Need-add-k Inv-loop μ-loop
 add-k c = search needs
 
--- src/lib.rt:137:5
 loop-less : tie.Need-loop-less Inv-loop μ-loop
 loop-less c = search needs
 
--- src/lib.rt:137:5
 loop-again : tie.Need-loop-again Inv-loop μ-loop
 loop-again c = let i = c .before .before .before .before .before .before .before .before .loop .inv in
     let t = turned c in
     (i .0 ++ (t .0 ∷ []), filling-step (i .1) (room (c .before .before .before .before .before .before .before .before .before .before .before .before)) (c .before .before .before .before .before .before .if1 .taken) (t .1) (entry-place _ _ _ _ _ (t .1)) (spot c))
 
--- src/lib.rt:129:1
 same-length-2 : tie.Need-same-length-2 Inv-loop μ-loop
 same-length-2 c = c .before .before .loop .inv .1 .kept .same-length
 
--- src/lib.rt:129:1
 returns-2 : tie.Need-returns-2 Inv-loop μ-loop
 unfolding entriesAt
 returns-2 c = filling-end (c .before .before .loop .inv .1) (c .if1 .left)

@@ -9,27 +9,21 @@ use Rattle.graph_entries.proofs.entry.Lts as lts
 use Rattle.graph_entries.proofs.related_list.Reads as related-list-reads
 use Rattle.rows.proofs.row.Reads as row-reads
 
--- src/lib.rt:110:11
 row-requires : tie.Need-row-requires
 row-requires c κs = search needs
 
--- src/lib.rt:111:21
 enum-known-n : tie.Need-enum-known-n
 enum-known-n c = search needs
 
--- src/lib.rt:112:18
 enum-known-q : tie.Need-enum-known-q
 enum-known-q c = search needs
 
--- src/lib.rt:112:24
 related-list-requires : tie.Need-related-list-requires
 related-list-requires c κs = search needs
 
--- src/lib.rt:105:1
 returns : tie.Need-returns
 returns c = sym (entry-stop _ _ _ _ _ (sym (c .before .before .before .row .ensures) ∙ c .before .n .given .1))
 
--- src/lib.rt:105:1
 returns-2 : tie.Need-returns-2
 returns-2 c = c .related-list .ensures ∙ sym (entry-go _ _ _ _ _ (sym (c .before .before .before .before .row .ensures) ∙ c .before .before .q .given .1))
 

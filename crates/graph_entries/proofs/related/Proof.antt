@@ -36,77 +36,59 @@ in-header c = rw (sym (c .before .before .before .before .before .before .before
 second : (c : tie.After-known-told4) → let s = c .before .before .before .before .before .before .before .before .before .before .before .before .before in (y : ℕ) × (number (below (c .before .before .before .before .module-number .result)) (s .args .numbers .now) (c .before .before .before .before .before .before .before .before .q .given .0 .0) ≡ got y (c .before .s .given .0 .0))
 second c = at-got _ _ (sym (c .before .before .before .within .ensures) ∙ c .before .s .given .1)
 
--- src/lib.rt:51:11
 related-module-requires : tie.Need-related-module-requires
 related-module-requires c κs = search needs
 
--- src/lib.rt:52:21
 enum-known-n : tie.Need-enum-known-n
 enum-known-n c = search needs
 
--- src/lib.rt:53:18
 enum-known-q : tie.Need-enum-known-q
 enum-known-q c = search needs
 
--- src/lib.rt:54:32
 mul-wide : tie.Need-mul-wide
 mul-wide c = omega (arith, there c .inside)
 
--- src/lib.rt:54:32
 shared-slice-read-wide : tie.Need-shared-slice-read-wide
 shared-slice-read-wide c = there (c .before) .inside
 
--- src/lib.rt:54:17
 wide-requires : tie.Need-wide-requires
 wide-requires c κs = search needs
 
--- src/lib.rt:55:17
 module-number-requires : tie.Need-module-number-requires
 module-number-requires c κs = (c .before .before .before .before .before .before .before .before .pre .0, (in-header c, omega arith))
 
--- src/lib.rt:56:19
 within-requires : tie.Need-within-requires
 within-requires c κs = search needs
 
--- src/lib.rt:57:29
 enum-known-n-2 : tie.Need-enum-known-n-2
 enum-known-n-2 c = search needs
 
--- src/lib.rt:58:26
 enum-known-s : tie.Need-enum-known-s
 enum-known-s c = search needs
 
--- src/lib.rt:58:38
 related-import-record-requires : tie.Need-related-import-record-requires
 related-import-record-requires c κs = (c .before .before .before .before .before .before .before .before .before .before .before .before .before .pre .0, in-header (c .before .before .before .before .before))
 
--- src/lib.rt:59:33
 enum-known-n-3 : tie.Need-enum-known-n-3
 enum-known-n-3 c = search needs
 
--- src/lib.rt:60:30
 enum-known-u : tie.Need-enum-known-u
 enum-known-u c = search needs
 
--- src/lib.rt:60:36
 within-requires-2 : tie.Need-within-requires-2
 within-requires-2 c κs = search needs
 
--- src/lib.rt:46:1
 returns : tie.Need-returns
 returns c = sym (related-stop _ _ _ _ _ (sym (c .before .before .before .related-module .ensures) ∙ c .before .n .given .1))
 
--- src/lib.rt:46:1
 returns-2 : tie.Need-returns-2
 unfolding statementsOf
 returns-2 c = sym (related-stop-statement _ _ _ _ _ _ _ (counted (c .before .before .before .before .before .before .before) .1) (same (c .before .before .before .before .before)) (c .before .before .before .before .module-number .ensures) (sym (c .before .before .before .within .ensures) ∙ c .before .n2 .given .1))
 
--- src/lib.rt:46:1
 returns-3 : tie.Need-returns-3
 unfolding statementsOf
 returns-3 c = sym (related-stop-record _ _ _ _ _ _ _ (counted (c .before .before .before .before .before .before .before .before .before .before .before) .1) (same (c .before .before .before .before .before .before .before .before .before)) (c .before .before .before .before .before .before .before .before .module-number .ensures) (second (c .before .before .before .before) .1) (sym (c .before .before .before .related-import-record .ensures) ∙ c .before .n3 .given .1))
 
--- src/lib.rt:46:1
 returns-4 : tie.Need-returns-4
 unfolding statementsOf
 returns-4 c = let r = at-got _ _ (sym (c .before .before .before .before .related-import-record .ensures) ∙ c .before .before .u .given .1) in c .within2 .ensures ∙ sym (related-last _ _ _ _ _ _ _ (counted (c .before .before .before .before .before .before .before .before .before .before .before .before) .1) (same (c .before .before .before .before .before .before .before .before .before .before)) (c .before .before .before .before .before .before .before .before .before .module-number .ensures) (second (c .before .before .before .before .before) .1) (r .1))

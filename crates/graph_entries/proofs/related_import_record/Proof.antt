@@ -28,48 +28,37 @@ there c = number-got _ _ _ (counted c .1)
 same : (c : tie.After-wide) → c .wide .result ≡ counted (c .before .before) .0
 same c = c .wide .ensures ∙ sym (there (c .before .before) .same)
 
--- src/lib.rt:34:9
 import-record-count-requires : tie.Need-import-record-count-requires
 import-record-count-requires c κs = search needs
 
--- src/lib.rt:35:11
 within-requires : tie.Need-within-requires
 within-requires c κs = search needs
 
--- src/lib.rt:36:21
 enum-known-n : tie.Need-enum-known-n
 enum-known-n c = search needs
 
--- src/lib.rt:37:18
 enum-known-q : tie.Need-enum-known-q
 enum-known-q c = search needs
 
--- src/lib.rt:38:32
 mul-wide : tie.Need-mul-wide
 mul-wide c = omega (arith, there c .inside)
 
--- src/lib.rt:38:32
 shared-slice-read-wide : tie.Need-shared-slice-read-wide
 shared-slice-read-wide c = there (c .before) .inside
 
--- src/lib.rt:38:17
 wide-requires : tie.Need-wide-requires
 wide-requires c κs = search needs
 
--- src/lib.rt:39:17
 import-record-number-requires : tie.Need-import-record-number-requires
 import-record-number-requires c κs = let s = c .before .before .before .before .before .before .before .before .before in (s .pre .0, (s .pre .1, omega (arith, there (c .before .before) .good .1, same c, c .before .before .before .before .before .before .import-record-count .ensures), omega arith))
 
--- src/lib.rt:29:1
 returns : tie.Need-returns
 returns c = sym (record-stop _ _ _ _ (c .before .before .before .before .import-record-count .ensures) (sym (c .before .before .before .within .ensures) ∙ c .before .n .given .1))
 
--- src/lib.rt:29:1
 returns-2 : tie.Need-returns-2
 unfolding walkOf
 returns-2 c = sym (ap walkOf (record-none _ _ _ _ (c .before .before .before .before .before .before .before .before .import-record-count .ensures) _ _ (counted (c .before .before .before .before) .1) (same (c .before .before)) (c .before .import-record-number .ensures) (c .if1 .taken)))
 
--- src/lib.rt:29:1
 returns-3 : tie.Need-returns-3
 unfolding walkOf
 returns-3 c = sym (ap walkOf (record-some _ _ _ _ (c .before .before .before .before .before .before .before .before .import-record-count .ensures) _ _ (counted (c .before .before .before .before) .1) (same (c .before .before)) (c .before .import-record-number .ensures) (c .if1 .left)))

@@ -23,39 +23,30 @@ counted c = at-got _ _ (sym (c .before .before .before .counter .ensures) ∙ c 
 there : (c : tie.After-known-told2) → let s = c .before .before .before .before .before .before in Number (count 16384 0 16385) (s .args .numbers .now) (s .args .at) (counted c .0) (c .before .q .given .0 .0)
 there c = number-got _ _ _ (counted c .1)
 
--- src/lib.rt:95:11
 counter-requires : tie.Need-counter-requires
 counter-requires c κs = search needs
 
--- src/lib.rt:96:21
 enum-known-n : tie.Need-enum-known-n
 enum-known-n c = search needs
 
--- src/lib.rt:97:18
 enum-known-q : tie.Need-enum-known-q
 enum-known-q c = search needs
 
--- src/lib.rt:98:36
 mul-wide : tie.Need-mul-wide
 mul-wide c = omega (arith, there c .inside)
 
--- src/lib.rt:98:36
 shared-slice-read-wide : tie.Need-shared-slice-read-wide
 shared-slice-read-wide c = there (c .before) .inside
 
--- src/lib.rt:98:17
 wide-requires : tie.Need-wide-requires
 wide-requires c κs = search needs
 
--- src/lib.rt:99:13
 related-rows-requires : tie.Need-related-rows-requires
 related-rows-requires c κs = search needs
 
--- src/lib.rt:90:1
 returns : tie.Need-returns
 returns c = sym (list-stop _ _ _ (sym (c .before .before .before .counter .ensures) ∙ c .before .n .given .1))
 
--- src/lib.rt:90:1
 returns-2 : tie.Need-returns-2
 returns-2 c = c .related-rows .ensures ∙ sym (ap walkOf (list-go _ _ _ (counted (c .before .before .before) .1) (there (c .before .before .before) .same ∙ sym (c .before .wide .ensures))))
 

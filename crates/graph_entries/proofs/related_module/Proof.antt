@@ -28,44 +28,34 @@ there c = number-got _ _ _ (counted c .1)
 same : (c : tie.After-wide) → c .wide .result ≡ counted (c .before .before) .0
 same c = c .wide .ensures ∙ sym (there (c .before .before) .same)
 
--- src/lib.rt:18:11
 within-requires : tie.Need-within-requires
 within-requires c κs = search needs
 
--- src/lib.rt:19:21
 enum-known-n : tie.Need-enum-known-n
 enum-known-n c = search needs
 
--- src/lib.rt:20:18
 enum-known-q : tie.Need-enum-known-q
 enum-known-q c = search needs
 
--- src/lib.rt:21:32
 mul-wide : tie.Need-mul-wide
 mul-wide c = omega (arith, there c .inside)
 
--- src/lib.rt:21:32
 shared-slice-read-wide : tie.Need-shared-slice-read-wide
 shared-slice-read-wide c = there (c .before) .inside
 
--- src/lib.rt:21:17
 wide-requires : tie.Need-wide-requires
 wide-requires c κs = search needs
 
--- src/lib.rt:22:17
 module-number-requires : tie.Need-module-number-requires
 module-number-requires c κs = let s = c .before .before .before .before .before .before .before .before in (s .pre .0, (rw (sym (s .pre .1)) (omega (arith, there (c .before .before) .good .1, same c)), omega arith))
 
--- src/lib.rt:13:1
 returns : tie.Need-returns
 returns c = sym (module-stop _ _ _ _ (sym (c .before .before .before .within .ensures) ∙ c .before .n .given .1))
 
--- src/lib.rt:13:1
 returns-2 : tie.Need-returns-2
 unfolding kindOf walkOf
 returns-2 c = sym (ap walkOf (module-normal _ _ _ _ _ _ (counted (c .before .before .before .before) .1) (same (c .before .before)) (c .before .module-number .ensures) (c .if1 .taken)))
 
--- src/lib.rt:13:1
 returns-3 : tie.Need-returns-3
 unfolding kindOf walkOf
 returns-3 c = sym (ap walkOf (module-external _ _ _ _ _ _ (counted (c .before .before .before .before) .1) (same (c .before .before)) (c .before .module-number .ensures) (c .if1 .left)))

@@ -22,41 +22,32 @@ Inv-loop numbers modules at count h k₀ q₀ k q = (s : List ℕ) × (done : Li
 abbrev μ-loop : tie.MeasureT-loop
 μ-loop numbers modules at count h k₀ q₀ k q = count - k
 
--- src/lib.rt:75:5
 loop-holds : tie.Need-loop-holds Inv-loop μ-loop
 loop-holds c = ([], [], going-start _ _ _ _ _)
 
--- src/lib.rt:76:15
 related-requires : tie.Need-related-requires Inv-loop μ-loop
 related-requires c κs = let s = c .before .before .before .before in (s .pre .0, s .pre .1)
 
--- src/lib.rt:77:25
 enum-known-n : tie.Need-enum-known-n Inv-loop μ-loop
 enum-known-n c = search needs
 
--- src/lib.rt:78:17
 returns : tie.Need-returns Inv-loop μ-loop
 unfolding relatedAt
 returns c = let l = c .before .before .before .before .before .loop .inv in going-stop _ _ _ _ _ (l .2) (c .before .before .before .before .loop-test .taken) (sym (c .before .before .before .related .ensures) ∙ c .before .n .given .1)
 
--- src/lib.rt:80:22
 enum-known-next : tie.Need-enum-known-next Inv-loop μ-loop
 enum-known-next c = search needs
 
--- src/lib.rt:84:9
 add-k : tie.Need-add-k Inv-loop μ-loop
 add-k c = search needs
 
--- src/lib.rt:75:5
 loop-less : tie.Need-loop-less Inv-loop μ-loop
 loop-less c = search needs
 
--- src/lib.rt:75:5
 loop-again : tie.Need-loop-again Inv-loop μ-loop
 unfolding relatedAt
 loop-again c = let l = c .before .before .before .before .before .loop .inv in let g = at-got _ _ (sym (c .before .before .before .related .ensures) ∙ c .before .next .given .1) in (firsts (l .0) (g .0), l .1 ++ (g .0 ∷ []), going-step _ _ _ _ _ (l .2) (c .before .before .before .before .loop-test .taken) (g .1))
 
--- src/lib.rt:68:1
 returns-2 : tie.Need-returns-2 Inv-loop μ-loop
 returns-2 c = going-end _ _ _ _ _ (c .before .loop .inv .2) (c .loop-test .left)
 

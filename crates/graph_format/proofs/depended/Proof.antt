@@ -10,28 +10,22 @@ use Rattle.graph_format.proofs.depended.Lts as lts
 use Rattle.rows.proofs.row.Reads as row-reads
 use Rattle.rows.proofs.rows.Reads as rows-reads
 
--- src/lib.rt:197:11
 row-requires : tie.Need-row-requires
 row-requires c κs = search needs
 
--- src/lib.rt:198:21
 enum-known-n : tie.Need-enum-known-n
 enum-known-n c = search needs
 
--- src/lib.rt:199:18
 enum-known-a : tie.Need-enum-known-a
 enum-known-a c = search needs
 
--- src/lib.rt:199:24
 rows-requires : tie.Need-rows-requires
 rows-requires c κs = search needs
 
--- src/lib.rt:194:1
 returns : tie.Need-returns
 unfolding columnsOf plainRow
 returns c = sym (depended-stop _ _ _ (sym (c .before .before .before .row .ensures) ∙ c .before .n .given .1))
 
--- src/lib.rt:194:1
 returns-2 : tie.Need-returns-2
 unfolding columnsOf plainRow rowOf
 returns-2 c = c .rows .ensures ∙ sym (depended-go _ _ _ (sym (c .before .before .before .before .row .ensures) ∙ c .before .before .a .given .1))

@@ -10,49 +10,38 @@ use Rattle.graph_format.proofs.import_lists.Reads as reads
 use Rattle.graph_format.proofs.import_lists.Lts as lts
 use Rattle.rows.proofs.rows.Reads as rows-reads
 
--- src/lib.rt:101:19
 add-targets : tie.Need-add-targets
 add-targets c = search needs
 
--- src/lib.rt:102:11
 rows-requires : tie.Need-rows-requires
 rows-requires c κs = search needs
 
--- src/lib.rt:103:21
 enum-known-n : tie.Need-enum-known-n
 enum-known-n c = search needs
 
--- src/lib.rt:104:18
 enum-known-a : tie.Need-enum-known-a
 enum-known-a c = search needs
 
--- src/lib.rt:104:30
 rows-requires-2 : tie.Need-rows-requires-2
 rows-requires-2 c κs = search needs
 
--- src/lib.rt:105:25
 enum-known-n-2 : tie.Need-enum-known-n-2
 enum-known-n-2 c = search needs
 
--- src/lib.rt:106:22
 enum-known-b : tie.Need-enum-known-b
 enum-known-b c = search needs
 
--- src/lib.rt:106:28
 rows-requires-3 : tie.Need-rows-requires-3
 rows-requires-3 c κs = search needs
 
--- src/lib.rt:97:1
 returns : tie.Need-returns
 unfolding rowOf columnsOf importLists
 returns c = sym (lists-stop _ _ _ _ (sym (c .before .before .before .rows .ensures) ∙ c .before .n .given .1))
 
--- src/lib.rt:97:1
 returns-2 : tie.Need-returns-2
 unfolding rowOf columnsOf importLists
 returns-2 c = sym (lists-go _ _ _ _ (sym (c .before .before .before .before .before .before .before .rows .ensures) ∙ c .before .before .before .before .before .a .given .1) ∙ lists-stop _ _ _ _ (sym (c .before .before .before .rows2 .ensures) ∙ c .before .n2 .given .1))
 
--- src/lib.rt:97:1
 returns-3 : tie.Need-returns-3
 unfolding rowOf columnsOf importLists
 returns-3 c = c .rows3 .ensures ∙ sym (lists-go _ _ _ _ (sym (c .before .before .before .before .before .before .before .before .rows .ensures) ∙ c .before .before .before .before .before .before .a .given .1) ∙ lists-go _ _ _ _ (sym (c .before .before .before .before .rows2 .ensures) ∙ c .before .before .b .given .1) ∙ lists-one _ _ _)

@@ -6,15 +6,12 @@ use Rattle.graph_format.proofs.least_statements.Tie as tie
 use Rattle.graph_format.proofs.least_statements.Reads as reads
 use Rattle.graph_format.proofs.least_statements.Lts as lts
 
--- src/lib.rt:43:13
 returns : tie.Need-returns
 returns c = least-kind _ _ _ (c .before .if1 .taken) (c .if2 .taken)
 
--- src/lib.rt:45:9
 returns-2 : tie.Need-returns-2
 returns-2 c = least-left _ _ _ (c .before .if1 .taken) (c .if2 .left)
 
--- src/lib.rt:38:1
 returns-3 : tie.Need-returns-3
 returns-3 c = least-other _ _ _ (c .if1 .left)
 

@@ -15,85 +15,65 @@ use Rattle.rows.proofs.row.Reads as row-reads
 use Rattle.rows.proofs.wide.Reads as wide-reads
 use Rattle.rows.proofs.within.Reads as within-reads
 
--- src/lib.rt:62:27
 mul-wide : tie.Need-mul-wide
 mul-wide c = search needs
 
--- src/lib.rt:62:27
 shared-slice-read-wide : tie.Need-shared-slice-read-wide
 shared-slice-read-wide c = search needs
 
--- src/lib.rt:62:9
 wide-requires : tie.Need-wide-requires
 wide-requires c κs = search needs
 
--- src/lib.rt:63:9
 namespace-limit-requires : tie.Need-namespace-limit-requires
 namespace-limit-requires c κs = search needs
 
--- src/lib.rt:64:9
 least-statements-requires : tie.Need-least-statements-requires
 least-statements-requires c κs = search needs
 
--- src/lib.rt:65:9
 statement-limit-requires : tie.Need-statement-limit-requires
 statement-limit-requires c κs = search needs
 
--- src/lib.rt:66:11
 within-requires : tie.Need-within-requires
 within-requires c κs = search needs
 
--- src/lib.rt:67:21
 enum-known-n : tie.Need-enum-known-n
 enum-known-n c = search needs
 
--- src/lib.rt:68:18
 enum-known-a : tie.Need-enum-known-a
 enum-known-a c = search needs
 
--- src/lib.rt:68:30
 row-requires : tie.Need-row-requires
 row-requires c κs = search needs
 
--- src/lib.rt:69:25
 enum-known-n-2 : tie.Need-enum-known-n-2
 enum-known-n-2 c = search needs
 
--- src/lib.rt:70:22
 enum-known-b : tie.Need-enum-known-b
 enum-known-b c = search needs
 
--- src/lib.rt:70:34
 within-requires-2 : tie.Need-within-requires-2
 within-requires-2 c κs = search needs
 
--- src/lib.rt:71:29
 enum-known-n-3 : tie.Need-enum-known-n-3
 enum-known-n-3 c = search needs
 
--- src/lib.rt:72:26
 enum-known-c : tie.Need-enum-known-c
 enum-known-c c = search needs
 
--- src/lib.rt:72:32
 row-requires-2 : tie.Need-row-requires-2
 row-requires-2 c κs = search needs
 
--- src/lib.rt:58:1
 returns : tie.Need-returns
 returns c = sym (cells-stop _ _ _ _ (sym (c .before .before .before .within .ensures) ∙ c .before .n .given .1)) ∙ (let s = c .before .before .before .before .before .before .before .before .before .before .before in counts-are (s .args .h) (s .args .numbers .now) (s .args .left) (s .args .at) (s .args .q) (c .before .before .before .before .before .before .before .before .wide .ensures) (c .before .before .before .before .before .before .before .namespace-limit .ensures) (c .before .before .before .before .before .least-statements .ensures) (c .before .before .before .before .statement-limit .ensures))
 
--- src/lib.rt:58:1
 returns-2 : tie.Need-returns-2
 unfolding columnsOf
 returns-2 c = sym (cells-go _ _ _ _ (sym (c .before .before .before .before .before .before .before .within .ensures) ∙ c .before .before .before .before .before .a .given .1) ∙ row-stop (_ ∷ []) _ _ _ (sym (c .before .before .before .row .ensures) ∙ c .before .n2 .given .1)) ∙ (let s = c .before .before .before .before .before .before .before .before .before .before .before .before .before .before .before in counts-are (s .args .h) (s .args .numbers .now) (s .args .left) (s .args .at) (s .args .q) (c .before .before .before .before .before .before .before .before .before .before .before .before .wide .ensures) (c .before .before .before .before .before .before .before .before .before .before .before .namespace-limit .ensures) (c .before .before .before .before .before .before .before .before .before .least-statements .ensures) (c .before .before .before .before .before .before .before .before .statement-limit .ensures))
 
--- src/lib.rt:58:1
 returns-3 : tie.Need-returns-3
 unfolding columnsOf
 returns-3 c = sym (cells-go _ _ _ _ (sym (c .before .before .before .before .before .before .before .before .before .before .before .within .ensures) ∙ c .before .before .before .before .before .before .before .before .before .a .given .1) ∙ row-go (_ ∷ []) _ _ _ (sym (c .before .before .before .before .before .before .before .row .ensures) ∙ c .before .before .before .before .before .b .given .1) ∙ cells-stop _ _ _ _ (sym (c .before .before .before .within2 .ensures) ∙ c .before .n3 .given .1)) ∙ (let s = c .before .before .before .before .before .before .before .before .before .before .before .before .before .before .before .before .before .before .before in counts-are (s .args .h) (s .args .numbers .now) (s .args .left) (s .args .at) (s .args .q) (c .before .before .before .before .before .before .before .before .before .before .before .before .before .before .before .before .wide .ensures) (c .before .before .before .before .before .before .before .before .before .before .before .before .before .before .before .namespace-limit .ensures) (c .before .before .before .before .before .before .before .before .before .before .before .before .before .least-statements .ensures) (c .before .before .before .before .before .before .before .before .before .before .before .before .statement-limit .ensures))
 
--- src/lib.rt:58:1
 returns-4 : tie.Need-returns-4
 unfolding columnsOf plainRow
 returns-4 c = c .row2 .ensures ∙ sym (cells-go _ _ _ _ (sym (c .before .before .before .before .before .before .before .before .before .before .before .before .within .ensures) ∙ c .before .before .before .before .before .before .before .before .before .before .a .given .1) ∙ row-go (_ ∷ []) _ _ _ (sym (c .before .before .before .before .before .before .before .before .row .ensures) ∙ c .before .before .before .before .before .before .b .given .1) ∙ cells-go _ _ _ _ (sym (c .before .before .before .before .within2 .ensures) ∙ c .before .before .c .given .1)) ∙ (let s = c .before .before .before .before .before .before .before .before .before .before .before .before .before .before .before .before .before .before .before .before in counts-are (s .args .h) (s .args .numbers .now) (s .args .left) (s .args .at) (s .args .q) (c .before .before .before .before .before .before .before .before .before .before .before .before .before .before .before .before .before .wide .ensures) (c .before .before .before .before .before .before .before .before .before .before .before .before .before .before .before .before .namespace-limit .ensures) (c .before .before .before .before .before .before .before .before .before .before .before .before .before .before .least-statements .ensures) (c .before .before .before .before .before .before .before .before .before .before .before .before .before .statement-limit .ensures))

@@ -12,67 +12,52 @@ use Rattle.graph_format.proofs.module_head.Lts as lts
 use Rattle.graph_format.proofs.module_counts.Reads as module-counts-reads
 use Rattle.rows.proofs.row.Reads as row-reads
 
--- src/lib.rt:83:19
 add-wrapper : tie.Need-add-wrapper
 add-wrapper c = search needs
 
--- src/lib.rt:84:11
 row-requires : tie.Need-row-requires
 row-requires c κs = search needs
 
--- src/lib.rt:85:21
 enum-known-n : tie.Need-enum-known-n
 enum-known-n c = search needs
 
--- src/lib.rt:86:18
 enum-known-a : tie.Need-enum-known-a
 enum-known-a c = search needs
 
--- src/lib.rt:86:30
 row-requires-2 : tie.Need-row-requires-2
 row-requires-2 c κs = search needs
 
--- src/lib.rt:87:25
 enum-known-n-2 : tie.Need-enum-known-n-2
 enum-known-n-2 c = search needs
 
--- src/lib.rt:88:22
 enum-known-b : tie.Need-enum-known-b
 enum-known-b c = search needs
 
--- src/lib.rt:88:34
 row-requires-3 : tie.Need-row-requires-3
 row-requires-3 c κs = search needs
 
--- src/lib.rt:89:29
 enum-known-n-3 : tie.Need-enum-known-n-3
 enum-known-n-3 c = search needs
 
--- src/lib.rt:90:26
 enum-known-c : tie.Need-enum-known-c
 enum-known-c c = search needs
 
--- src/lib.rt:90:32
 module-counts-requires : tie.Need-module-counts-requires
 unfolding columnsOf plainRow
 module-counts-requires c κs = omega (arith, cells-inside _ _ _ _ (sym (c .before .before .before .before .before .before .before .before .before .before .before .row .ensures) ∙ c .before .before .before .before .before .before .before .before .before .a .given .1))
 
--- src/lib.rt:79:1
 returns : tie.Need-returns
 unfolding columnsOf moduleRules
 returns c = sym (row-stop (_ ∷ _ ∷ _ ∷ []) _ _ _ (sym (c .before .before .before .row .ensures) ∙ c .before .n .given .1))
 
--- src/lib.rt:79:1
 returns-2 : tie.Need-returns-2
 unfolding columnsOf moduleRules
 returns-2 c = sym (row-go (_ ∷ _ ∷ _ ∷ []) _ _ _ (sym (c .before .before .before .before .before .before .before .row .ensures) ∙ c .before .before .before .before .before .a .given .1) ∙ row-stop (_ ∷ _ ∷ _ ∷ []) _ _ _ (sym (c .before .before .before .row2 .ensures) ∙ c .before .n2 .given .1))
 
--- src/lib.rt:79:1
 returns-3 : tie.Need-returns-3
 unfolding columnsOf moduleRules
 returns-3 c = sym (row-go (_ ∷ _ ∷ _ ∷ []) _ _ _ (sym (c .before .before .before .before .before .before .before .before .before .before .before .row .ensures) ∙ c .before .before .before .before .before .before .before .before .before .a .given .1) ∙ row-go (_ ∷ _ ∷ _ ∷ []) _ _ _ (sym (c .before .before .before .before .before .before .before .row2 .ensures) ∙ c .before .before .before .before .before .b .given .1) ∙ row-stop (_ ∷ []) _ _ _ (sym (c .before .before .before .row3 .ensures) ∙ c .before .n3 .given .1))
 
--- src/lib.rt:79:1
 returns-4 : tie.Need-returns-4
 unfolding columnsOf moduleRules
 returns-4 c = c .module-counts .ensures ∙ sym (row-go (_ ∷ _ ∷ _ ∷ []) _ _ _ (sym (c .before .before .before .before .before .before .before .before .before .before .before .before .row .ensures) ∙ c .before .before .before .before .before .before .before .before .before .before .a .given .1) ∙ row-go (_ ∷ _ ∷ _ ∷ []) _ _ _ (sym (c .before .before .before .before .before .before .before .before .row2 .ensures) ∙ c .before .before .before .before .before .before .b .given .1) ∙ row-go (_ ∷ []) _ _ _ (sym (c .before .before .before .before .row3 .ensures) ∙ c .before .before .c .given .1))

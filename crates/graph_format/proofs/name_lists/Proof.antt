@@ -10,62 +10,48 @@ use Rattle.graph_format.proofs.name_lists.Reads as reads
 use Rattle.graph_format.proofs.name_lists.Lts as lts
 use Rattle.rows.proofs.rows.Reads as rows-reads
 
--- src/lib.rt:128:11
 rows-requires : tie.Need-rows-requires
 rows-requires c κs = search needs
 
--- src/lib.rt:129:21
 enum-known-n : tie.Need-enum-known-n
 enum-known-n c = search needs
 
--- src/lib.rt:130:18
 enum-known-a : tie.Need-enum-known-a
 enum-known-a c = search needs
 
--- src/lib.rt:130:30
 rows-requires-2 : tie.Need-rows-requires-2
 rows-requires-2 c κs = search needs
 
--- src/lib.rt:131:25
 enum-known-n-2 : tie.Need-enum-known-n-2
 enum-known-n-2 c = search needs
 
--- src/lib.rt:132:22
 enum-known-b : tie.Need-enum-known-b
 enum-known-b c = search needs
 
--- src/lib.rt:132:34
 rows-requires-3 : tie.Need-rows-requires-3
 rows-requires-3 c κs = search needs
 
--- src/lib.rt:133:29
 enum-known-n-3 : tie.Need-enum-known-n-3
 enum-known-n-3 c = search needs
 
--- src/lib.rt:134:26
 enum-known-c : tie.Need-enum-known-c
 enum-known-c c = search needs
 
--- src/lib.rt:134:32
 rows-requires-4 : tie.Need-rows-requires-4
 rows-requires-4 c κs = search needs
 
--- src/lib.rt:125:1
 returns : tie.Need-returns
 unfolding rowOf columnsOf nameLists
 returns c = sym (lists-stop _ _ _ _ (sym (c .before .before .before .rows .ensures) ∙ c .before .n .given .1))
 
--- src/lib.rt:125:1
 returns-2 : tie.Need-returns-2
 unfolding rowOf columnsOf nameLists
 returns-2 c = sym (lists-go _ _ _ _ (sym (c .before .before .before .before .before .before .before .rows .ensures) ∙ c .before .before .before .before .before .a .given .1) ∙ lists-stop _ _ _ _ (sym (c .before .before .before .rows2 .ensures) ∙ c .before .n2 .given .1))
 
--- src/lib.rt:125:1
 returns-3 : tie.Need-returns-3
 unfolding rowOf columnsOf nameLists
 returns-3 c = sym (lists-go _ _ _ _ (sym (c .before .before .before .before .before .before .before .before .before .before .before .rows .ensures) ∙ c .before .before .before .before .before .before .before .before .before .a .given .1) ∙ lists-go _ _ _ _ (sym (c .before .before .before .before .before .before .before .rows2 .ensures) ∙ c .before .before .before .before .before .b .given .1) ∙ lists-stop _ _ _ _ (sym (c .before .before .before .rows3 .ensures) ∙ c .before .n3 .given .1))
 
--- src/lib.rt:125:1
 returns-4 : tie.Need-returns-4
 unfolding rowOf columnsOf nameLists
 returns-4 c = c .rows4 .ensures ∙ sym (lists-go _ _ _ _ (sym (c .before .before .before .before .before .before .before .before .before .before .before .before .rows .ensures) ∙ c .before .before .before .before .before .before .before .before .before .before .a .given .1) ∙ lists-go _ _ _ _ (sym (c .before .before .before .before .before .before .before .before .rows2 .ensures) ∙ c .before .before .before .before .before .before .b .given .1) ∙ lists-go _ _ _ _ (sym (c .before .before .before .before .rows3 .ensures) ∙ c .before .before .c .given .1) ∙ lists-one _ _ _)

@@ -6,11 +6,9 @@ use Rattle.graph_format.proofs.owners_counts.Tie as tie
 use Rattle.graph_format.proofs.owners_counts.Reads as reads
 use Rattle.graph_format.proofs.owners_counts.Lts as lts
 
--- src/lib.rt:187:1
 returns : tie.Need-returns
 returns c = owners-none _ (c .if1 .taken)
 
--- src/lib.rt:187:1
 returns-2 : tie.Need-returns-2
 returns-2 c = owners-some _ (c .if1 .left)
 

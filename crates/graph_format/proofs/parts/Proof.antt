@@ -11,33 +11,26 @@ use Rattle.graph_format.proofs.depended.Reads as depended-reads
 use Rattle.graph_format.proofs.member.Reads as member-reads
 use Rattle.rows.proofs.row.Reads as row-reads
 
--- src/lib.rt:218:9
 row-requires : tie.Need-row-requires
 row-requires c κs = search needs
 
--- src/lib.rt:218:9
 returns : tie.Need-returns
 unfolding columnsOf plainRow
 returns c = c .row .ensures ∙ sym (ap walkOf (parts-symbol _ _ _ _ (c .before .if1 .taken)))
 
--- src/lib.rt:221:9
 returns-2 : tie.Need-returns-2
 unfolding walkOf
 returns-2 c = sym (ap walkOf (parts-none _ _ _ _ (c .before .if1 .left) (c .if2 .taken)))
 
--- src/lib.rt:224:9
 depended-requires : tie.Need-depended-requires
 depended-requires c κs = search needs
 
--- src/lib.rt:224:9
 returns-3 : tie.Need-returns-3
 returns-3 c = c .depended .ensures ∙ sym (ap walkOf (parts-depended _ _ _ _ (c .before .before .before .if1 .left) (c .before .before .if2 .left) (c .before .if3 .taken)))
 
--- src/lib.rt:226:5
 member-requires : tie.Need-member-requires
 member-requires c κs = search needs
 
--- src/lib.rt:214:1
 returns-4 : tie.Need-returns-4
 returns-4 c = c .member .ensures ∙ sym (ap walkOf (parts-member _ _ _ _ (c .before .before .before .if1 .left) (c .before .before .if2 .left) (c .before .if3 .left)))
 

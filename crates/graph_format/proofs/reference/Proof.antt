@@ -11,39 +11,30 @@ use Rattle.graph_format.proofs.parts.Reads as parts-reads
 use Rattle.rows.proofs.wide.Reads as wide-reads
 use Rattle.rows.proofs.within.Reads as within-reads
 
--- src/lib.rt:233:11
 within-requires : tie.Need-within-requires
 within-requires c κs = search needs
 
--- src/lib.rt:234:21
 enum-known-n : tie.Need-enum-known-n
 enum-known-n c = search needs
 
--- src/lib.rt:235:18
 enum-known-a : tie.Need-enum-known-a
 enum-known-a c = search needs
 
--- src/lib.rt:236:35
 mul-wide : tie.Need-mul-wide
 mul-wide c = omega (arith, number-inside _ (c .before .before .before .before .before .args .numbers .now) (c .before .before .before .before .before .args .at) (sym (c .before .before .before .within .ensures) ∙ c .before .a .given .1))
 
--- src/lib.rt:236:35
 shared-slice-read-wide : tie.Need-shared-slice-read-wide
 shared-slice-read-wide c = number-inside _ _ _ (sym (c .before .before .before .before .within .ensures) ∙ c .before .before .a .given .1)
 
--- src/lib.rt:236:17
 wide-requires : tie.Need-wide-requires
 wide-requires c κs = search needs
 
--- src/lib.rt:237:13
 parts-requires : tie.Need-parts-requires
 parts-requires c κs = search needs
 
--- src/lib.rt:230:1
 returns : tie.Need-returns
 returns c = sym (reference-stop _ _ _ _ (sym (c .before .before .before .within .ensures) ∙ c .before .n .given .1))
 
--- src/lib.rt:230:1
 returns-2 : tie.Need-returns-2
 returns-2 c = c .parts .ensures ∙ sym (reference-go _ _ _ _ (sym (c .before .before .before .before .before .before .within .ensures) ∙ c .before .before .before .before .a .given .1) (c .before .wide .ensures))
 

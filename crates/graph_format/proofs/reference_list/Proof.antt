@@ -13,39 +13,30 @@ use Rattle.graph_format.proofs.references.Reads as references-reads
 use Rattle.rows.proofs.counter.Reads as counter-reads
 use Rattle.rows.proofs.wide.Reads as wide-reads
 
--- src/lib.rt:266:11
 counter-requires : tie.Need-counter-requires
 counter-requires c κs = search needs
 
--- src/lib.rt:267:21
 enum-known-n : tie.Need-enum-known-n
 enum-known-n c = search needs
 
--- src/lib.rt:268:18
 enum-known-a : tie.Need-enum-known-a
 enum-known-a c = search needs
 
--- src/lib.rt:269:36
 mul-wide : tie.Need-mul-wide
 mul-wide c = omega (arith, number-inside _ (c .before .before .before .before .before .args .numbers .now) (c .before .before .before .before .before .args .at) (sym (c .before .before .before .counter .ensures) ∙ c .before .a .given .1))
 
--- src/lib.rt:269:36
 shared-slice-read-wide : tie.Need-shared-slice-read-wide
 shared-slice-read-wide c = number-inside _ (c .before .before .before .before .before .before .args .numbers .now) (c .before .before .before .before .before .before .args .at) (sym (c .before .before .before .before .counter .ensures) ∙ c .before .before .a .given .1)
 
--- src/lib.rt:269:17
 wide-requires : tie.Need-wide-requires
 wide-requires c κs = search needs
 
--- src/lib.rt:270:13
 references-requires : tie.Need-references-requires
 references-requires c κs = search needs
 
--- src/lib.rt:263:1
 returns : tie.Need-returns
 returns c = sym (list-stop _ _ _ (sym (c .before .before .before .counter .ensures) ∙ c .before .n .given .1))
 
--- src/lib.rt:263:1
 returns-2 : tie.Need-returns-2
 returns-2 c = c .references .ensures ∙ sym (list-by (referenceList (c .before .before .before .before .before .before .before .before .args .symbols) (c .before .before .before .before .before .before .before .before .args .numbers .now)) (c .before .before .before .before .before .before .before .before .args .numbers .now) (c .before .before .before .before .before .before .before .before .args .at) (sym (c .before .before .before .before .before .before .counter .ensures) ∙ c .before .before .before .before .a .given .1) (c .before .wide .ensures))
 

@@ -13,45 +13,35 @@ use Rattle.graph_format.proofs.reference_list.Reads as reference-list-r
 use Rattle.rows.proofs.row.Reads as row-reads
 use Rattle.rows.proofs.rows.Reads as rows-reads
 
--- src/lib.rt:279:11
 row-requires : tie.Need-row-requires
 row-requires c κs = search needs
 
--- src/lib.rt:280:21
 enum-known-n : tie.Need-enum-known-n
 enum-known-n c = search needs
 
--- src/lib.rt:281:18
 enum-known-a : tie.Need-enum-known-a
 enum-known-a c = search needs
 
--- src/lib.rt:281:30
 rows-requires : tie.Need-rows-requires
 rows-requires c κs = search needs
 
--- src/lib.rt:282:25
 enum-known-n-2 : tie.Need-enum-known-n-2
 enum-known-n-2 c = search needs
 
--- src/lib.rt:283:22
 enum-known-b : tie.Need-enum-known-b
 enum-known-b c = search needs
 
--- src/lib.rt:283:28
 reference-list-requires : tie.Need-reference-list-requires
 reference-list-requires c κs = search needs
 
--- src/lib.rt:276:1
 returns : tie.Need-returns
 unfolding plainRow columnsOf
 returns c = sym (statement-stop _ _ _ _ _ (sym (c .before .before .before .row .ensures) ∙ c .before .n .given .1))
 
--- src/lib.rt:276:1
 returns-2 : tie.Need-returns-2
 unfolding plainRow columnsOf rowOf statementLists
 returns-2 c = sym (statement-go _ _ _ _ _ (sym (c .before .before .before .before .before .before .before .row .ensures) ∙ c .before .before .before .before .before .a .given .1) ∙ lists-stop _ _ _ _ (sym (c .before .before .before .rows .ensures) ∙ c .before .n2 .given .1))
 
--- src/lib.rt:276:1
 returns-3 : tie.Need-returns-3
 unfolding plainRow columnsOf rowOf statementLists
 returns-3 c = c .reference-list .ensures ∙ sym (statement-go _ _ _ _ _ (sym (c .before .before .before .before .before .before .before .before .row .ensures) ∙ c .before .before .before .before .before .before .a .given .1) ∙ lists-go _ _ _ _ (sym (c .before .before .before .before .rows .ensures) ∙ c .before .before .b .given .1) ∙ lists-one _ _ _)

@@ -5,15 +5,12 @@ use Rattle.graph_format.proofs.statement_limit.Tie as tie
 use Rattle.graph_format.proofs.statement_limit.Reads as reads
 use Rattle.graph_format.proofs.statement_limit.Lts as lts
 
--- src/lib.rt:54:31
 add-result : tie.Need-add-result
 add-result c = search needs
 
--- src/lib.rt:50:1
 returns : tie.Need-returns
 returns c = statement-none _ _ (c .if1 .taken)
 
--- src/lib.rt:50:1
 returns-2 : tie.Need-returns-2
 returns-2 c = statement-some _ _ (c .if1 .left)
 

@@ -11,49 +11,38 @@ use Rattle.graph_format.proofs.symbol_lists.Lts as lts
 use Rattle.graph_format.proofs.owners_counts.Reads as owners-counts-reads
 use Rattle.rows.proofs.rows.Reads as rows-reads
 
--- src/lib.rt:176:9
 owners-counts-requires : tie.Need-owners-counts-requires
 owners-counts-requires c κs = search needs
 
--- src/lib.rt:177:11
 rows-requires : tie.Need-rows-requires
 rows-requires c κs = search needs
 
--- src/lib.rt:178:21
 enum-known-n : tie.Need-enum-known-n
 enum-known-n c = search needs
 
--- src/lib.rt:179:18
 enum-known-a : tie.Need-enum-known-a
 enum-known-a c = search needs
 
--- src/lib.rt:179:30
 rows-requires-2 : tie.Need-rows-requires-2
 rows-requires-2 c κs = search needs
 
--- src/lib.rt:180:25
 enum-known-n-2 : tie.Need-enum-known-n-2
 enum-known-n-2 c = search needs
 
--- src/lib.rt:181:22
 enum-known-b : tie.Need-enum-known-b
 enum-known-b c = search needs
 
--- src/lib.rt:181:28
 rows-requires-3 : tie.Need-rows-requires-3
 rows-requires-3 c κs = search needs
 
--- src/lib.rt:173:1
 returns : tie.Need-returns
 unfolding rowOf columnsOf symbolLists
 returns c = sym (lists-stop _ _ _ _ (sym (c .before .before .before .rows .ensures) ∙ c .before .n .given .1))
 
--- src/lib.rt:173:1
 returns-2 : tie.Need-returns-2
 unfolding rowOf columnsOf symbolLists
 returns-2 c = sym (lists-go _ _ _ _ (sym (c .before .before .before .before .before .before .before .rows .ensures) ∙ c .before .before .before .before .before .a .given .1) ∙ lists-stop _ _ _ _ (rw (c .before .before .before .before .before .before .before .before .owners-counts .ensures) at (sym (c .before .before .before .rows2 .ensures) ∙ c .before .n2 .given .1)))
 
--- src/lib.rt:173:1
 returns-3 : tie.Need-returns-3
 unfolding rowOf columnsOf symbolLists
 returns-3 c = rw (c .before .before .before .before .before .before .before .before .before .owners-counts .ensures) at (c .rows3 .ensures) ∙ sym (lists-go _ _ _ _ (sym (c .before .before .before .before .before .before .before .before .rows .ensures) ∙ c .before .before .before .before .before .before .a .given .1) ∙ lists-go _ _ _ _ (rw (c .before .before .before .before .before .before .before .before .before .owners-counts .ensures) at (sym (c .before .before .before .before .rows2 .ensures) ∙ c .before .before .b .given .1)) ∙ lists-one _ _ _)

@@ -9,43 +9,33 @@ use Rattle.graph_tables.proofs.import_record_number.Reads as reads
 use Rattle.graph_tables.proofs.import_record_number.Lts as lts
 use Rattle.rows.proofs.wide.Reads as wide-reads
 
--- src/lib.rt:39:13
 mul-p : tie.Need-mul-p
 mul-p c = search needs
 
--- src/lib.rt:39:13
 shared-slice-read-p : tie.Need-shared-slice-read-p
 shared-slice-read-p c = let s = c .before .before .before in omega (arith, s .pre .0 .long, s .pre .1 .0)
 
--- src/lib.rt:40:24
 add-wide : tie.Need-add-wide
 add-wide c = let s = c .before .before .before in omega (arith, at-record-inside _ _ (s .pre .0) _ (s .pre .1 .0) _ (s .pre .1 .1) _ (s .pre .1 .2))
 
--- src/lib.rt:40:33
 mul-wide : tie.Need-mul-wide
 mul-wide c = let s = c .before .before .before in omega (arith, at-record-inside _ _ (s .pre .0) _ (s .pre .1 .0) _ (s .pre .1 .1) _ (s .pre .1 .2))
 
--- src/lib.rt:40:24
 add-wide-2 : tie.Need-add-wide-2
 add-wide-2 c = let s = c .before .before .before in omega (arith, at-record-inside _ _ (s .pre .0) _ (s .pre .1 .0) _ (s .pre .1 .1) _ (s .pre .1 .2))
 
--- src/lib.rt:40:24
 add-wide-3 : tie.Need-add-wide-3
 add-wide-3 c = let s = c .before .before .before in omega (arith, at-record-inside _ _ (s .pre .0) _ (s .pre .1 .0) _ (s .pre .1 .1) _ (s .pre .1 .2))
 
--- src/lib.rt:40:16
 mul-wide-2 : tie.Need-mul-wide-2
 mul-wide-2 c = let s = c .before .before .before in omega (arith, at-record-inside _ _ (s .pre .0) _ (s .pre .1 .0) _ (s .pre .1 .1) _ (s .pre .1 .2))
 
--- src/lib.rt:40:16
 shared-slice-read-wide : tie.Need-shared-slice-read-wide
 shared-slice-read-wide c = let s = c .before .before .before .before in at-record-inside _ _ (s .pre .0) _ (s .pre .1 .0) _ (s .pre .1 .1) _ (s .pre .1 .2)
 
--- src/lib.rt:40:5
 wide-requires : tie.Need-wide-requires
 wide-requires c κs = search needs
 
--- src/lib.rt:34:1
 returns : tie.Need-returns
 returns c = let s = c .before .before .before .before .before in c .wide .ensures ∙ at-record _ _ (s .pre .0) _ (s .pre .1 .0) _ (s .pre .1 .1) _ (s .pre .1 .2)
 

@@ -9,31 +9,24 @@ use Rattle.graph_tables.proofs.module_number.Reads as reads
 use Rattle.graph_tables.proofs.module_number.Lts as lts
 use Rattle.rows.proofs.wide.Reads as wide-reads
 
--- src/lib.rt:19:13
 mul-p : tie.Need-mul-p
 mul-p c = search needs
 
--- src/lib.rt:19:13
 shared-slice-read-p : tie.Need-shared-slice-read-p
 shared-slice-read-p c = let s = c .before .before .before in omega (arith, s .pre .0 .long, s .pre .1 .0)
 
--- src/lib.rt:20:24
 add-wide : tie.Need-add-wide
 add-wide c = let s = c .before .before .before in omega (arith, at-inside _ _ (s .pre .0) _ (s .pre .1 .0) _ (s .pre .1 .1))
 
--- src/lib.rt:20:16
 mul-wide : tie.Need-mul-wide
 mul-wide c = let s = c .before .before .before in omega (arith, at-inside _ _ (s .pre .0) _ (s .pre .1 .0) _ (s .pre .1 .1))
 
--- src/lib.rt:20:16
 shared-slice-read-wide : tie.Need-shared-slice-read-wide
 shared-slice-read-wide c = let s = c .before .before .before .before in at-inside _ _ (s .pre .0) _ (s .pre .1 .0) _ (s .pre .1 .1)
 
--- src/lib.rt:20:5
 wide-requires : tie.Need-wide-requires
 wide-requires c κs = search needs
 
--- src/lib.rt:14:1
 returns : tie.Need-returns
 returns c = let s = c .before .before .before .before .before in c .wide .ensures ∙ at-same _ _ (s .pre .0) _ (s .pre .1 .0) _ (s .pre .1 .1)
 

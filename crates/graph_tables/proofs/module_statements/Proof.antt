@@ -33,62 +33,48 @@ placed h r numbers k q e = item-place _ _ numbers q e
 writes : (c : tie.After-known-told2 Inv-loop μ-loop) → c .before .before .before .before .before .before .before .before .args .first + c .before .before .before .before .before .loop .k < length (c .before .before .before .before .before .loop .tables)
 writes c = filling-inside (c .before .before .before .before .before .loop .inv .1) (c .before .before .before .before .before .before .before .before .pre) (c .before .before .before .before .loop-test .taken)
 
--- src/lib.rt:150:5
 loop-holds : tie.Need-loop-holds Inv-loop μ-loop
 loop-holds c = ([], filling-start)
 
--- src/lib.rt:151:15
 statement-requires : tie.Need-statement-requires Inv-loop μ-loop
 statement-requires c κs = search needs
 
--- src/lib.rt:152:25
 enum-known-n : tie.Need-enum-known-n Inv-loop μ-loop
 enum-known-n c = search needs
 
--- src/lib.rt:153:17
 same-length : tie.Need-same-length Inv-loop μ-loop
 same-length c = c .before .before .before .before .before .loop .inv .1 .kept .same-length
 
--- src/lib.rt:153:17
 returns : tie.Need-returns Inv-loop μ-loop
 unfolding statementAt
 returns c = filling-stop (c .before .before .before .before .before .loop .inv .1) (c .before .before .before .before .loop-test .taken) (sym (c .before .before .before .statement .ensures) ∙ c .before .n .given .1)
 
--- src/lib.rt:155:22
 enum-known-next : tie.Need-enum-known-next Inv-loop μ-loop
 enum-known-next c = search needs
 
--- src/lib.rt:156:24
 add-tables : tie.Need-add-tables Inv-loop μ-loop
 add-tables c = omega (arith, writes c)
 
--- src/lib.rt:156:17
 mul-tables : tie.Need-mul-tables Inv-loop μ-loop
 mul-tables c = omega (arith, writes c)
 
--- src/lib.rt:156:17
 slice-write-tables : tie.Need-slice-write-tables Inv-loop μ-loop
 slice-write-tables c = writes c
 
--- src/lib.rt:160:9
 add-k : tie.Need-add-k Inv-loop μ-loop
 add-k c = search needs
 
--- src/lib.rt:150:5
 loop-less : tie.Need-loop-less Inv-loop μ-loop
 loop-less c = search needs
 
--- src/lib.rt:150:5
 loop-again : tie.Need-loop-again Inv-loop μ-loop
 loop-again c = let i = c .before .before .before .before .before .loop .inv in
     let t = turned c in
     (i .0 ++ (t .0 ∷ []), filling-step (i .1) (c .before .before .before .before .before .before .before .before .pre) (c .before .before .before .before .loop-test .taken) (t .1) (placed _ _ _ _ _ (t .1)) refl)
 
--- src/lib.rt:136:1
 same-length-2 : tie.Need-same-length-2 Inv-loop μ-loop
 same-length-2 c = c .before .loop .inv .1 .kept .same-length
 
--- src/lib.rt:136:1
 returns-2 : tie.Need-returns-2 Inv-loop μ-loop
 returns-2 c = filling-end (c .before .loop .inv .1) (c .loop-test .left)
 

@@ -6,7 +6,7 @@ use Rattle.rows.specs.Walk.{got, Item}
 use Rattle.rows.proofs.Walks.{at-got}
 use Rattle.graph_format.specs.declared.Header.{Header}
 use Rattle.graph_format.specs.Format.{moduleAt, modulesAt, lessModule}
-use Rattle.tables.specs.Layout.{sizes, startOf}
+use Rattle.tables.specs.Layout.{sizes, startOf, atModules}
 use Rattle.tables.proofs.Sections.{ends-inside, word-inside}
 use Rattle.graph_tables.proofs.Facts.{read-place, nine-inside, nine-same, nine-fits, less}
 use Rattle.graph_tables.proofs.Filling.{Filling, filling-start, filling-inside, filling-step, filling-stop, filling-end}
@@ -16,7 +16,7 @@ use Rattle.graph_tables.proofs.modules.Statement.{statement}
 use Rattle.graph_tables.proofs.modules.Tie as tie
 
 abbrev Inv-loop : tie.InvT-loop
-Inv-loop numbers at h tables₀ base k₀ q₀ left₀ tables k q left = (done : List Item) × (left ≤ h .statements) × Filling (moduleAt h numbers) lessModule (h .modules) (record { statements = h .statements; modules = h .modules }) at (startOf h 0) tables₀ tables k q (record { statements = left; modules = h .modules - k }) done
+Inv-loop numbers at h tables₀ base k₀ q₀ left₀ tables k q left = (done : List Item) × (left ≤ h .statements) × Filling (moduleAt h numbers) lessModule (h .modules) (record { statements = h .statements; modules = h .modules }) at (startOf h atModules) tables₀ tables k q (record { statements = left; modules = h .modules - k }) done
 
 abbrev μ-loop : tie.MeasureT-loop
 μ-loop numbers at h tables₀ base k₀ q₀ left₀ tables k q left = h .modules - k
@@ -34,101 +34,80 @@ behind h numbers left k q e =
     less h numbers _ q e ∙ ap (λ m. record { statements = left - getD numbers (q + 9) 0; modules = m }) z
 
 -- the section is inside the tables, and so is the word that a turn writes
-room : (c : tie.Start Inv-loop μ-loop) → startOf (c .args .h) 0 + c .args .h .modules ≤ length (c .args .tables .now)
+room : (c : tie.Start Inv-loop μ-loop) → startOf (c .args .h) atModules + c .args .h .modules ≤ length (c .args .tables .now)
 unfolding sizes
 room c = ends-inside (c .pre .0) 0 (omega arith)
 
-spot : (c : tie.After-known-told2 Inv-loop μ-loop) → getD (c .before .before .before .before .before .before .before .before .before .before .before .args .tables .now) 0 0 + c .before .before .before .before .before .before .before .loop .k ≡ startOf (c .before .before .before .before .before .before .before .before .before .before .before .args .h) 0 + c .before .before .before .before .before .before .before .loop .k
+spot : (c : tie.After-known-told2 Inv-loop μ-loop) → getD (c .before .before .before .before .before .before .before .before .before .before .before .args .tables .now) 0 0 + c .before .before .before .before .before .before .before .loop .k ≡ startOf (c .before .before .before .before .before .before .before .before .before .before .before .args .h) atModules + c .before .before .before .before .before .before .before .loop .k
 spot c = ap (λ b. b + c .before .before .before .before .before .before .before .loop .k) (c .before .before .before .before .before .before .before .before .before .before .before .pre .0 .starts 0 (omega arith))
 
 writes : (c : tie.After-known-told2 Inv-loop μ-loop) → getD (c .before .before .before .before .before .before .before .before .before .before .before .args .tables .now) 0 0 + c .before .before .before .before .before .before .before .loop .k < length (c .before .before .before .before .before .before .before .loop .tables)
 writes c = rw (spot c) (filling-inside (c .before .before .before .before .before .before .before .loop .inv .2) (room (c .before .before .before .before .before .before .before .before .before .before .before)) (c .before .before .before .before .before .if1 .taken))
 
--- src/lib.rt:61:16
 slice-read-base : tie.Need-slice-read-base Inv-loop μ-loop
 slice-read-base c = word-inside (c .before .before .before .pre .0) 0 (omega arith)
 
--- src/lib.rt:65:5
 loop-holds : tie.Need-loop-holds Inv-loop μ-loop
 loop-holds c = let z : c .before .before .before .args .h .modules - 0 ≡ c .before .before .before .args .h .modules = omega arith in ([], omega arith, rw z filling-start)
 
--- src/lib.rt:68:22
 sub-t16 : tie.Need-sub-t16 Inv-loop μ-loop
 sub-t16 c = search needs
 
--- src/lib.rt:70:15
 module-requires : tie.Need-module-requires Inv-loop μ-loop
 module-requires c κs = let p = c .before .before .before .before .before .before .before .pre .1 in (p .0, p .1, omega (arith, p .2, c .before .before .before .loop .inv .1))
 
--- src/lib.rt:71:25
 enum-known-n : tie.Need-enum-known-n Inv-loop μ-loop
 enum-known-n c = search needs
 
--- src/lib.rt:72:17
 same-length : tie.Need-same-length Inv-loop μ-loop
 same-length c = c .before .before .before .before .before .before .before .loop .inv .2 .kept .same-length
 
--- src/lib.rt:72:17
 returns : tie.Need-returns Inv-loop μ-loop
 unfolding modulesAt
 returns c = filling-stop (c .before .before .before .before .before .before .before .loop .inv .2) (c .before .before .before .before .before .if1 .taken) (sym (c .before .before .before .«module» .ensures) ∙ c .before .n .given .1)
 
--- src/lib.rt:74:22
 enum-known-next : tie.Need-enum-known-next Inv-loop μ-loop
 enum-known-next c = search needs
 
--- src/lib.rt:75:24
 add-tables : tie.Need-add-tables Inv-loop μ-loop
 add-tables c = omega (arith, writes c, c .before .before .before .before .before .before .before .loop .inv .2 .kept .same-length, c .before .before .before .before .before .before .before .before .before .before .before .pre .0 .few)
 
--- src/lib.rt:75:17
 mul-tables : tie.Need-mul-tables Inv-loop μ-loop
 mul-tables c = omega (arith, writes c, c .before .before .before .before .before .before .before .loop .inv .2 .kept .same-length, c .before .before .before .before .before .before .before .before .before .before .before .pre .0 .few)
 
--- src/lib.rt:75:17
 slice-write-tables : tie.Need-slice-write-tables Inv-loop μ-loop
 slice-write-tables c = writes c
 
--- src/lib.rt:76:50
 add-wide : tie.Need-add-wide Inv-loop μ-loop
 add-wide c = omega (arith, nine-inside _ _ _ _ (turned c .1))
 
--- src/lib.rt:76:42
 mul-wide : tie.Need-mul-wide Inv-loop μ-loop
 mul-wide c = omega (arith, nine-inside _ _ _ _ (turned c .1))
 
--- src/lib.rt:76:42
 shared-slice-read-wide : tie.Need-shared-slice-read-wide Inv-loop μ-loop
 shared-slice-read-wide c = nine-inside _ _ _ _ (turned (c .before) .1)
 
--- src/lib.rt:76:31
 wide-requires : tie.Need-wide-requires Inv-loop μ-loop
 wide-requires c κs = search needs
 
--- src/lib.rt:76:24
 sub-left : tie.Need-sub-left Inv-loop μ-loop
 sub-left c = let t = turned (c .before .before) .1 in omega (arith, c .wide .ensures, nine-same _ _ _ _ t, nine-fits _ _ _ _ t)
 
--- src/lib.rt:80:9
 add-k : tie.Need-add-k Inv-loop μ-loop
 add-k c = search needs
 
--- src/lib.rt:65:5
 loop-less : tie.Need-loop-less Inv-loop μ-loop
 loop-less c = search needs
 
--- src/lib.rt:65:5
 loop-again : tie.Need-loop-again Inv-loop μ-loop
 loop-again c = let i = c .before .before .before .before .before .before .before .before .before .loop .inv in
     let t = turned (c .before .before) in
     let g = filling-step (i .2) (room (c .before .before .before .before .before .before .before .before .before .before .before .before .before)) (c .before .before .before .before .before .before .before .if1 .taken) (t .1) (read-place _ _ _ _ (t .1)) (spot (c .before .before)) in
     (i .0 ++ (t .0 ∷ []), omega (arith, i .1), rw (c .wide .ensures) (rw (behind _ _ _ _ _ (t .1)) at g))
 
--- src/lib.rt:57:1
 same-length-2 : tie.Need-same-length-2 Inv-loop μ-loop
 same-length-2 c = c .before .before .loop .inv .2 .kept .same-length
 
--- src/lib.rt:57:1
 returns-2 : tie.Need-returns-2 Inv-loop μ-loop
 unfolding modulesAt
 returns-2 c = filling-end (c .before .before .loop .inv .2) (c .if1 .left)

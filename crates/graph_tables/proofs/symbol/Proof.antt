@@ -21,45 +21,35 @@ use Rattle.rows.proofs.wide.Reads as wide-reads
 headed : (c : tie.After-known-told2) → let s = c .before .before .before .before .before .before in (head : List ℕ) × (cells (symbolRules (s .args .h)) (s .args .numbers .now) (s .args .at) ≡ got head (c .before .a .given .0 .0))
 headed c = at-got _ _ (sym (c .before .before .before .symbol-head .ensures) ∙ c .before .a .given .1)
 
--- src/lib.rt:78:11
 symbol-head-requires : tie.Need-symbol-head-requires
 symbol-head-requires c κs = c .before .before .pre .1 .1
 
--- src/lib.rt:79:21
 enum-known-n : tie.Need-enum-known-n
 enum-known-n c = search needs
 
--- src/lib.rt:80:18
 enum-known-a : tie.Need-enum-known-a
 enum-known-a c = search needs
 
--- src/lib.rt:81:36
 mul-wide : tie.Need-mul-wide
 mul-wide c = omega (arith, owner-inside (c .before .before .before .before .before .before .args .h) (modulesIn (c .before .before .before .before .before .before .args .numbers .now)) _ 0 _ (headed c .1))
 
--- src/lib.rt:81:36
 shared-slice-read-wide : tie.Need-shared-slice-read-wide
 shared-slice-read-wide c = owner-inside (c .before .before .before .before .before .before .before .args .h) (modulesIn (c .before .before .before .before .before .before .before .args .numbers .now)) _ 0 _ (headed (c .before) .1)
 
--- src/lib.rt:81:17
 wide-requires : tie.Need-wide-requires
 wide-requires c κs = search needs
 
--- src/lib.rt:82:17
 module-number-requires : tie.Need-module-number-requires
 module-number-requires c κs = let s = c .before .before .before .before .before .before .before .before in
     let g = owner-good (s .args .h) (modulesIn (s .args .numbers .now)) _ 0 _ (headed (c .before .before) .1) in
     (s .pre .0, (rw (c .wide .ensures, sym (s .pre .1 .0)) g, omega arith))
 
--- src/lib.rt:83:13
 symbol-lists-requires : tie.Need-symbol-lists-requires
 symbol-lists-requires c κs = search needs
 
--- src/lib.rt:73:1
 returns : tie.Need-returns
 returns c = sym (symbol-stop _ _ _ _ _ (sym (c .before .before .before .symbol-head .ensures) ∙ c .before .n .given .1))
 
--- src/lib.rt:73:1
 returns-2 : tie.Need-returns-2
 returns-2 c = c .symbol-lists .ensures ∙ sym (symbol-go _ _ _ _ _ (headed (c .before .before .before .before) .1) _ _ (c .before .before .wide .ensures) (c .before .module-number .ensures))
 

@@ -6,7 +6,7 @@ use Rattle.rows.specs.Walk.{got, Item}
 use Rattle.rows.proofs.Walks.{at-got}
 use Rattle.graph_format.specs.declared.Header.{Header}
 use Rattle.graph_format.specs.Format.{symbolAt, symbolsAt, following}
-use Rattle.tables.specs.Layout.{sizes, startOf}
+use Rattle.tables.specs.Layout.{sizes, startOf, atSymbols}
 use Rattle.tables.proofs.Sections.{ends-inside, word-inside}
 use Rattle.graph_tables.specs.Tables.{modulesIn}
 use Rattle.graph_tables.proofs.OneItem.{item-place}
@@ -18,7 +18,7 @@ use Rattle.graph_tables.proofs.symbols.Statement.{statement}
 use Rattle.graph_tables.proofs.symbols.Tie as tie
 
 abbrev Inv-loop : tie.InvT-loop
-Inv-loop numbers at h tables₀ base k₀ q₀ tables k q = (done : List Item) × Filling (symbolAt h (modulesIn numbers) numbers) following (h .symbols) 0 at (startOf h 1) tables₀ tables k q k done
+Inv-loop numbers at h tables₀ base k₀ q₀ tables k q = (done : List Item) × Filling (symbolAt h (modulesIn numbers) numbers) following (h .symbols) 0 at (startOf h atSymbols) tables₀ tables k q k done
 
 abbrev μ-loop : tie.MeasureT-loop
 μ-loop numbers at h tables₀ base k₀ q₀ tables k q = h .symbols - k
@@ -34,80 +34,64 @@ unfolding symbolAt
 placed h ms numbers k q e = item-place _ _ numbers q e
 
 -- the section is inside the tables, and so is the word that a turn writes
-room : (c : tie.Start Inv-loop μ-loop) → startOf (c .args .h) 1 + c .args .h .symbols ≤ length (c .args .tables .now)
+room : (c : tie.Start Inv-loop μ-loop) → startOf (c .args .h) atSymbols + c .args .h .symbols ≤ length (c .args .tables .now)
 unfolding sizes
 room c = ends-inside (c .pre .0 .0) 1 (omega arith)
 
-spot : (c : tie.After-known-told2 Inv-loop μ-loop) → getD (c .before .before .before .before .before .before .before .before .before .before .before .before .args .tables .now) 1 0 + c .before .before .before .before .before .before .before .before .loop .k ≡ startOf (c .before .before .before .before .before .before .before .before .before .before .before .before .args .h) 1 + c .before .before .before .before .before .before .before .before .loop .k
+spot : (c : tie.After-known-told2 Inv-loop μ-loop) → getD (c .before .before .before .before .before .before .before .before .before .before .before .before .args .tables .now) 1 0 + c .before .before .before .before .before .before .before .before .loop .k ≡ startOf (c .before .before .before .before .before .before .before .before .before .before .before .before .args .h) atSymbols + c .before .before .before .before .before .before .before .before .loop .k
 spot c = ap (λ b. b + c .before .before .before .before .before .before .before .before .loop .k) (c .before .before .before .before .before .before .before .before .before .before .before .before .pre .0 .0 .starts 1 (omega arith))
 
 writes : (c : tie.After-known-told2 Inv-loop μ-loop) → getD (c .before .before .before .before .before .before .before .before .before .before .before .before .args .tables .now) 1 0 + c .before .before .before .before .before .before .before .before .loop .k < length (c .before .before .before .before .before .before .before .before .loop .tables)
 writes c = rw (spot c) (filling-inside (c .before .before .before .before .before .before .before .before .loop .inv .1) (room (c .before .before .before .before .before .before .before .before .before .before .before .before)) (c .before .before .before .before .before .before .if1 .taken))
 
--- src/lib.rt:107:16
 slice-read-base : tie.Need-slice-read-base Inv-loop μ-loop
 slice-read-base c = word-inside (c .before .before .before .pre .0 .0) 1 (omega arith)
 
--- src/lib.rt:110:5
 loop-holds : tie.Need-loop-holds Inv-loop μ-loop
 loop-holds c = ([], filling-start)
 
--- src/lib.rt:111:31
 section-requires : tie.Need-section-requires Inv-loop μ-loop
 section-requires c κs = modules-inside (c .before .before .before .before .before .before .before .pre .0 .0) 1 (omega arith) (omega arith) (c .before .before .before .loop .inv .1 .kept)
 
--- src/lib.rt:111:15
 symbol-requires : tie.Need-symbol-requires Inv-loop μ-loop
 symbol-requires c κs = let p = c .before .before .before .before .before .before .before .before .pre in (modules-kept (p .0 .0) 1 (omega arith) (omega arith) (c .before .before .before .before .loop .inv .1 .kept) (p .0 .1) (c .section .ensures), (p .1 .0, p .1 .1))
 
--- src/lib.rt:112:25
 enum-known-n : tie.Need-enum-known-n Inv-loop μ-loop
 enum-known-n c = search needs
 
--- src/lib.rt:113:17
 same-length : tie.Need-same-length Inv-loop μ-loop
 same-length c = c .before .before .before .before .before .before .before .before .loop .inv .1 .kept .same-length
 
--- src/lib.rt:113:17
 returns : tie.Need-returns Inv-loop μ-loop
 unfolding symbolsAt symbolAt
 returns c = filling-stop (c .before .before .before .before .before .before .before .before .loop .inv .1) (c .before .before .before .before .before .before .if1 .taken) (sym (c .before .before .before .symbol .ensures) ∙ c .before .n .given .1)
 
--- src/lib.rt:115:22
 enum-known-next : tie.Need-enum-known-next Inv-loop μ-loop
 enum-known-next c = search needs
 
--- src/lib.rt:116:24
 add-tables : tie.Need-add-tables Inv-loop μ-loop
 add-tables c = omega (arith, writes c, c .before .before .before .before .before .before .before .before .loop .inv .1 .kept .same-length, c .before .before .before .before .before .before .before .before .before .before .before .before .pre .0 .0 .few)
 
--- src/lib.rt:116:17
 mul-tables : tie.Need-mul-tables Inv-loop μ-loop
 mul-tables c = omega (arith, writes c, c .before .before .before .before .before .before .before .before .loop .inv .1 .kept .same-length, c .before .before .before .before .before .before .before .before .before .before .before .before .pre .0 .0 .few)
 
--- src/lib.rt:116:17
 slice-write-tables : tie.Need-slice-write-tables Inv-loop μ-loop
 slice-write-tables c = writes c
 
--- src/lib.rt:120:9
 add-k : tie.Need-add-k Inv-loop μ-loop
 add-k c = search needs
 
--- src/lib.rt:110:5
 loop-less : tie.Need-loop-less Inv-loop μ-loop
 loop-less c = search needs
 
--- src/lib.rt:110:5
 loop-again : tie.Need-loop-again Inv-loop μ-loop
 loop-again c = let i = c .before .before .before .before .before .before .before .before .loop .inv in
     let t = turned c in
     (i .0 ++ (t .0 ∷ []), filling-step (i .1) (room (c .before .before .before .before .before .before .before .before .before .before .before .before)) (c .before .before .before .before .before .before .if1 .taken) (t .1) (placed _ _ _ _ _ (t .1)) (spot c))
 
--- src/lib.rt:102:1
 same-length-2 : tie.Need-same-length-2 Inv-loop μ-loop
 same-length-2 c = c .before .before .loop .inv .1 .kept .same-length
 
--- src/lib.rt:102:1
 returns-2 : tie.Need-returns-2 Inv-loop μ-loop
 unfolding symbolsAt
 returns-2 c = filling-end (c .before .before .loop .inv .1) (c .if1 .left)

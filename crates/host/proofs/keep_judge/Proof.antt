@@ -1,29 +1,17 @@
-use mathlib.Core.Path.{_∙_, sym}
-use Rattle.host.proofs.Numbers.{as-judged, as-not-judged}
+use mathlib.Core.Path.{_∙_, ap}
+use borrow.Author.Needs.{needs}
+use Rattle.answers.specs.Answers.{judgeAnswerOf}
 use Rattle.host.proofs.keep_judge.Statement.{statement}
 use Rattle.host.proofs.keep_judge.Tie as tie
 
 judge-requires : tie.Need-judge-requires
-judge-requires c κs = _
+judge-requires c κs = search needs
 
-enum-told : tie.Need-enum-told
-enum-told c = c .match .keys1
-
-enum-known-n : tie.Need-enum-known-n
-enum-known-n c = c .match .keys2
+judge-answer-requires : tie.Need-judge-answer-requires
+judge-answer-requires c κs = search needs
 
 returns : tie.Need-returns
-returns c = as-judged _ (sym (c .before .before .judge .ensures) ∙ c .enum-told .given .1)
-
-returns-2 : tie.Need-returns-2
-returns-2 c = as-not-judged _ _ _ (sym (c .before .before .before .judge .ensures) ∙ c .before .n .given .1)
+returns c = c .judge-answer .ensures ∙ ap judgeAnswerOf (c .before .judge .ensures)
 
 pub keep-judge-spec : {M : Type 1} → statement M
-keep-judge-spec =
-    tie.close
-    (tie.spec
-    judge-requires
-    enum-told
-    enum-known-n
-    returns
-    returns-2)
+keep-judge-spec = tie.close (tie.spec judge-requires judge-answer-requires returns)

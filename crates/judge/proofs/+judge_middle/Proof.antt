@@ -2,7 +2,8 @@ use mathlib.Core.Path.{refl}
 use lib.ListN.{length-replicate}
 use native.Mathlib.Omega.{arith}
 use Rattle.tables.specs.declared.Size.the-variants.{Middle}
-use Rattle.judge.proofs.Tiers.{tables-long, marks-clear}
+use Rattle.tables.proofs.Zeros.{tables-long}
+use Rattle.judge.proofs.Tiers.{marks-clear}
 use Prim.Native.Nat.{ℕ, _<_}
 use borrow.Fn.Kinds.{In}
 use borrow.Fn.PlainCycle.{Measures, is, falls, and}
@@ -28,80 +29,37 @@ judge-middle-below t =
     (falls 3 judge-middle-kinds.ps _<_ μ-judge-middle t)
     judge-middle.Pre
 
-judge-middle-slice-aggregate-judge-in : (t : ℕ) → judge-middle-lts.Need-slice-aggregate-judge-in (
-  judge-in-reads.Asked,
-  judge-in-reads.Learnt,
-  judge-middle-below t,
-  judge-middle.Post,
-) (judge-middle-at t) judge-middle.Post
+abbrev claims : ℕ → judge-middle-lts.Claims
+claims t = (judge-in-reads.Asked, judge-in-reads.Learnt, judge-middle-below t, judge-middle.Post)
+
+judge-middle-slice-aggregate-judge-in : (t : ℕ) → judge-middle-lts.Need-slice-aggregate-judge-in (claims t) (judge-middle-at t) judge-middle.Post
 judge-middle-slice-aggregate-judge-in t c = length-replicate {A = ℕ} 4875 0
 
 judge-middle-slice-aggregate-judge-in-2 :
-    (t : ℕ) → judge-middle-lts.Need-slice-aggregate-judge-in-2 (
-      judge-in-reads.Asked,
-      judge-in-reads.Learnt,
-      judge-middle-below t,
-      judge-middle.Post,
-    ) (judge-middle-at t) judge-middle.Post
+    (t : ℕ) → judge-middle-lts.Need-slice-aggregate-judge-in-2 (claims t) (judge-middle-at t) judge-middle.Post
 judge-middle-slice-aggregate-judge-in-2 t c = length-replicate {A = ℕ} 8224 0
 
 judge-middle-slice-aggregate-judge-in-3 :
-    (t : ℕ) → judge-middle-lts.Need-slice-aggregate-judge-in-3 (
-      judge-in-reads.Asked,
-      judge-in-reads.Learnt,
-      judge-middle-below t,
-      judge-middle.Post,
-    ) (judge-middle-at t) judge-middle.Post
+    (t : ℕ) → judge-middle-lts.Need-slice-aggregate-judge-in-3 (claims t) (judge-middle-at t) judge-middle.Post
 judge-middle-slice-aggregate-judge-in-3 t c = length-replicate {A = ℕ} 8224 0
 
-judge-middle-judge-in-requires : (t : ℕ) → judge-middle-lts.Need-judge-in-requires (
-  judge-in-reads.Asked,
-  judge-in-reads.Learnt,
-  judge-middle-below t,
-  judge-middle.Post,
-) (judge-middle-at t) judge-middle.Post
+judge-middle-judge-in-requires : (t : ℕ) → judge-middle-lts.Need-judge-in-requires (claims t) (judge-middle-at t) judge-middle.Post
 judge-middle-judge-in-requires t c κs = let s = c .before .before .before .before .before .before in (s .pre .1 .0, (tables-long (s .args .h) Middle 4875 refl (omega arith) (s .pre .1 .1), marks-clear (s .args .h) 128 1024 1024 8224 (omega arith) (s .pre .1 .1 .0) (s .pre .1 .1 .1) (s .pre .1 .1 .2)))
 
-judge-middle-sub-judge-middle : (t : ℕ) → judge-middle-lts.Need-sub-judge-middle (
-  judge-in-reads.Asked,
-  judge-in-reads.Learnt,
-  judge-middle-below t,
-  judge-middle.Post,
-) (judge-middle-at t) judge-middle.Post
+judge-middle-sub-judge-middle : (t : ℕ) → judge-middle-lts.Need-sub-judge-middle (claims t) (judge-middle-at t) judge-middle.Post
 judge-middle-sub-judge-middle t c = c .if1 .taken
 
-judge-middle-judge-middle-requires : (t : ℕ) → judge-middle-lts.Need-judge-middle-requires (
-  judge-in-reads.Asked,
-  judge-in-reads.Learnt,
-  judge-middle-below t,
-  judge-middle.Post,
-) (judge-middle-at t) judge-middle.Post
+judge-middle-judge-middle-requires : (t : ℕ) → judge-middle-lts.Need-judge-middle-requires (claims t) (judge-middle-at t) judge-middle.Post
 judge-middle-judge-middle-requires t c κs = let s = c .before .before .before .before .before .before .before .before .before .before .before in (omega (arith, s .pre .0, c .if1 .taken), s .pre .1)
 
-judge-middle-returns : (t : ℕ) → judge-middle-lts.Need-returns (
-  judge-in-reads.Asked,
-  judge-in-reads.Learnt,
-  judge-middle-below t,
-  judge-middle.Post,
-) (judge-middle-at t) judge-middle.Post
+judge-middle-returns : (t : ℕ) → judge-middle-lts.Need-returns (claims t) (judge-middle-at t) judge-middle.Post
 judge-middle-returns t c = c .judge-middle .ensures
 
-judge-middle-returns-2 : (t : ℕ) → judge-middle-lts.Need-returns-2 (
-  judge-in-reads.Asked,
-  judge-in-reads.Learnt,
-  judge-middle-below t,
-  judge-middle.Post,
-) (judge-middle-at t) judge-middle.Post
+judge-middle-returns-2 : (t : ℕ) → judge-middle-lts.Need-returns-2 (claims t) (judge-middle-at t) judge-middle.Post
 judge-middle-returns-2 t c = c .before .before .before .before .judge-in .ensures
 
 pub +judge-middle-spec : {M : Type 1} → statement M
-+judge-middle-spec = close μ-judge-middle λ t. judge-middle-lts.spec (
-  judge-in-reads.Asked,
-  judge-in-reads.Learnt,
-  judge-middle-below t,
-  judge-middle.Post,
-)
-    (judge-middle-at t)
++judge-middle-spec = close μ-judge-middle λ t. judge-middle-lts.spec (claims t) (judge-middle-at t)
     judge-middle.Post
     (judge-middle-slice-aggregate-judge-in t)
     (judge-middle-slice-aggregate-judge-in-2 t)

@@ -2,7 +2,8 @@ use mathlib.Core.Path.{refl}
 use lib.ListN.{length-replicate}
 use native.Mathlib.Omega.{arith}
 use Rattle.tables.specs.declared.Size.the-variants.{Small}
-use Rattle.judge.proofs.Tiers.{tables-long, marks-clear}
+use Rattle.tables.proofs.Zeros.{tables-long}
+use Rattle.judge.proofs.Tiers.{marks-clear}
 use Prim.Native.Nat.{ℕ}
 use Rattle.judge.proofs.judge_small.Statement.{statement}
 use Rattle.judge.proofs.judge_small.Tie as tie

@@ -7,20 +7,16 @@ use Rattle.linking_metadata.proofs.FillingUp.{namespaces-fit}
 use Rattle.linking_metadata.proofs.commonjs_of.Statement.{statement}
 use Rattle.linking_metadata.proofs.commonjs_of.Tie as tie
 
--- src/lib.rt:48:9
 section-requires : tie.Need-section-requires
 section-requires c κs = inside (c .before .before .pre .0 .laid) 8 (omega arith)
 
--- src/lib.rt:50:5
 mul-result : tie.Need-mul-result
 mul-result c = record { fits = omega (arith, c .before .before .before .pre .1, c .before .before .before .pre .0 .loaded .few-symbols) }
 
--- src/lib.rt:50:5
 shared-slice-read-result : tie.Need-shared-slice-read-result
 unfolding graphIn
 shared-slice-read-result c = omega (arith, ap length (c .before .section .ensures), c .before .before .before .before .pre .0 .of-namespaces .long, c .before .before .before .before .pre .1)
 
--- src/lib.rt:43:1
 returns : tie.Need-returns
 unfolding graphIn
 returns c =

@@ -3,7 +3,7 @@ use mathlib.Core.Path.{_≡_, refl, _∙_, sym}
 use mathlib.Core.Logic.{⊎-elim}
 use native.Mathlib.Omega.{arith}
 use lib.ListN.{length, getD, drop}
-use Rattle.tables.specs.Layout.{sizes, startOf, Laid, Kept, namespacesIn}
+use Rattle.tables.specs.Layout.{sizes, startOf, Laid, Kept, namespacesIn, atNamespaces, allSections}
 use Rattle.tables.proofs.Sections.{word-inside, ends-inside, kept-none, kept-both, laid-kept, laid-less}
 use Rattle.graph_tables.specs.Tables.{headerIn}
 use Rattle.graph.specs.Check.{graphIn}
@@ -17,7 +17,7 @@ use Rattle.linking_metadata.proofs.enter_namespaces.Statement.{statemen
 use Rattle.linking_metadata.proofs.enter_namespaces.Tie as tie
 
 abbrev Inv-loop : tie.InvT-loop
-Inv-loop numbers tables₀ m base count k₀ tables k = Kept (startOf (headerIn numbers) 8) tables₀ tables × (k ≤ count) × ((s : ℕ) → s < headerIn numbers .symbols → byRows (ownerIn (symbolOf (graphIn numbers) s)) (m .0) s (drop k (commonJsNamespaces (moduleOf (graphIn numbers) (m .0)))) (getD (namespacesIn tables) s 0) ≡ entered (graphIn numbers) (m .0) s (getD (namespacesIn tables₀) s 0))
+Inv-loop numbers tables₀ m base count k₀ tables k = Kept (startOf (headerIn numbers) atNamespaces) tables₀ tables × (k ≤ count) × ((s : ℕ) → s < headerIn numbers .symbols → byRows (ownerIn (symbolOf (graphIn numbers) s)) (m .0) s (drop k (commonJsNamespaces (moduleOf (graphIn numbers) (m .0)))) (getD (namespacesIn tables) s 0) ≡ entered (graphIn numbers) (m .0) s (getD (namespacesIn tables₀) s 0))
 
 abbrev μ-loop : tie.MeasureT-loop
 μ-loop numbers tables₀ m base count k₀ tables k = count - k
@@ -26,7 +26,7 @@ abbrev μ-loop : tie.MeasureT-loop
 loaded : (c : tie.In-loop Inv-loop μ-loop) → Loaded (c .before .before .before .before .before .before .before .args .numbers .now) (c .before .loop .tables)
 loaded c = loaded-kept (c .before .before .before .before .before .before .before .pre .0) 8 (omega arith) (laid-less (omega arith) (c .before .before .before .before .before .before .before .pre .1 .0)) (c .before .loop .inv .0)
 
-laid : (c : tie.In-loop Inv-loop μ-loop) → Laid (headerIn (c .before .before .before .before .before .before .before .args .numbers .now)) 10 (c .before .loop .tables)
+laid : (c : tie.In-loop Inv-loop μ-loop) → Laid (headerIn (c .before .before .before .before .before .before .before .args .numbers .now)) allSections (c .before .loop .tables)
 laid c = laid-kept (c .before .before .before .before .before .before .before .pre .1 .0) 8 (omega arith) (c .before .loop .inv .0)
 
 -- row k is one of the module's
@@ -47,67 +47,52 @@ turned c =
     (λ w. turn-other _ _ _ _ (inside (c .before .before .before .before .before .before .before)) _ _ _ _ (y .0) (λ z. w .0 .left (o ∙ z)) (w .1))
     (c .if1 .came)
 
--- src/lib.rt:60:16
 slice-read-base : tie.Need-slice-read-base Inv-loop μ-loop
 slice-read-base c = word-inside (c .before .before .before .pre .1 .0) 8 (omega arith)
 
--- src/lib.rt:61:9
 commonjs-namespace-count-requires : tie.Need-commonjs-namespace-count-requires Inv-loop μ-loop
 commonjs-namespace-count-requires c κs = (c .before .before .before .before .pre .0, c .before .before .before .before .pre .1 .1)
 
--- src/lib.rt:63:5
 loop-holds : tie.Need-loop-holds Inv-loop μ-loop
 unfolding byRows entered
 loop-holds c = (kept-none, omega arith, λ s l. refl)
 
--- src/lib.rt:64:13
 commonjs-namespace-symbol-requires : tie.Need-commonjs-namespace-symbol-requires Inv-loop μ-loop
 commonjs-namespace-symbol-requires c κs = (loaded (c .before), (c .before .before .before .before .before .before .before .before .pre .1 .1, inside (c .before)))
 
--- src/lib.rt:65:13
 owner-requires : tie.Need-owner-requires Inv-loop μ-loop
 owner-requires c κs = (loaded (c .before .before .before), c .before .commonjs-namespace-symbol .ensures .1)
 
--- src/lib.rt:67:17
 commonjs-namespace-module-requires : tie.Need-commonjs-namespace-module-requires Inv-loop μ-loop
 commonjs-namespace-module-requires c κs = (loaded (c .before .before .before .before .before .before .before .before), (c .before .before .before .before .before .before .before .before .before .before .before .before .before .before .before .pre .1 .1, inside (c .before .before .before .before .before .before .before .before)))
 
--- src/lib.rt:68:34
 add-tables : tie.Need-add-tables Inv-loop μ-loop
 add-tables c = record { fits = omega (arith, c .before .commonjs-namespace-module .ensures .1, c .before .before .before .before .before .before .before .before .before .before .before .before .before .before .before .before .before .pre .0 .few-modules) }
 
--- src/lib.rt:68:20
 add-tables-2 : tie.Need-add-tables-2 Inv-loop μ-loop
 add-tables-2 c = record { fits = omega (arith, fits (c .before .before .before .before .before .before .before .before .before), laid (c .before .before .before .before .before .before .before .before .before .before .before) .few) }
 
--- src/lib.rt:68:13
 mul-tables : tie.Need-mul-tables Inv-loop μ-loop
 mul-tables c = record { fits = omega (arith, fits (c .before .before .before .before .before .before .before .before .before), laid (c .before .before .before .before .before .before .before .before .before .before .before) .few) }
 
--- src/lib.rt:68:13
 slice-write-tables : tie.Need-slice-write-tables Inv-loop μ-loop
 slice-write-tables c = fits (c .before .before .before .before .before .before .before .before .before)
 
--- src/lib.rt:70:9
 add-k : tie.Need-add-k Inv-loop μ-loop
 add-k c = record { fits = omega (arith, c .before .before .before .before .before .before .before .loop-test .taken, c .before .before .before .before .before .before .before .before .before .commonjs-namespace-count .ensures .1) }
 
--- src/lib.rt:63:5
 loop-less : tie.Need-loop-less Inv-loop μ-loop
 loop-less c = omega (arith, c .before .before .before .before .before .before .before .loop-test .taken)
 
--- src/lib.rt:63:5
 loop-again : tie.Need-loop-again Inv-loop μ-loop
 loop-again c =
     let t = turned c in
     let i = c .before .before .before .before .before .before .before .before .loop .inv in
     (kept-both (i .0) (t .kept), omega (arith, c .before .before .before .before .before .before .before .loop-test .taken), λ s l. t .entries s ∙ i .2 s l)
 
--- src/lib.rt:54:1
 same-length : tie.Need-same-length Inv-loop μ-loop
 same-length c = c .before .loop .inv .0 .same-length
 
--- src/lib.rt:54:1
 returns : tie.Need-returns Inv-loop μ-loop
 returns c =
     let i = c .before .loop .inv in

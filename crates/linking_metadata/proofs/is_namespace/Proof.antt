@@ -9,19 +9,15 @@ use Rattle.linking_metadata.specs.Namespaces.{isNamespace}
 use Rattle.linking_metadata.proofs.is_namespace.Statement.{statement}
 use Rattle.linking_metadata.proofs.is_namespace.Tie as tie
 
--- src/lib.rt:24:9
 owner-requires : tie.Need-owner-requires
 owner-requires c κs = (c .before .before .pre .0, c .before .before .pre .1)
 
--- src/lib.rt:25:5
 namespace-requires : tie.Need-namespace-requires
 namespace-requires c κs = (c .before .before .before .pre .0, c .owner .ensures .1)
 
--- src/lib.rt:25:47
 add-result : tie.Need-add-result
 add-result c = record { fits = omega (arith, c .before .before .before .before .before .pre .1, c .before .before .before .before .before .pre .0 .few-symbols) }
 
--- src/lib.rt:19:1
 returns : tie.Need-returns
 unfolding isNamespace
 returns c =

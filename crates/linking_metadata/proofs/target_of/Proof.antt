@@ -3,23 +3,18 @@ use Rattle.linking_metadata.proofs.Targets.{no-alias, some-alias}
 use Rattle.linking_metadata.proofs.target_of.Statement.{statement}
 use Rattle.linking_metadata.proofs.target_of.Tie as tie
 
--- src/lib.rt:34:9
 root-requires : tie.Need-root-requires
 root-requires c κs = (c .before .before .pre .0, c .before .before .pre .1)
 
--- src/lib.rt:35:9
 alias-namespace-requires : tie.Need-alias-namespace-requires
 alias-namespace-requires c κs = (c .before .before .before .pre .0, c .root .ensures .1)
 
--- src/lib.rt:37:9
 returns : tie.Need-returns
 returns c = (no-alias _ _ _ _ (c .before .before .root .ensures .0) (c .before .alias-namespace .ensures .0) (c .if1 .taken), c .before .before .root .ensures .1)
 
--- src/lib.rt:39:15
 sub-t7 : tie.Need-sub-t7
 sub-t7 c = omega (arith, c .if1 .left)
 
--- src/lib.rt:29:1
 returns-2 : tie.Need-returns-2
 returns-2 c =
     (some-alias _ _ _ _ (c .before .before .root .ensures .0) (c .before .alias-namespace .ensures .0) (c .if1 .left), omega (arith, c .if1 .left, c .before .alias-namespace .ensures .1))

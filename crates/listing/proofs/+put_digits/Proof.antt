@@ -23,118 +23,50 @@ abbrev put-digits-below : ℕ → In 1 put-digits-kinds.ps
 put-digits-below t =
     and 1 put-digits-kinds.ps (falls 1 put-digits-kinds.ps _<_ μ-put-digits t) put-digits.Pre
 
-put-digits-returns : (t : ℕ) → put-digits-lts.Need-returns (
-  put-byte-reads.Asked,
-  put-byte-reads.Learnt,
-  put-digits-below t,
-  put-digits.Post,
-) (put-digits-at t) put-digits.Post
+abbrev claims : ℕ → put-digits-lts.Claims
+claims t = (put-byte-reads.Asked, put-byte-reads.Learnt, put-digits-below t, put-digits.Post)
+
+put-digits-returns : (t : ℕ) → put-digits-lts.Need-returns (claims t) (put-digits-at t) put-digits.Post
 put-digits-returns t c = (emits-as (sym (digits-none _ _ (c .if1 .taken))) emits-none, omega arith)
 
-put-digits-cast-put-byte : (t : ℕ) → put-digits-lts.Need-cast-put-byte (
-  put-byte-reads.Asked,
-  put-byte-reads.Learnt,
-  put-digits-below t,
-  put-digits.Post,
-) (put-digits-at t) put-digits.Post
+put-digits-cast-put-byte : (t : ℕ) → put-digits-lts.Need-cast-put-byte (claims t) (put-digits-at t) put-digits.Post
 put-digits-cast-put-byte t c = search needs
 
-put-digits-add-put-byte : (t : ℕ) → put-digits-lts.Need-add-put-byte (
-  put-byte-reads.Asked,
-  put-byte-reads.Learnt,
-  put-digits-below t,
-  put-digits.Post,
-) (put-digits-at t) put-digits.Post
+put-digits-add-put-byte : (t : ℕ) → put-digits-lts.Need-add-put-byte (claims t) (put-digits-at t) put-digits.Post
 put-digits-add-put-byte t c = search needs
 
-put-digits-put-byte-requires : (t : ℕ) → put-digits-lts.Need-put-byte-requires (
-  put-byte-reads.Asked,
-  put-byte-reads.Learnt,
-  put-digits-below t,
-  put-digits.Post,
-) (put-digits-at t) put-digits.Post
+put-digits-put-byte-requires : (t : ℕ) → put-digits-lts.Need-put-byte-requires (claims t) (put-digits-at t) put-digits.Post
 put-digits-put-byte-requires t c κs = search needs
 
-put-digits-same-length : (t : ℕ) → put-digits-lts.Need-same-length (
-  put-byte-reads.Asked,
-  put-byte-reads.Learnt,
-  put-digits-below t,
-  put-digits.Post,
-) (put-digits-at t) put-digits.Post
+put-digits-same-length : (t : ℕ) → put-digits-lts.Need-same-length (claims t) (put-digits-at t) put-digits.Post
 put-digits-same-length t c = search needs
 
-put-digits-returns-2 : (t : ℕ) → put-digits-lts.Need-returns-2 (
-  put-byte-reads.Asked,
-  put-byte-reads.Learnt,
-  put-digits-below t,
-  put-digits.Post,
-) (put-digits-at t) put-digits.Post
+put-digits-returns-2 : (t : ℕ) → put-digits-lts.Need-returns-2 (claims t) (put-digits-at t) put-digits.Post
 put-digits-returns-2 t c = (emits-as (sym (digits-one _ _ (omega (arith, c .before .before .before .before .before .if1 .left)) (c .before .before .before .before .if2 .taken))) (c .before .before .put-byte .ensures), omega (arith, c .before .before .put-byte .ensures .counts, c .before .before .before .before .before .if1 .left))
 
-put-digits-sub-put-digits : (t : ℕ) → put-digits-lts.Need-sub-put-digits (
-  put-byte-reads.Asked,
-  put-byte-reads.Learnt,
-  put-digits-below t,
-  put-digits.Post,
-) (put-digits-at t) put-digits.Post
+put-digits-sub-put-digits : (t : ℕ) → put-digits-lts.Need-sub-put-digits (claims t) (put-digits-at t) put-digits.Post
 put-digits-sub-put-digits t c = search needs
 
-put-digits-put-digits-requires : (t : ℕ) → put-digits-lts.Need-put-digits-requires (
-  put-byte-reads.Asked,
-  put-byte-reads.Learnt,
-  put-digits-below t,
-  put-digits.Post,
-) (put-digits-at t) put-digits.Post
+put-digits-put-digits-requires : (t : ℕ) → put-digits-lts.Need-put-digits-requires (claims t) (put-digits-at t) put-digits.Post
 put-digits-put-digits-requires t c κs = (omega (arith, c .before .before .before .before .pre .0, c .before .before .if1 .left), (omega (arith, c .before .before .before .before .pre .1), omega (arith, c .before .before .before .before .pre .1)))
 
-put-digits-cast-put-byte-2 : (t : ℕ) → put-digits-lts.Need-cast-put-byte-2 (
-  put-byte-reads.Asked,
-  put-byte-reads.Learnt,
-  put-digits-below t,
-  put-digits.Post,
-) (put-digits-at t) put-digits.Post
+put-digits-cast-put-byte-2 : (t : ℕ) → put-digits-lts.Need-cast-put-byte-2 (claims t) (put-digits-at t) put-digits.Post
 put-digits-cast-put-byte-2 t c = search needs
 
-put-digits-add-put-byte-2 : (t : ℕ) → put-digits-lts.Need-add-put-byte-2 (
-  put-byte-reads.Asked,
-  put-byte-reads.Learnt,
-  put-digits-below t,
-  put-digits.Post,
-) (put-digits-at t) put-digits.Post
+put-digits-add-put-byte-2 : (t : ℕ) → put-digits-lts.Need-add-put-byte-2 (claims t) (put-digits-at t) put-digits.Post
 put-digits-add-put-byte-2 t c = search needs
 
-put-digits-put-byte-requires-2 : (t : ℕ) → put-digits-lts.Need-put-byte-requires-2 (
-  put-byte-reads.Asked,
-  put-byte-reads.Learnt,
-  put-digits-below t,
-  put-digits.Post,
-) (put-digits-at t) put-digits.Post
+put-digits-put-byte-requires-2 : (t : ℕ) → put-digits-lts.Need-put-byte-requires-2 (claims t) (put-digits-at t) put-digits.Post
 put-digits-put-byte-requires-2 t c κs = omega (arith, c .before .before .before .before .before .before .before .before .pre .1, c .before .before .before .put-digits .ensures .1)
 
-put-digits-same-length-2 : (t : ℕ) → put-digits-lts.Need-same-length-2 (
-  put-byte-reads.Asked,
-  put-byte-reads.Learnt,
-  put-digits-below t,
-  put-digits.Post,
-) (put-digits-at t) put-digits.Post
+put-digits-same-length-2 : (t : ℕ) → put-digits-lts.Need-same-length-2 (claims t) (put-digits-at t) put-digits.Post
 put-digits-same-length-2 t c = search needs
 
-put-digits-returns-3 : (t : ℕ) → put-digits-lts.Need-returns-3 (
-  put-byte-reads.Asked,
-  put-byte-reads.Learnt,
-  put-digits-below t,
-  put-digits.Post,
-) (put-digits-at t) put-digits.Post
+put-digits-returns-3 : (t : ℕ) → put-digits-lts.Need-returns-3 (claims t) (put-digits-at t) put-digits.Post
 put-digits-returns-3 t c = (emits-as (sym (digits-more _ _ (omega (arith, c .before .before .before .before .before .before .before .before .before .if1 .left)) (c .before .before .before .before .before .before .before .before .if2 .left))) (emits-both (c .before .before .before .before .before .before .put-digits .ensures .0) (c .before .before .put-byte2 .ensures)), omega (arith, c .before .before .before .before .before .before .put-digits .ensures .1, c .before .before .put-byte2 .ensures .counts, c .before .before .before .before .before .before .before .before .before .if1 .left))
 
 pub +put-digits-spec : {M : Type 1} → statement M
-+put-digits-spec = close μ-put-digits λ t. put-digits-lts.spec (
-  put-byte-reads.Asked,
-  put-byte-reads.Learnt,
-  put-digits-below t,
-  put-digits.Post,
-)
-    (put-digits-at t)
++put-digits-spec = close μ-put-digits λ t. put-digits-lts.spec (claims t) (put-digits-at t)
     put-digits.Post
     (put-digits-returns t)
     (put-digits-cast-put-byte t)

@@ -7,19 +7,15 @@ use borrow.Author.Needs.{needs}
 use Rattle.listing.proofs.put_byte.Statement.{statement}
 use Rattle.listing.proofs.put_byte.Tie as tie
 
--- src/lib.rt:15:13
 slice-write-out : tie.Need-slice-write-out
 slice-write-out c = search needs
 
--- src/lib.rt:18:5
 add-result : tie.Need-add-result
 add-result c = search needs
 
--- src/lib.rt:9:1
 same-length : tie.Need-same-length
 same-length c = ⊎-elim (λ w. ap length (w .2) ∙ simp length-set) (λ v. ⊎-elim (λ w. ap length (w .2)) (λ w. ap length (w .1)) v) (c .if1 .came)
 
--- src/lib.rt:9:1
 returns : tie.Need-returns
 returns c =
     ⊎-elim (λ w. rw (w .2) (byte-put _ _ _ _ (omega (arith, w .0 .taken)) (omega (arith, w .1 .taken))))

@@ -6,15 +6,12 @@ use borrow.Author.Needs.{needs}
 use Rattle.marked.proofs.is_marked.Statement.{statement}
 use Rattle.marked.proofs.is_marked.Tie as tie
 
--- src/lib.rt:17:26
 mark-of-requires : tie.Need-mark-of-requires
 mark-of-requires c κs = search needs
 
--- src/lib.rt:17:5
 test-requires : tie.Need-test-requires
 test-requires c κs = search needs
 
--- src/lib.rt:12:1
 returns : tie.Need-returns
 unfolding marked
 returns c = let s = c .before .before .before .before .before in c .test .ensures ∙ ap (λ (i : ℕ). bitAt (s .args .marks .now) i) (c .before .mark-of .ensures .0)

@@ -1,4 +1,4 @@
-use Prim.Native.Nat.{_*_, _-_}
+use Prim.Native.Nat.{_-_}
 use Rattle.next_stage.proofs.Forgetting.{Zeroing, zeroing-none, zeroing-more}
 use borrow.Author.Needs.{needs}
 use native.Mathlib.Omega.{arith}
@@ -6,16 +6,13 @@ use Rattle.next_stage.proofs.forget_forwards.Statement.{statement}
 use Rattle.next_stage.proofs.forget_forwards.Tie as tie
 
 abbrev Inv-loop : tie.InvT-loop
-Inv-loop partners₀ modules i₀ partners i = Zeroing modules partners₀ partners i
+Inv-loop partners₀ firsts nexts i₀ partners i = Zeroing firsts partners₀ partners i
 
 abbrev μ-loop : tie.MeasureT-loop
-μ-loop partners₀ modules i₀ partners i = 3 * modules - i
+μ-loop partners₀ firsts nexts i₀ partners i = nexts - i
 
 loop-holds : tie.Need-loop-holds Inv-loop μ-loop
 loop-holds c = zeroing-none _ _
-
-mul-loop : tie.Need-mul-loop Inv-loop μ-loop
-mul-loop c = search needs
 
 mul-partners : tie.Need-mul-partners Inv-loop μ-loop
 mul-partners c = search needs
@@ -45,7 +42,6 @@ forget-forwards-spec =
     Inv-loop
     μ-loop
     loop-holds
-    mul-loop
     mul-partners
     slice-write-partners
     add-i

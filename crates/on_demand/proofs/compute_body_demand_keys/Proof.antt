@@ -6,7 +6,7 @@ use native.Mathlib.Omega.{arith}
 use borrow.Author.Tests.{not-true, not-false}
 use lib.ListN.{length, getD}
 use Rattle.graph_format.specs.declared.Header.{Header}
-use Rattle.tables.specs.Layout.{sizes, startOf, Laid, Kept, bodiesIn}
+use Rattle.tables.specs.Layout.{sizes, startOf, Laid, Kept, bodiesIn, atBodies, allSections}
 use Rattle.tables.proofs.Sections.{start-low, inside, section-length, kept-none, kept-both, kept-less, laid-kept, laid-less}
 use Rattle.graph_tables.specs.Tables.{headerIn}
 use Rattle.graph.specs.Check.{graphIn}
@@ -22,23 +22,23 @@ use Rattle.on_demand.proofs.compute_body_demand_keys.Statement.{stateme
 use Rattle.on_demand.proofs.compute_body_demand_keys.Tie as tie
 
 abbrev Inv-loop : tie.InvT-loop
-Inv-loop numbers tables₀ h m₀ tables m = Kept (startOf (headerIn numbers) 7) tables₀ tables × (m ≤ h .modules) × ((s : ℕ) → s < headerIn numbers .symbols → getD (bodiesIn tables) s 0 ≡ claimed (graphIn numbers) (lastVerdicts (graphIn numbers)) s m)
+Inv-loop numbers tables₀ h m₀ tables m = Kept (startOf (headerIn numbers) atBodies) tables₀ tables × (m ≤ h .modules) × ((s : ℕ) → s < headerIn numbers .symbols → getD (bodiesIn tables) s 0 ≡ claimed (graphIn numbers) (lastVerdicts (graphIn numbers)) s m)
 
 abbrev μ-loop : tie.MeasureT-loop
 μ-loop numbers tables₀ h m₀ tables m = h .modules - m
 
 -- the section was cleared, what is in front of it stays
-cleared : (c : tie.After-clear Inv-loop μ-loop) → Kept (startOf (headerIn (c .before .before .before .before .before .args .numbers .now)) 7) (c .before .before .before .before .before .args .tables .now) (c .clear .last .0)
+cleared : (c : tie.After-clear Inv-loop μ-loop) → Kept (startOf (headerIn (c .before .before .before .before .before .args .numbers .now)) atBodies) (c .before .before .before .before .before .args .tables .now) (c .clear .last .0)
 cleared c = let p = c .before .before .before .before .before .pre .1 .laid .starts 7 (omega arith) in kept-less (omega (arith, p)) (c .clear .ensures .0)
 
-kept : (c : tie.At-loop Inv-loop μ-loop) → Kept (startOf (headerIn (c .before .before .before .before .before .before .before .before .before .before .args .numbers .now)) 7) (c .before .before .before .before .before .before .before .before .before .before .args .tables .now) (c .loop .tables)
+kept : (c : tie.At-loop Inv-loop μ-loop) → Kept (startOf (headerIn (c .before .before .before .before .before .before .before .before .before .before .args .numbers .now)) atBodies) (c .before .before .before .before .before .before .before .before .before .before .args .tables .now) (c .loop .tables)
 kept c = kept-both (cleared (c .before .before .before .before .before)) (c .loop .inv .0)
 
 loaded : (c : tie.At-loop Inv-loop μ-loop) → Loaded (c .before .before .before .before .before .before .before .before .before .before .args .numbers .now) (c .loop .tables)
 loaded c = loaded-kept (c .before .before .before .before .before .before .before .before .before .before .pre .0) 7 (omega arith) (laid-less (omega arith) (c .before .before .before .before .before .before .before .before .before .before .pre .1 .laid)) (kept c)
 
 -- a key for each symbol
-long : {h : Header} {xs ys : List ℕ} → Laid h 10 xs → Kept (startOf h 7) xs ys → h .symbols ≤ length (bodiesIn ys)
+long : {h : Header} {xs ys : List ℕ} → Laid h allSections xs → Kept (startOf h atBodies) xs ys → h .symbols ≤ length (bodiesIn ys)
 unfolding sizes
 long t q = omega (arith, section-length (laid-kept t 7 (omega arith) q) 7 (omega arith))
 
@@ -50,7 +50,7 @@ small : (c : tie.Then2 Inv-loop μ-loop) → c .before .before .loop .m < header
 small c = omega (arith, c .if2 .taken, counted (c .before))
 
 -- a turn enters the keys of the module's body, or it has none
-turned : (c : tie.Joined3 Inv-loop μ-loop) → Kept (startOf (headerIn (c .before .before .before .before .before .before .before .before .before .before .before .before .before .before .before .args .numbers .now)) 7) (c .before .before .before .before .before .loop .tables) (c .if3 .tables) × ((s : ℕ) → s < headerIn (c .before .before .before .before .before .before .before .before .before .before .before .before .before .before .before .args .numbers .now) .symbols → getD (bodiesIn (c .if3 .tables)) s 0 ≡ claimed (graphIn (c .before .before .before .before .before .before .before .before .before .before .before .before .before .before .before .args .numbers .now)) (lastVerdicts (graphIn (c .before .before .before .before .before .before .before .before .before .before .before .before .before .before .before .args .numbers .now))) s (c .before .before .before .before .before .loop .m + 1))
+turned : (c : tie.Joined3 Inv-loop μ-loop) → Kept (startOf (headerIn (c .before .before .before .before .before .before .before .before .before .before .before .before .before .before .before .args .numbers .now)) atBodies) (c .before .before .before .before .before .loop .tables) (c .if3 .tables) × ((s : ℕ) → s < headerIn (c .before .before .before .before .before .before .before .before .before .before .before .before .before .before .before .args .numbers .now) .symbols → getD (bodiesIn (c .if3 .tables)) s 0 ≡ claimed (graphIn (c .before .before .before .before .before .before .before .before .before .before .before .before .before .before .before .args .numbers .now)) (lastVerdicts (graphIn (c .before .before .before .before .before .before .before .before .before .before .before .before .before .before .before .args .numbers .now))) s (c .before .before .before .before .before .loop .m + 1))
 turned c =
     let i = c .before .before .before .before .before .loop .inv in
     let b = c .before .has-body .ensures in

@@ -3,7 +3,7 @@ use mathlib.Core.Path.{_≡_, refl, ap, _∙_, sym}
 use mathlib.Core.List.{[]}
 use native.Mathlib.Omega.{arith}
 use lib.ListN.{length, getD, drop}
-use Rattle.tables.specs.Layout.{sizes, startOf, Kept, bodiesIn}
+use Rattle.tables.specs.Layout.{sizes, startOf, Kept, bodiesIn, atBodies}
 use Rattle.tables.proofs.Sections.{word-inside, ends-inside, section-length, kept-none, laid-kept, laid-less}
 use Rattle.graph_tables.specs.Tables.{headerIn}
 use Rattle.graph.specs.Check.{graphIn}
@@ -19,7 +19,7 @@ use Rattle.on_demand.proofs.enter_keys.Statement.{statement}
 use Rattle.on_demand.proofs.enter_keys.Tie as tie
 
 abbrev Inv-loop : tie.InvT-loop
-Inv-loop numbers tables₀ m base count k₀ tables k = Kept (startOf (headerIn numbers) 7) tables₀ tables × (k ≤ count) × ((s : ℕ) → bySome (rooted (graphIn numbers) s) (m .0 + 1) (drop k (ownExports (moduleOf (graphIn numbers) (m .0)))) (getD (bodiesIn tables) s 0) ≡ bySome (rooted (graphIn numbers) s) (m .0 + 1) (ownExports (moduleOf (graphIn numbers) (m .0))) (getD (bodiesIn tables₀) s 0))
+Inv-loop numbers tables₀ m base count k₀ tables k = Kept (startOf (headerIn numbers) atBodies) tables₀ tables × (k ≤ count) × ((s : ℕ) → bySome (rooted (graphIn numbers) s) (m .0 + 1) (drop k (ownExports (moduleOf (graphIn numbers) (m .0)))) (getD (bodiesIn tables) s 0) ≡ bySome (rooted (graphIn numbers) s) (m .0 + 1) (ownExports (moduleOf (graphIn numbers) (m .0))) (getD (bodiesIn tables₀) s 0))
 
 abbrev μ-loop : tie.MeasureT-loop
 μ-loop numbers tables₀ m base count k₀ tables k = count - k

@@ -2,7 +2,7 @@ use Prim.Native.Nat.{ℕ, _+_, _-_, _<_, _≤_}
 use mathlib.Core.Path.{_≡_, ap, _∙_}
 use native.Mathlib.Omega.{arith}
 use lib.ListN.{length, getD}
-use Rattle.tables.specs.Layout.{sizes, startOf, Laid, Kept, onDemandIn}
+use Rattle.tables.specs.Layout.{sizes, startOf, Laid, Kept, onDemandIn, atOnDemand, allSections}
 use Rattle.tables.proofs.Sections.{word-inside, section-length, kept-none, kept-both, laid-kept, laid-less}
 use Rattle.graph_tables.specs.Tables.{headerIn}
 use Rattle.graph.specs.Check.{graphIn}
@@ -16,16 +16,16 @@ use Rattle.on_demand.proofs.fill_on_demand.Statement.{statement}
 use Rattle.on_demand.proofs.fill_on_demand.Tie as tie
 
 abbrev Inv-loop : tie.InvT-loop
-Inv-loop numbers tables₀ h base m₀ tables m = Kept (startOf (headerIn numbers) 6) tables₀ tables × (m ≤ h .modules) × ((j : ℕ) → j < headerIn numbers .modules → Halfway (graphIn numbers) (lastVerdicts (graphIn numbers)) m j (getD (onDemandIn tables) j 0))
+Inv-loop numbers tables₀ h base m₀ tables m = Kept (startOf (headerIn numbers) atOnDemand) tables₀ tables × (m ≤ h .modules) × ((j : ℕ) → j < headerIn numbers .modules → Halfway (graphIn numbers) (lastVerdicts (graphIn numbers)) m j (getD (onDemandIn tables) j 0))
 
 abbrev μ-loop : tie.MeasureT-loop
 μ-loop numbers tables₀ h base m₀ tables m = h .modules - m
 
 -- the entries are marked, what is in front of the section stays
-laid : (c : tie.After-mark-user-defined-entries Inv-loop μ-loop) → Laid (headerIn (c .before .before .before .before .args .numbers .now)) 10 (c .mark-user-defined-entries .last .1 .0)
+laid : (c : tie.After-mark-user-defined-entries Inv-loop μ-loop) → Laid (headerIn (c .before .before .before .before .args .numbers .now)) allSections (c .mark-user-defined-entries .last .1 .0)
 laid c = laid-kept (c .before .before .before .before .pre .1) 6 (omega arith) (c .mark-user-defined-entries .ensures .1)
 
-kept : (c : tie.At-loop Inv-loop μ-loop) → Kept (startOf (headerIn (c .before .before .before .before .before .before .before .before .before .args .numbers .now)) 6) (c .before .before .before .before .before .before .before .before .before .args .tables .now) (c .loop .tables)
+kept : (c : tie.At-loop Inv-loop μ-loop) → Kept (startOf (headerIn (c .before .before .before .before .before .before .before .before .before .args .numbers .now)) atOnDemand) (c .before .before .before .before .before .before .before .before .before .args .tables .now) (c .loop .tables)
 kept c = kept-both (c .before .before .before .before .before .mark-user-defined-entries .ensures .1) (c .loop .inv .0)
 
 ready : (c : tie.At-loop Inv-loop μ-loop) → Loaded (c .before .before .before .before .before .before .before .before .before .args .numbers .now) (c .loop .tables) × Settled (c .before .before .before .before .before .before .before .before .before .args .numbers .now) (c .loop .tables)

@@ -4,7 +4,7 @@ use mathlib.Core.Logic.{⊎-elim}
 use native.Mathlib.Omega.{arith}
 use lib.ListN.{length, getD, drop}
 use Rattle.rows.specs.Walk.{noItem}
-use Rattle.tables.specs.Layout.{sizes, startOf, Laid, Kept, onDemandIn}
+use Rattle.tables.specs.Layout.{sizes, startOf, Laid, Kept, onDemandIn, atOnDemand, allSections}
 use Rattle.tables.proofs.Sections.{start-low, inside, word-inside, kept-none, kept-both, kept-less, laid-kept, laid-less}
 use Rattle.graph_tables.specs.Tables.{headerIn}
 use Rattle.graph.specs.Check.{graphIn}
@@ -21,16 +21,16 @@ use Rattle.on_demand.proofs.mark_user_defined_entries.Statement.{statem
 use Rattle.on_demand.proofs.mark_user_defined_entries.Tie as tie
 
 abbrev Inv-loop : tie.InvT-loop
-Inv-loop numbers tables₀ h base e₀ tables e = Kept (startOf (headerIn numbers) 6) tables₀ tables × (e ≤ h .entries) × ((m : ℕ) → m < headerIn numbers .modules → bySome (marks m) 1 (drop e (graphIn numbers .entries)) (getD (onDemandIn tables) m 0) ≡ one (userEntry (graphIn numbers) m))
+Inv-loop numbers tables₀ h base e₀ tables e = Kept (startOf (headerIn numbers) atOnDemand) tables₀ tables × (e ≤ h .entries) × ((m : ℕ) → m < headerIn numbers .modules → bySome (marks m) 1 (drop e (graphIn numbers .entries)) (getD (onDemandIn tables) m 0) ≡ one (userEntry (graphIn numbers) m))
 
 abbrev μ-loop : tie.MeasureT-loop
 μ-loop numbers tables₀ h base e₀ tables e = h .entries - e
 
 -- the section was cleared, what is in front of it stays
-cleared : (c : tie.After-clear Inv-loop μ-loop) → Kept (startOf (headerIn (c .before .before .before .before .before .args .numbers .now)) 6) (c .before .before .before .before .before .args .tables .now) (c .clear .last .0)
+cleared : (c : tie.After-clear Inv-loop μ-loop) → Kept (startOf (headerIn (c .before .before .before .before .before .args .numbers .now)) atOnDemand) (c .before .before .before .before .before .args .tables .now) (c .clear .last .0)
 cleared c = let p = c .before .before .before .before .before .pre .1 .starts 6 (omega arith) in kept-less (omega (arith, p)) (c .clear .ensures .0)
 
-laid : (c : tie.After-clear Inv-loop μ-loop) → Laid (headerIn (c .before .before .before .before .before .args .numbers .now)) 10 (c .clear .last .0)
+laid : (c : tie.After-clear Inv-loop μ-loop) → Laid (headerIn (c .before .before .before .before .before .args .numbers .now)) allSections (c .clear .last .0)
 laid c = laid-kept (c .before .before .before .before .before .pre .1) 6 (omega arith) (cleared c)
 
 loaded : (c : tie.After-struct-known Inv-loop μ-loop) → Loaded (c .before .before .before .before .before .before .before .before .before .before .args .numbers .now) (c .before .loop .tables)

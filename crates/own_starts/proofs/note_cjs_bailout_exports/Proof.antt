@@ -13,13 +13,13 @@ use Rattle.own_starts.proofs.note_cjs_bailout_exports.Statement.{statem
 use Rattle.own_starts.proofs.note_cjs_bailout_exports.Tie as tie
 
 abbrev Inv-loop : tie.InvT-loop
-Inv-loop numbers tables lines count taken seen₀ out₀ n total₀ k₀ seen out total k = (length seen ≡ length seen₀) × (length out ≡ length out₀) × (k ≤ count) × Along (graphIn numbers) (bailoutsStarts (graphIn numbers) (drop taken (linesOf count lines))) (bailoutsStarts (graphIn numbers) (drop k (linesOf count lines))) seen₀ out₀ total₀ seen out total
+Inv-loop numbers tables lines count seen₀ out₀ n total₀ k₀ seen out total k = (length seen ≡ length seen₀) × (length out ≡ length out₀) × (k ≤ count) × Along (graphIn numbers) (bailoutsStarts (graphIn numbers) (linesOf count lines)) (bailoutsStarts (graphIn numbers) (drop k (linesOf count lines))) seen₀ out₀ total₀ seen out total
 
 abbrev μ-loop : tie.MeasureT-loop
-μ-loop numbers tables lines count taken seen₀ out₀ n total₀ k₀ seen out total k = count - k
+μ-loop numbers tables lines count seen₀ out₀ n total₀ k₀ seen out total k = count - k
 
 loop-holds : tie.Need-loop-holds Inv-loop μ-loop
-loop-holds c = let s = c .before .before .before .before .before in (refl, refl, s .pre .1 .1 .1, along-start _ _ _ _ _ _ refl (s .pre .1 .0))
+loop-holds c = let s = c .before .before .before .before .before in (refl, refl, omega arith, along-start _ _ _ _ _ _ refl (s .pre .1 .0))
 
 fact-at-requires : tie.Need-fact-at-requires Inv-loop μ-loop
 fact-at-requires c κs = omega (arith, c .loop-test .taken, c .before .before .before .before .before .before .before .pre .1 .1 .0)
@@ -32,7 +32,7 @@ first-part-requires c κs = search needs
 
 note-cjs-exports-requires : tie.Need-note-cjs-exports-requires Inv-loop μ-loop
 unfolding graphIn
-note-cjs-exports-requires c κs = let s = c .before .before .before .before .before .before .before .before .before .before .before .before .before in (s .pre .0, (c .before .before .before .before .before .before .before .loop .inv .3 .noted, bailout-below _ _ _ _ (c .before .before .before .before .before .before .loop-test .taken) _ (c .before .before .before .before .before .fact-at .ensures) (sym (c .before .before .before .before .kind-of .ensures) ∙ c .before .before .before .if1 .taken) _ (c .before .before .first-part .ensures) (s .pre .1 .1 .2 _ (c .before .before .before .before .before .before .loop-test .taken))))
+note-cjs-exports-requires c κs = let s = c .before .before .before .before .before .before .before .before .before .before .before .before .before in (s .pre .0, (c .before .before .before .before .before .before .before .loop .inv .3 .noted, bailout-below _ _ _ _ (c .before .before .before .before .before .before .loop-test .taken) _ (c .before .before .before .before .before .fact-at .ensures) (sym (c .before .before .before .before .kind-of .ensures) ∙ c .before .before .before .if1 .taken) _ (c .before .before .first-part .ensures) (s .pre .1 .1 .1 _ (c .before .before .before .before .before .before .loop-test .taken))))
 
 add-k : tie.Need-add-k Inv-loop μ-loop
 add-k c = record { fits = omega (arith, c .before .before .before .loop-test .taken) }

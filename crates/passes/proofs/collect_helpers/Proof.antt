@@ -7,7 +7,7 @@ use Rattle.graph_format.specs.declared.Header.{Header}
 use Rattle.graph_tables.specs.Tables.{headerIn}
 use Rattle.graph.specs.Check.{graphIn}
 use Prim.Native.Nat.{_-_, _≤_}
-use mathlib.Core.Path.{_≡_, ap}
+use mathlib.Core.Path.{_≡_, ap, _∙_}
 use borrow.Author.Needs.{needs}
 use native.Mathlib.Omega.{arith}
 use Rattle.passes.proofs.collect_helpers.Statement.{statement}
@@ -22,44 +22,38 @@ abbrev μ-loop : tie.MeasureT-loop
 header-of-requires : tie.Need-header-of-requires Inv-loop μ-loop
 header-of-requires c κs = c .before .before .before .before .pre .0 .loaded .long
 
-mul-at : tie.Need-mul-at Inv-loop μ-loop
-mul-at c = let s = c .before .before .before .before .before .before in record { fits = omega (arith, ap (λ (x : Header). x .modules) (c .before .header-of .ensures), ap (λ (x : Header). x .entries) (c .before .header-of .ensures), s .pre .0 .loaded .few-modules, s .pre .0 .loaded .few-entries) }
-
-mul-at-2 : tie.Need-mul-at-2 Inv-loop μ-loop
-mul-at-2 c = let s = c .before .before .before .before .before .before .before in record { fits = omega (arith, ap (λ (x : Header). x .modules) (c .before .before .header-of .ensures), ap (λ (x : Header). x .entries) (c .before .before .header-of .ensures), s .pre .0 .loaded .few-modules, s .pre .0 .loaded .few-entries) }
-
-add-at : tie.Need-add-at Inv-loop μ-loop
-add-at c = let s = c .before .before .before .before .before .before .before in record { fits = omega (arith, ap (λ (x : Header). x .modules) (c .before .before .header-of .ensures), ap (λ (x : Header). x .entries) (c .before .before .header-of .ensures), s .pre .0 .loaded .few-modules, s .pre .0 .loaded .few-entries) }
+words-at-requires : tie.Need-words-at-requires Inv-loop μ-loop
+words-at-requires c κs = let s = c .before .before .before .before .before in rw (c .header-of .ensures) (omega (arith, s .pre .0 .loaded .few-modules, s .pre .0 .loaded .few-entries))
 
 loop-holds : tie.Need-loop-holds Inv-loop μ-loop
-loop-holds c = (c .before .before .header-of .ensures, ap wordsAt (c .before .before .header-of .ensures), omega arith, planned-start _ _ _ _)
+loop-holds c = (c .before .header-of .ensures, c .words-at .ensures ∙ ap wordsAt (c .before .header-of .ensures), omega arith, planned-start _ _ _ _)
 
 helper-word-requires : tie.Need-helper-word-requires Inv-loop μ-loop
-helper-word-requires c κs = let s = c .before .before .before .before .before .before .before .before .before .before in (s .pre .0, (word-place (c .if1 .taken) (ap (λ (x : Header). x .modules) (c .before .before .before .before .before .header-of .ensures)), s .pre .1 .0))
+helper-word-requires c κs = let s = c .before .before .before .before .before .before .before .before .before in (s .pre .0, (word-place (c .if1 .taken) (ap (λ (x : Header). x .modules) (c .before .before .before .before .header-of .ensures)), s .pre .1 .0))
 
 add-plan : tie.Need-add-plan Inv-loop μ-loop
-add-plan c = let s = c .before .before .before .before .before .before .before .before .before .before .before in record { fits = omega (arith, c .before .if1 .taken, ap (λ (x : Header). x .modules) (c .before .before .before .before .before .before .header-of .ensures), ap (λ (x : Header). x .entries) (c .before .before .before .before .before .before .header-of .ensures), s .pre .0 .loaded .few-modules, s .pre .0 .loaded .few-entries) }
+add-plan c = let s = c .before .before .before .before .before .before .before .before .before .before in record { fits = omega (arith, c .before .if1 .taken, c .before .before .before .before .words-at .ensures, ap (λ (x : Header). x .modules) (c .before .before .before .before .before .header-of .ensures), ap (λ (x : Header). x .entries) (c .before .before .before .before .before .header-of .ensures), s .pre .0 .loaded .few-modules, s .pre .0 .loaded .few-entries) }
 
 mul-plan : tie.Need-mul-plan Inv-loop μ-loop
-mul-plan c = search needs
+mul-plan c = let s = c .before .before .before .before .before .before .before .before .before .before in record { fits = omega (arith, c .before .if1 .taken, c .before .before .before .before .words-at .ensures, ap (λ (x : Header). x .modules) (c .before .before .before .before .before .header-of .ensures), ap (λ (x : Header). x .entries) (c .before .before .before .before .before .header-of .ensures), s .pre .0 .loaded .few-modules, s .pre .0 .loaded .few-entries) }
 
 slice-write-plan : tie.Need-slice-write-plan Inv-loop μ-loop
-slice-write-plan c = let s = c .before .before .before .before .before .before .before .before .before .before .before in omega (arith, c .before .if1 .taken, ap (λ (x : Header). x .modules) (c .before .before .before .before .before .before .header-of .ensures), ap (λ (x : Header). x .entries) (c .before .before .before .before .before .before .header-of .ensures), s .pre .1 .1, c .before .before .before .loop .inv .3 .untouched .same-length)
+slice-write-plan c = let s = c .before .before .before .before .before .before .before .before .before .before in omega (arith, c .before .if1 .taken, c .before .before .before .before .words-at .ensures, ap (λ (x : Header). x .modules) (c .before .before .before .before .before .header-of .ensures), ap (λ (x : Header). x .entries) (c .before .before .before .before .before .header-of .ensures), s .pre .1 .1, c .before .before .before .loop .inv .3 .untouched .same-length)
 
 add-m : tie.Need-add-m Inv-loop μ-loop
-add-m c = let s = c .before .before .before .before .before .before .before .before .before .before .before in record { fits = omega (arith, c .before .if1 .taken, ap (λ (x : Header). x .modules) (c .before .before .before .before .before .before .header-of .ensures), s .pre .0 .loaded .few-modules) }
+add-m c = let s = c .before .before .before .before .before .before .before .before .before .before in record { fits = omega (arith, c .before .if1 .taken, ap (λ (x : Header). x .modules) (c .before .before .before .before .before .header-of .ensures), s .pre .0 .loaded .few-modules) }
 
 loop-less : tie.Need-loop-less Inv-loop μ-loop
 loop-less c = omega (arith, c .before .if1 .taken)
 
 loop-again : tie.Need-loop-again Inv-loop μ-loop
-loop-again c = let s = c .before .before .before .before .before .before .before .before .before .before .before in let v = c .before .before .before .loop .inv in let taken = c .before .if1 .taken in (v .0, v .1, omega (arith, taken), planned-step _ _ _ _ _ _ (v .3) _ _ (v .1) (omega (arith, taken, ap (λ (x : Header). x .modules) (c .before .before .before .before .before .before .header-of .ensures))) (s .pre .1 .1) (c .helper-word .ensures .0) (c .helper-word .ensures .1))
+loop-again c = let s = c .before .before .before .before .before .before .before .before .before .before in let v = c .before .before .before .loop .inv in let taken = c .before .if1 .taken in (v .0, v .1, omega (arith, taken), planned-step _ _ _ _ _ _ (v .3) _ _ (v .1) (omega (arith, taken, ap (λ (x : Header). x .modules) (c .before .before .before .before .before .header-of .ensures))) (s .pre .1 .1) (c .helper-word .ensures .0) (c .helper-word .ensures .1))
 
 same-length : tie.Need-same-length Inv-loop μ-loop
 same-length c = c .before .before .loop .inv .3 .untouched .same-length
 
 returns : tie.Need-returns Inv-loop μ-loop
-returns c = let v = c .before .before .loop .inv in (λ m l. v .3 .done m (omega (arith, l, c .if1 .left, ap (λ (x : Header). x .modules) (c .before .before .before .before .before .header-of .ensures))), v .3 .untouched)
+returns c = let v = c .before .before .loop .inv in (λ m l. v .3 .done m (omega (arith, l, c .if1 .left, ap (λ (x : Header). x .modules) (c .before .before .before .before .header-of .ensures))), v .3 .untouched)
 
 pub collect-helpers-spec : {M : Type 1} → statement M
 collect-helpers-spec =
@@ -68,9 +62,7 @@ collect-helpers-spec =
     Inv-loop
     μ-loop
     header-of-requires
-    mul-at
-    mul-at-2
-    add-at
+    words-at-requires
     loop-holds
     helper-word-requires
     add-plan

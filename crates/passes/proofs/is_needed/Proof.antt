@@ -25,48 +25,42 @@ abbrev μ-loop : tie.MeasureT-loop
 header-of-requires : tie.Need-header-of-requires Inv-loop μ-loop
 header-of-requires c κs = c .before .before .before .before .pre .0 .loaded .long
 
-mul-at : tie.Need-mul-at Inv-loop μ-loop
-mul-at c = let s = c .before .before .before .before .before .before in record { fits = omega (arith, ap (λ (x : Header). x .modules) (c .before .header-of .ensures), ap (λ (x : Header). x .entries) (c .before .header-of .ensures), s .pre .0 .loaded .few-modules, s .pre .0 .loaded .few-entries) }
-
-mul-at-2 : tie.Need-mul-at-2 Inv-loop μ-loop
-mul-at-2 c = let s = c .before .before .before .before .before .before .before in record { fits = omega (arith, ap (λ (x : Header). x .modules) (c .before .before .header-of .ensures), ap (λ (x : Header). x .entries) (c .before .before .header-of .ensures), s .pre .0 .loaded .few-modules, s .pre .0 .loaded .few-entries) }
-
-add-at : tie.Need-add-at Inv-loop μ-loop
-add-at c = let s = c .before .before .before .before .before .before .before in record { fits = omega (arith, ap (λ (x : Header). x .modules) (c .before .before .header-of .ensures), ap (λ (x : Header). x .entries) (c .before .before .header-of .ensures), s .pre .0 .loaded .few-modules, s .pre .0 .loaded .few-entries) }
+words-at-requires : tie.Need-words-at-requires Inv-loop μ-loop
+words-at-requires c κs = let s = c .before .before .before .before .before in rw (c .header-of .ensures) (omega (arith, s .pre .0 .loaded .few-modules, s .pre .0 .loaded .few-entries))
 
 loop-holds : tie.Need-loop-holds Inv-loop μ-loop
-loop-holds c = (c .before .before .header-of .ensures, ap wordsAt (c .before .before .header-of .ensures), omega arith, uniting-start _ _ _ _)
+loop-holds c = (c .before .header-of .ensures, c .words-at .ensures ∙ ap wordsAt (c .before .header-of .ensures), omega arith, uniting-start _ _ _ _)
 
 add-flag : tie.Need-add-flag Inv-loop μ-loop
-add-flag c = let s = c .before .before .before .before .before .before .before .before .before .before in record { fits = omega (arith, c .if1 .taken, ap (λ (x : Header). x .modules) (c .before .before .before .before .before .header-of .ensures), ap (λ (x : Header). x .entries) (c .before .before .before .before .before .header-of .ensures), s .pre .0 .loaded .few-modules, s .pre .0 .loaded .few-entries) }
+add-flag c = let s = c .before .before .before .before .before .before .before .before .before in record { fits = omega (arith, c .if1 .taken, c .before .before .before .words-at .ensures, ap (λ (x : Header). x .modules) (c .before .before .before .before .header-of .ensures), ap (λ (x : Header). x .entries) (c .before .before .before .before .header-of .ensures), s .pre .0 .loaded .few-modules, s .pre .0 .loaded .few-entries) }
 
 mul-flag : tie.Need-mul-flag Inv-loop μ-loop
-mul-flag c = search needs
+mul-flag c = let s = c .before .before .before .before .before .before .before .before .before in record { fits = omega (arith, c .if1 .taken, c .before .before .before .words-at .ensures, ap (λ (x : Header). x .modules) (c .before .before .before .before .header-of .ensures), ap (λ (x : Header). x .entries) (c .before .before .before .before .header-of .ensures), s .pre .0 .loaded .few-modules, s .pre .0 .loaded .few-entries) }
 
 shared-slice-read-flag : tie.Need-shared-slice-read-flag Inv-loop μ-loop
-shared-slice-read-flag c = let s = c .before .before .before .before .before .before .before .before .before .before .before in omega (arith, c .before .if1 .taken, ap (λ (x : Header). x .modules) (c .before .before .before .before .before .before .header-of .ensures), ap (λ (x : Header). x .entries) (c .before .before .before .before .before .before .header-of .ensures), s .pre .1 .0 .1)
+shared-slice-read-flag c = let s = c .before .before .before .before .before .before .before .before .before .before in omega (arith, c .before .if1 .taken, c .before .before .before .before .words-at .ensures, ap (λ (x : Header). x .modules) (c .before .before .before .before .before .header-of .ensures), ap (λ (x : Header). x .entries) (c .before .before .before .before .before .header-of .ensures), s .pre .1 .0 .1)
 
 flag-requires : tie.Need-flag-requires Inv-loop μ-loop
-flag-requires c κs = let s = c .before .before .before .before .before .before .before .before .before .before .before in s .pre .1 .0 .2
+flag-requires c κs = let s = c .before .before .before .before .before .before .before .before .before .before in s .pre .1 .0 .2
 
 test-requires : tie.Need-test-requires Inv-loop μ-loop
 unfolding graphIn markCount
-test-requires c κs = let s = c .before .before .before .before .before .before .before .before .before .before .before .before .before in omega (arith, c .before .before .before .if1 .taken, ap (λ (x : Header). x .modules) (c .before .before .before .before .before .before .before .before .header-of .ensures), s .pre .1 .0 .0)
+test-requires c κs = let s = c .before .before .before .before .before .before .before .before .before .before .before .before in omega (arith, c .before .before .before .if1 .taken, ap (λ (x : Header). x .modules) (c .before .before .before .before .before .before .before .header-of .ensures), s .pre .1 .0 .0)
 
 returns : tie.Need-returns Inv-loop μ-loop
-returns c = let s = c .before .before .before .before .before .before .before .before .before .before .before .before .before .before .before in let q = ap (λ (x : Header). x .modules) (c .before .before .before .before .before .before .before .before .before .before .header-of .ensures) in let v = c .before .before .before .before .before .before .before .loop .inv in let l = word-place (c .before .before .before .before .before .if1 .taken) q in uniting-here _ _ _ _ _ (v .3) l _ (word-is (s .args .plan .now) _ _ (c .before .before .before .before .before .before .before .loop .m) (v .1) (s .pre .1 .1 _ l)) _ (c .before .before .before .flag .ensures) (c .before .before .if2 .taken) (sym (c .before .test .ensures ∙ module-marked _ _ _) ∙ c .if3 .taken)
+returns c = let s = c .before .before .before .before .before .before .before .before .before .before .before .before .before .before in let q = ap (λ (x : Header). x .modules) (c .before .before .before .before .before .before .before .before .before .header-of .ensures) in let v = c .before .before .before .before .before .before .before .loop .inv in let l = word-place (c .before .before .before .before .before .if1 .taken) q in uniting-here _ _ _ _ _ (v .3) l _ (word-is (s .args .plan .now) _ _ (c .before .before .before .before .before .before .before .loop .m) (v .1) (s .pre .1 .1 _ l)) _ (c .before .before .before .flag .ensures) (c .before .before .if2 .taken) (sym (c .before .test .ensures ∙ module-marked _ _ _) ∙ c .if3 .taken)
 
 add-m : tie.Need-add-m Inv-loop μ-loop
-add-m c = let s = c .before .before .before .before .before .before .before .before .before .before .before .before .before in record { fits = omega (arith, c .before .before .before .if1 .taken, ap (λ (x : Header). x .modules) (c .before .before .before .before .before .before .before .before .header-of .ensures), s .pre .0 .loaded .few-modules) }
+add-m c = let s = c .before .before .before .before .before .before .before .before .before .before .before .before in record { fits = omega (arith, c .before .before .before .if1 .taken, ap (λ (x : Header). x .modules) (c .before .before .before .before .before .before .before .header-of .ensures), s .pre .0 .loaded .few-modules) }
 
 loop-less : tie.Need-loop-less Inv-loop μ-loop
 loop-less c = omega (arith, c .before .before .before .if1 .taken)
 
 loop-again : tie.Need-loop-again Inv-loop μ-loop
-loop-again c = let s = c .before .before .before .before .before .before .before .before .before .before .before .before .before in let q = ap (λ (x : Header). x .modules) (c .before .before .before .before .before .before .before .before .header-of .ensures) in let v = c .before .before .before .before .before .loop .inv in let taken = c .before .before .before .if1 .taken in let l = word-place taken q in let is = word-is (s .args .plan .now) _ _ (c .before .before .before .before .before .loop .m) (v .1) (s .pre .1 .1 _ l) in let say = c .before .flag .ensures in (v .0, v .1, omega (arith, taken), ⊎-elim (λ w. uniting-lost _ _ _ _ _ (v .3) l _ is _ say (sym (w .1 .ensures ∙ module-marked _ _ _) ∙ w .2 .left)) (λ w. uniting-without _ _ _ _ _ (v .3) l _ is _ say (w .left)) (c .if2 .came))
+loop-again c = let s = c .before .before .before .before .before .before .before .before .before .before .before .before in let q = ap (λ (x : Header). x .modules) (c .before .before .before .before .before .before .before .header-of .ensures) in let v = c .before .before .before .before .before .loop .inv in let taken = c .before .before .before .if1 .taken in let l = word-place taken q in let is = word-is (s .args .plan .now) _ _ (c .before .before .before .before .before .loop .m) (v .1) (s .pre .1 .1 _ l) in let say = c .before .flag .ensures in (v .0, v .1, omega (arith, taken), ⊎-elim (λ w. uniting-lost _ _ _ _ _ (v .3) l _ is _ say (sym (w .1 .ensures ∙ module-marked _ _ _) ∙ w .2 .left)) (λ w. uniting-without _ _ _ _ _ (v .3) l _ is _ say (w .left)) (c .if2 .came))
 
 returns-2 : tie.Need-returns-2 Inv-loop μ-loop
-returns-2 c = uniting-over _ _ _ _ _ (c .before .before .loop .inv .3) (omega (arith, c .if1 .left, ap (λ (x : Header). x .modules) (c .before .before .before .before .before .header-of .ensures)))
+returns-2 c = uniting-over _ _ _ _ _ (c .before .before .loop .inv .3) (omega (arith, c .if1 .left, ap (λ (x : Header). x .modules) (c .before .before .before .before .header-of .ensures)))
 
 pub is-needed-spec : {M : Type 1} → statement M
 is-needed-spec =
@@ -75,9 +69,7 @@ is-needed-spec =
     Inv-loop
     μ-loop
     header-of-requires
-    mul-at
-    mul-at-2
-    add-at
+    words-at-requires
     loop-holds
     add-flag
     mul-flag

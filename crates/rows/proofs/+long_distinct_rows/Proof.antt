@@ -30,62 +30,29 @@ long-distinct-rows-below t =
     (falls 1 long-distinct-rows-kinds.ps _<_ μ-long-distinct-rows t)
     long-distinct-rows.Pre
 
--- src/lib.rt:274:9
+abbrev claims : ℕ → long-distinct-rows-lts.Claims
+claims t = (chained-rows-reads.Asked, chained-rows-reads.Learnt, long-distinct-rows-below t, long-distinct-rows.Post)
+
 long-distinct-rows-chained-rows-requires :
-    (t : ℕ) → long-distinct-rows-lts.Need-chained-rows-requires (
-      chained-rows-reads.Asked,
-      chained-rows-reads.Learnt,
-      long-distinct-rows-below t,
-      long-distinct-rows.Post,
-    ) (long-distinct-rows-at t) long-distinct-rows.Post
+    (t : ℕ) → long-distinct-rows-lts.Need-chained-rows-requires (claims t) (long-distinct-rows-at t) long-distinct-rows.Post
 long-distinct-rows-chained-rows-requires t c κs = let p = c .before .before .before .pre .1 in (p .0, p .1, p .2, chains-none _ _ _)
 
--- src/lib.rt:276:71
 long-distinct-rows-sub-long-distinct-rows :
-    (t : ℕ) → long-distinct-rows-lts.Need-sub-long-distinct-rows (
-      chained-rows-reads.Asked,
-      chained-rows-reads.Learnt,
-      long-distinct-rows-below t,
-      long-distinct-rows.Post,
-    ) (long-distinct-rows-at t) long-distinct-rows.Post
+    (t : ℕ) → long-distinct-rows-lts.Need-sub-long-distinct-rows (claims t) (long-distinct-rows-at t) long-distinct-rows.Post
 long-distinct-rows-sub-long-distinct-rows t c = search needs
 
--- src/lib.rt:276:9
 long-distinct-rows-long-distinct-rows-requires :
-    (t : ℕ) → long-distinct-rows-lts.Need-long-distinct-rows-requires (
-      chained-rows-reads.Asked,
-      chained-rows-reads.Learnt,
-      long-distinct-rows-below t,
-      long-distinct-rows.Post,
-    ) (long-distinct-rows-at t) long-distinct-rows.Post
+    (t : ℕ) → long-distinct-rows-lts.Need-long-distinct-rows-requires (claims t) (long-distinct-rows-at t) long-distinct-rows.Post
 long-distinct-rows-long-distinct-rows-requires t c κs = let s = c .before .before .before .before .before in (omega (arith, s .pre .0, c .if1 .taken), s .pre .1)
 
--- src/lib.rt:276:9
-long-distinct-rows-returns : (t : ℕ) → long-distinct-rows-lts.Need-returns (
-  chained-rows-reads.Asked,
-  chained-rows-reads.Learnt,
-  long-distinct-rows-below t,
-  long-distinct-rows.Post,
-) (long-distinct-rows-at t) long-distinct-rows.Post
+long-distinct-rows-returns : (t : ℕ) → long-distinct-rows-lts.Need-returns (claims t) (long-distinct-rows-at t) long-distinct-rows.Post
 long-distinct-rows-returns t c = search needs
 
--- src/lib.rt:259:1
-long-distinct-rows-returns-2 : (t : ℕ) → long-distinct-rows-lts.Need-returns-2 (
-  chained-rows-reads.Asked,
-  chained-rows-reads.Learnt,
-  long-distinct-rows-below t,
-  long-distinct-rows.Post,
-) (long-distinct-rows-at t) long-distinct-rows.Post
+long-distinct-rows-returns-2 : (t : ℕ) → long-distinct-rows-lts.Need-returns-2 (claims t) (long-distinct-rows-at t) long-distinct-rows.Post
 long-distinct-rows-returns-2 t c = search needs
 
 pub +long-distinct-rows-spec : {M : Type 1} → statement M
-+long-distinct-rows-spec = close μ-long-distinct-rows λ t. long-distinct-rows-lts.spec (
-  chained-rows-reads.Asked,
-  chained-rows-reads.Learnt,
-  long-distinct-rows-below t,
-  long-distinct-rows.Post,
-)
-    (long-distinct-rows-at t)
++long-distinct-rows-spec = close μ-long-distinct-rows λ t. long-distinct-rows-lts.spec (claims t) (long-distinct-rows-at t)
     long-distinct-rows.Post
     (long-distinct-rows-chained-rows-requires t)
     (long-distinct-rows-sub-long-distinct-rows t)

@@ -30,84 +30,65 @@ stepped c = let s = c .before .before .before .before .before .before .before in
     let h : l .v - 1 < s .args .count + 1 = omega (arith, l .inv .low) in
     link-below (s .args .numbers .now) (s .args .at) (s .args .width) (s .args .count + 1) (s .args .nexts .now) (s .pre .3) (l .v - 1) h
 
--- src/lib.rt:187:26
 mul-x : tie.Need-mul-x Inv-loop μ-loop
 mul-x c = omega arith
 
--- src/lib.rt:187:21
 add-x : tie.Need-add-x Inv-loop μ-loop
 add-x c = omega arith
 
--- src/lib.rt:187:13
 mul-x-2 : tie.Need-mul-x-2 Inv-loop μ-loop
 mul-x-2 c = omega arith
 
--- src/lib.rt:187:13
 shared-slice-read-x : tie.Need-shared-slice-read-x Inv-loop μ-loop
 shared-slice-read-x c = c .before .pre .1
 
--- src/lib.rt:188:17
 mul-v : tie.Need-mul-v Inv-loop μ-loop
 mul-v c = omega arith
 
--- src/lib.rt:188:17
 element-copy-out-v : tie.Need-element-copy-out-v Inv-loop μ-loop
 element-copy-out-v c = c .before .pre .2
 
--- src/lib.rt:188:17
 cast-v : tie.Need-cast-v Inv-loop μ-loop
 cast-v c =
     let s = c .before .before in
     omega (arith, s .pre .2, link-below (s .args .numbers .now) (s .args .at) (s .args .width) (s .args .count + 1) (s .args .nexts .now) (s .pre .3) (s .args .count) (omega arith))
 
--- src/lib.rt:189:5
 loop-holds : tie.Need-loop-holds Inv-loop μ-loop
 loop-holds c = let s = c .before .before in back-start _ _ _ _ _ _ (s .pre .3 (s .args .count) (omega arith))
 
--- src/lib.rt:190:17
 sub-j : tie.Need-sub-j Inv-loop μ-loop
 sub-j c = search needs
 
--- src/lib.rt:191:25
 mul-if1 : tie.Need-mul-if1 Inv-loop μ-loop
 mul-if1 c = omega (arith, inside c)
 
--- src/lib.rt:191:20
 add-if1 : tie.Need-add-if1 Inv-loop μ-loop
 add-if1 c = omega (arith, inside c)
 
--- src/lib.rt:191:12
 mul-if1-2 : tie.Need-mul-if1-2 Inv-loop μ-loop
 mul-if1-2 c = omega (arith, inside c)
 
--- src/lib.rt:191:12
 shared-slice-read-if1 : tie.Need-shared-slice-read-if1 Inv-loop μ-loop
 shared-slice-read-if1 c = inside (c .before)
 
--- src/lib.rt:192:13
 returns : tie.Need-returns Inv-loop μ-loop
 returns c =
     let l = c .before .before .before .loop in
     let p : 0 < l .v = omega (arith, c .before .before .loop-test .taken) in
     sym (seen-hit _ _ _ _ _ p (c .if1 .taken)) ∙ l .inv .left
 
--- src/lib.rt:194:13
 mul-v-2 : tie.Need-mul-v-2 Inv-loop μ-loop
 mul-v-2 c = let s = c .before .before .before .before .before .before in omega (arith, s .pre .2, c .before .before .before .loop .inv .low)
 
--- src/lib.rt:194:13
 element-copy-out-v-2 : tie.Need-element-copy-out-v-2 Inv-loop μ-loop
 element-copy-out-v-2 c = let s = c .before .before .before .before .before .before in omega (arith, s .pre .2, c .before .before .before .loop .inv .low)
 
--- src/lib.rt:194:13
 cast-v-2 : tie.Need-cast-v-2 Inv-loop μ-loop
 cast-v-2 c = let s = c .before .before .before .before .before .before .before in omega (arith, s .pre .2, c .before .before .before .before .loop .inv .low, stepped c)
 
--- src/lib.rt:189:5
 loop-less : tie.Need-loop-less Inv-loop μ-loop
 loop-less c = omega (arith, c .before .before .before .loop-test .taken, stepped c)
 
--- src/lib.rt:189:5
 loop-again : tie.Need-loop-again Inv-loop μ-loop
 loop-again c =
     let s = c .before .before .before .before .before .before .before in
@@ -116,7 +97,6 @@ loop-again c =
     let h : l .v - 1 < s .args .count + 1 = omega (arith, l .inv .low) in
     back-step _ _ _ (l .inv) p (c .before .if1 .left) (s .pre .3 (l .v - 1) h)
 
--- src/lib.rt:183:1
 returns-2 : tie.Need-returns-2 Inv-loop μ-loop
 returns-2 c = sym (seen-none _ _ _ _ _ (c .loop-test .left)) ∙ c .before .loop .inv .left
 

@@ -11,19 +11,15 @@ use Rattle.rows.proofs.chained_repeats.Lts as lts
 use Rattle.rows.proofs.chained.Reads as chained-reads
 use Rattle.rows.proofs.link.Reads as link-reads
 
--- src/lib.rt:214:9
 returns : tie.Need-returns
 returns c = (sym (repeated-past _ _ _ (c .if1 .taken)), λ h. absurd (omega (arith, c .if1 .taken)))
 
--- src/lib.rt:216:5
 link-requires : tie.Need-link-requires
 link-requires c κs = search needs
 
--- src/lib.rt:217:5
 chained-requires : tie.Need-chained-requires
 chained-requires c κs = search needs
 
--- src/lib.rt:200:1
 returns-2 : tie.Need-returns-2
 returns-2 c = let s = c .before .before .before .before .before .before .before in (c .chained .ensures ∙ repeated-at _ _ _ _ _ (s .pre .1) (c .before .before .before .before .before .if1 .left), λ h. c .before .before .link .ensures)
 

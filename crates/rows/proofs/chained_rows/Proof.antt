@@ -26,45 +26,35 @@ abbrev μ-loop : tie.MeasureT-loop
 turned : (c : tie.After-known-told2 Inv-loop μ-loop) → let s = c .before .before .before .before .before .before .before .before .before .before .before in (row : List ℕ) × (plainRow (columnsOf (s .args .width) (s .args .a) (s .args .b) (s .args .c)) (s .args .numbers .now) [] (c .before .before .before .before .before .before .before .before .before .loop .place) ≡ got row (c .before .next .given .0 .0))
 turned c = at-got _ _ (sym (c .before .before .before .row .ensures) ∙ c .before .next .given .1)
 
--- src/lib.rt:236:5
 loop-holds : tie.Need-loop-holds Inv-loop μ-loop
 unfolding firstsAt
 loop-holds c = ([], omega (arith, mul-zero (c .before .args .width)), going-start _ _ _ _ _, c .before .pre .3)
 
--- src/lib.rt:237:12
 chained-repeats-requires : tie.Need-chained-repeats-requires Inv-loop μ-loop
 chained-repeats-requires c κs = let s = c .before .before .before .before .before in let l = c .before .before .before .loop .inv in (s .pre .0, l .1, omega (arith, s .pre .2, c .before .before .loop-test .taken), l .3)
 
--- src/lib.rt:238:13
 returns : tie.Need-returns Inv-loop μ-loop
 unfolding walkOf
 returns c = let l = c .before .before .before .before .before .loop .inv in going-stop _ _ _ _ _ (l .2) (c .before .before .before .before .loop-test .taken) (ap walkOf (distinct-hit _ _ _ _ (sym (c .before .chained-repeats .ensures .0) ∙ c .if1 .taken)))
 
--- src/lib.rt:240:15
 row-requires : tie.Need-row-requires Inv-loop μ-loop
 row-requires c κs = search needs
 
--- src/lib.rt:241:25
 enum-known-n : tie.Need-enum-known-n Inv-loop μ-loop
 enum-known-n c = search needs
 
--- src/lib.rt:242:17
 returns-2 : tie.Need-returns-2 Inv-loop μ-loop
 returns-2 c = let l = c .before .before .before .before .before .before .before .before .before .loop .inv in going-stop _ _ _ _ _ (l .2) (c .before .before .before .before .before .before .before .before .loop-test .taken) (ap walkOf (distinct-miss _ _ _ _ (sym (c .before .before .before .before .before .chained-repeats .ensures .0) ∙ c .before .before .before .before .if1 .left)) ∙ sym (c .before .before .before .row .ensures) ∙ c .before .n .given .1)
 
--- src/lib.rt:244:22
 enum-known-next : tie.Need-enum-known-next Inv-loop μ-loop
 enum-known-next c = search needs
 
--- src/lib.rt:248:9
 add-k : tie.Need-add-k Inv-loop μ-loop
 add-k c = search needs
 
--- src/lib.rt:236:5
 loop-less : tie.Need-loop-less Inv-loop μ-loop
 loop-less c = search needs
 
--- src/lib.rt:236:5
 loop-again : tie.Need-loop-again Inv-loop μ-loop
 loop-again c = let l = c .before .before .before .before .before .before .before .before .before .loop .inv in
     let s = c .before .before .before .before .before .before .before .before .before .before .before in
@@ -77,7 +67,6 @@ loop-again c = let l = c .before .before .before .before .before .before .before
       c .before .before .before .before .before .chained-repeats .ensures .1 (row-inside _ _ _ _ _ _ _ _ _ _ (s .pre .0) (s .pre .1) (l .1) (t .1)),
     )
 
--- src/lib.rt:220:1
 returns-3 : tie.Need-returns-3 Inv-loop μ-loop
 returns-3 c = going-end _ _ _ _ _ (c .before .loop .inv .2) (c .loop-test .left)
 

@@ -11,28 +11,22 @@ use Rattle.rows.proofs.counter.Lts as lts
 use Rattle.rows.proofs.wide.Reads as wide-reads
 use Rattle.rows.proofs.within.Reads as within-reads
 
--- src/lib.rt:44:17
 mul-wide : tie.Need-mul-wide
 mul-wide c = search needs
 
--- src/lib.rt:44:17
 shared-slice-read-wide : tie.Need-shared-slice-read-wide
 shared-slice-read-wide c = search needs
 
--- src/lib.rt:44:12
 wide-requires : tie.Need-wide-requires
 wide-requires c κs = search needs
 
--- src/lib.rt:45:13
 returns : tie.Need-returns
 unfolding walkOf
 returns c = sym (ap walkOf (count-over _ _ _ (c .before .wide .ensures) _ _ _ (c .before .before .before .if1 .taken) (c .if2 .taken)))
 
--- src/lib.rt:48:5
 within-requires : tie.Need-within-requires
 within-requires c κs = search needs
 
--- src/lib.rt:40:1
 returns-2 : tie.Need-returns-2
 returns-2 c =
     c .within .ensures

@@ -6,59 +6,45 @@ use Rattle.rows.proofs.link.Tie as tie
 use Rattle.rows.proofs.link.Reads as reads
 use Rattle.rows.proofs.link.Lts as lts
 
--- src/lib.rt:177:27
 mul-h : tie.Need-mul-h
 mul-h c = omega arith
 
--- src/lib.rt:177:22
 add-h : tie.Need-add-h
 add-h c = omega arith
 
--- src/lib.rt:177:14
 mul-h-2 : tie.Need-mul-h-2
 mul-h-2 c = omega arith
 
--- src/lib.rt:177:14
 shared-slice-read-h : tie.Need-shared-slice-read-h
 shared-slice-read-h c = omega arith
 
--- src/lib.rt:177:13
 cast-h : tie.Need-cast-h
 cast-h c = omega arith
 
--- src/lib.rt:178:20
 mul-nexts : tie.Need-mul-nexts
 mul-nexts c = omega arith
 
--- src/lib.rt:178:20
 element-copy-out-nexts : tie.Need-element-copy-out-nexts
 element-copy-out-nexts c = omega arith
 
--- src/lib.rt:178:5
 mul-nexts-2 : tie.Need-mul-nexts-2
 mul-nexts-2 c = omega arith
 
--- src/lib.rt:178:5
 element-write-nexts : tie.Need-element-write-nexts
 element-write-nexts c = omega arith
 
--- src/lib.rt:179:17
 add-heads : tie.Need-add-heads
 add-heads c = omega arith
 
--- src/lib.rt:179:16
 cast-heads : tie.Need-cast-heads
 cast-heads c = omega arith
 
--- src/lib.rt:179:5
 mul-heads : tie.Need-mul-heads
 mul-heads c = omega arith
 
--- src/lib.rt:179:5
 element-write-heads : tie.Need-element-write-heads
 element-write-heads c = omega arith
 
--- src/lib.rt:173:1
 returns : tie.Need-returns
 returns c = let s = c .before .before in chains-more _ _ _ _ _ _ _ refl (s .pre .1) (s .pre .2)
 

@@ -9,23 +9,18 @@ use Rattle.rows.proofs.repeats.Reads as reads
 use Rattle.rows.proofs.repeats.Lts as lts
 use Rattle.rows.proofs.seen.Reads as seen-reads
 
--- src/lib.rt:126:9
 returns : tie.Need-returns
 returns c = sym (repeated-past _ _ _ (c .if1 .taken))
 
--- src/lib.rt:128:37
 mul-seen : tie.Need-mul-seen
 mul-seen c = search needs
 
--- src/lib.rt:128:37
 shared-slice-read-seen : tie.Need-shared-slice-read-seen
 shared-slice-read-seen c = search needs
 
--- src/lib.rt:128:5
 seen-requires : tie.Need-seen-requires
 seen-requires c κs = let s = c .before .before .before in (omega (arith, s .pre .1, c .before .if1 .left), s .pre .0)
 
--- src/lib.rt:121:1
 returns-2 : tie.Need-returns-2
 returns-2 c = c .seen .ensures ∙ sym (repeated-in _ _ _ (c .before .before .if1 .left))
 

@@ -10,55 +10,42 @@ use Rattle.rows.proofs.row.Reads as reads
 use Rattle.rows.proofs.row.Lts as lts
 use Rattle.rows.proofs.within.Reads as within-reads
 
--- src/lib.rt:63:9
 returns : tie.Need-returns
 returns c = sym (row-none _ _ _ _ _ _ _ (c .if1 .taken))
 
--- src/lib.rt:65:11
 within-requires : tie.Need-within-requires
 within-requires c κs = search needs
 
--- src/lib.rt:66:21
 enum-known-n : tie.Need-enum-known-n
 enum-known-n c = search needs
 
--- src/lib.rt:67:18
 enum-known-q : tie.Need-enum-known-q
 enum-known-q c = search needs
 
--- src/lib.rt:69:17
 returns-2 : tie.Need-returns-2
 returns-2 c = sym (row-one _ _ _ _ _ _ _ (c .if2 .taken) (sym (c .before .before .before .before .within .ensures) ∙ c .before .before .q .given .1))
 
--- src/lib.rt:71:19
 within-requires-2 : tie.Need-within-requires-2
 within-requires-2 c κs = search needs
 
--- src/lib.rt:72:29
 enum-known-n-2 : tie.Need-enum-known-n-2
 enum-known-n-2 c = search needs
 
--- src/lib.rt:73:26
 enum-known-s : tie.Need-enum-known-s
 enum-known-s c = search needs
 
--- src/lib.rt:75:25
 returns-3 : tie.Need-returns-3
 returns-3 c = sym (row-two _ _ _ _ _ _ _ (c .if3 .taken) (sym (c .before .before .before .before .before .before .before .before .before .within .ensures) ∙ c .before .before .before .before .before .before .before .q .given .1) (sym (c .before .before .before .before .within2 .ensures) ∙ c .before .before .s .given .1))
 
--- src/lib.rt:77:21
 within-requires-3 : tie.Need-within-requires-3
 within-requires-3 c κs = search needs
 
--- src/lib.rt:59:1
 returns-4 : tie.Need-returns-4
 returns-4 c = sym (row-stop-first _ _ _ _ _ _ _ (c .before .before .before .before .if1 .left) (sym (c .before .before .before .within .ensures) ∙ c .before .n .given .1))
 
--- src/lib.rt:59:1
 returns-5 : tie.Need-returns-5
 returns-5 c = sym (row-stop-second _ _ _ _ _ _ _ (c .before .before .before .before .before .before .before .before .before .if1 .left) (c .before .before .before .before .if2 .left) (sym (c .before .before .before .before .before .before .before .before .within .ensures) ∙ c .before .before .before .before .before .before .q .given .1) (sym (c .before .before .before .within2 .ensures) ∙ c .before .n2 .given .1))
 
--- src/lib.rt:59:1
 returns-6 : tie.Need-returns-6
 returns-6 c = c .within3 .ensures ∙ sym (row-three _ _ _ _ _ _ _ (c .before .before .before .before .before .before .before .before .before .before .before .if1 .left) (c .before .before .before .before .before .before .if2 .left) (c .before .if3 .left) (sym (c .before .before .before .before .before .before .before .before .before .before .within .ensures) ∙ c .before .before .before .before .before .before .before .before .q .given .1) (sym (c .before .before .before .before .before .within2 .ensures) ∙ c .before .before .before .s .given .1))
 

@@ -31,50 +31,39 @@ all-rows c =
     let d = c .before .before in
     ap walkOf (list-go _ _ _ (counted d .1) (there d .same ∙ sym (c .wide .ensures)))
 
--- src/lib.rt:160:11
 counter-requires : tie.Need-counter-requires
 counter-requires c κs = search needs
 
--- src/lib.rt:161:21
 enum-known-n : tie.Need-enum-known-n
 enum-known-n c = search needs
 
--- src/lib.rt:162:18
 enum-known-q : tie.Need-enum-known-q
 enum-known-q c = search needs
 
--- src/lib.rt:163:30
 mul-wide : tie.Need-mul-wide
 mul-wide c = omega (arith, there c .inside)
 
--- src/lib.rt:163:30
 shared-slice-read-wide : tie.Need-shared-slice-read-wide
 shared-slice-read-wide c = there (c .before) .inside
 
--- src/lib.rt:163:17
 wide-requires : tie.Need-wide-requires
 wide-requires c κs = search needs
 
--- src/lib.rt:165:17
 distinct-rows-requires : tie.Need-distinct-rows-requires
 distinct-rows-requires c κs =
     let w = c .before in
     let s = w .before .before .before .before .before .before .before in
     let t = there (w .before .before) in (s .pre .0, s .pre .1, omega (arith, t .good .0, t .same, w .wide .ensures))
 
--- src/lib.rt:167:17
 plain-rows-requires : tie.Need-plain-rows-requires
 plain-rows-requires c κs = search needs
 
--- src/lib.rt:156:1
 returns : tie.Need-returns
 returns c = sym (list-stop _ _ _ (sym (c .before .before .before .counter .ensures) ∙ c .before .n .given .1))
 
--- src/lib.rt:156:1
 returns-2 : tie.Need-returns-2
 returns-2 c = by-distinct _ _ _ _ _ _ (c .before .if1 .taken) (c .distinct-rows .ensures) ∙ sym (all-rows (c .before .before))
 
--- src/lib.rt:156:1
 returns-3 : tie.Need-returns-3
 returns-3 c = by-plain _ _ _ _ _ _ (c .before .if1 .left) (c .plain-rows .ensures) ∙ sym (all-rows (c .before .before))
 

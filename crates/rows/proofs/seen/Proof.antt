@@ -20,43 +20,33 @@ abbrev μ-loop : tie.MeasureT-loop
 inside : (c : tie.In-loop Inv-loop μ-loop) → c .before .before .args .at + c .before .before .args .width * (c .before .loop .k - 1) < length (c .before .before .args .numbers .now)
 inside c = place-in _ _ _ (c .before .loop .k - 1) _ (c .before .before .pre .0) (omega arith) (c .before .before .pre .1)
 
--- src/lib.rt:111:5
 loop-holds : tie.Need-loop-holds Inv-loop μ-loop
 loop-holds c = (omega arith, refl)
 
--- src/lib.rt:112:9
 sub-k : tie.Need-sub-k Inv-loop μ-loop
 sub-k c = search needs
 
--- src/lib.rt:113:25
 mul-if1 : tie.Need-mul-if1 Inv-loop μ-loop
 mul-if1 c = omega (arith, inside c)
 
--- src/lib.rt:113:20
 add-if1 : tie.Need-add-if1 Inv-loop μ-loop
 add-if1 c = omega (arith, inside c)
 
--- src/lib.rt:113:12
 mul-if1-2 : tie.Need-mul-if1-2 Inv-loop μ-loop
 mul-if1-2 c = omega (arith, inside c)
 
--- src/lib.rt:113:12
 shared-slice-read-if1 : tie.Need-shared-slice-read-if1 Inv-loop μ-loop
 shared-slice-read-if1 c = inside (c .before)
 
--- src/lib.rt:114:13
 returns : tie.Need-returns Inv-loop μ-loop
 returns c = let l = c .before .before .before .loop in sym (seen-hit _ _ _ _ _ (c .before .before .loop-test .taken) (c .if1 .taken)) ∙ l .inv .1
 
--- src/lib.rt:111:5
 loop-less : tie.Need-loop-less Inv-loop μ-loop
 loop-less c = search needs
 
--- src/lib.rt:111:5
 loop-again : tie.Need-loop-again Inv-loop μ-loop
 loop-again c = let l = c .before .before .before .loop in (omega arith, seen-miss _ _ _ _ _ (c .before .before .loop-test .taken) (c .if1 .left) ∙ l .inv .1)
 
--- src/lib.rt:105:1
 returns-2 : tie.Need-returns-2 Inv-loop μ-loop
 returns-2 c = sym (seen-none _ _ _ _ _ (c .loop-test .left)) ∙ c .before .loop .inv .1
 

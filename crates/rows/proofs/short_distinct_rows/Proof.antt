@@ -25,45 +25,35 @@ abbrev μ-loop : tie.MeasureT-loop
 turned : (c : tie.After-known-told2 Inv-loop μ-loop) → (row : List ℕ) × (plainRow (columnsOf (c .before .before .before .before .before .before .before .before .before .args .width) (c .before .before .before .before .before .before .before .before .before .args .a) (c .before .before .before .before .before .before .before .before .before .args .b) (c .before .before .before .before .before .before .before .before .before .args .c)) (c .before .before .before .before .before .before .before .before .before .args .numbers .now) [] (c .before .before .before .before .before .before .before .loop .q) ≡ got row (c .before .next .given .0 .0))
 turned c = at-got _ _ (sym (c .before .before .before .row .ensures) ∙ c .before .next .given .1)
 
--- src/lib.rt:138:5
 loop-holds : tie.Need-loop-holds Inv-loop μ-loop
 unfolding firstsAt
 loop-holds c = ([], omega (arith, mul-zero (c .before .args .width)), going-start _ _ _ _ _)
 
--- src/lib.rt:139:12
 repeats-requires : tie.Need-repeats-requires Inv-loop μ-loop
 repeats-requires c κs = (c .before .before .before .pre .0, c .before .loop .inv .1)
 
--- src/lib.rt:140:13
 returns : tie.Need-returns Inv-loop μ-loop
 unfolding walkOf
 returns c = let l = c .before .before .before .loop .inv in going-stop _ _ _ _ _ (l .2) (c .before .before .loop-test .taken) (ap walkOf (distinct-hit _ _ _ _ (sym (c .before .repeats .ensures) ∙ c .if1 .taken)))
 
--- src/lib.rt:142:15
 row-requires : tie.Need-row-requires Inv-loop μ-loop
 row-requires c κs = search needs
 
--- src/lib.rt:143:25
 enum-known-n : tie.Need-enum-known-n Inv-loop μ-loop
 enum-known-n c = search needs
 
--- src/lib.rt:144:17
 returns-2 : tie.Need-returns-2 Inv-loop μ-loop
 returns-2 c = let l = c .before .before .before .before .before .before .before .loop .inv in going-stop _ _ _ _ _ (l .2) (c .before .before .before .before .before .before .loop-test .taken) (ap walkOf (distinct-miss _ _ _ _ (sym (c .before .before .before .before .before .repeats .ensures) ∙ c .before .before .before .before .if1 .left)) ∙ sym (c .before .before .before .row .ensures) ∙ c .before .n .given .1)
 
--- src/lib.rt:146:22
 enum-known-next : tie.Need-enum-known-next Inv-loop μ-loop
 enum-known-next c = search needs
 
--- src/lib.rt:150:9
 add-k : tie.Need-add-k Inv-loop μ-loop
 add-k c = search needs
 
--- src/lib.rt:138:5
 loop-less : tie.Need-loop-less Inv-loop μ-loop
 loop-less c = search needs
 
--- src/lib.rt:138:5
 loop-again : tie.Need-loop-again Inv-loop μ-loop
 loop-again c = let l = c .before .before .before .before .before .before .before .loop .inv in
     let s = c .before .before .before .before .before .before .before .before .before in
@@ -75,7 +65,6 @@ loop-again c = let l = c .before .before .before .before .before .before .before
       rw (row-first _ _ _ _ _ _ _ _ _ _ (s .pre .0) (s .pre .1) (l .1) (t .1)) at g,
     )
 
--- src/lib.rt:132:1
 returns-3 : tie.Need-returns-3 Inv-loop μ-loop
 returns-3 c = going-end _ _ _ _ _ (c .before .loop .inv .2) (c .loop-test .left)
 

@@ -10,29 +10,23 @@ use Rattle.rows.proofs.within.Reads as reads
 use Rattle.rows.proofs.within.Lts as lts
 use Rattle.rows.proofs.wide.Reads as wide-reads
 
--- src/lib.rt:26:9
 returns : tie.Need-returns
 unfolding walkOf
 returns c = sym (ap walkOf (number-missing _ _ _ refl _ (c .if1 .taken)))
 
--- src/lib.rt:28:18
 mul-wide : tie.Need-mul-wide
 mul-wide c = search needs
 
--- src/lib.rt:28:18
 shared-slice-read-wide : tie.Need-shared-slice-read-wide
 shared-slice-read-wide c = search needs
 
--- src/lib.rt:28:9
 wide-requires : tie.Need-wide-requires
 wide-requires c κs = search needs
 
--- src/lib.rt:30:9
 returns-2 : tie.Need-returns-2
 unfolding walkOf
 returns-2 c = sym (ap walkOf (value-low _ _ _ (c .before .wide .ensures) _ _ (c .before .before .before .if1 .left) (c .if2 .taken)))
 
--- src/lib.rt:33:9
 returns-3 : tie.Need-returns-3
 unfolding walkOf
 returns-3 c =
@@ -40,11 +34,9 @@ returns-3 c =
     let h : c .before .before .before .before .before .before .args .limit ≤ w .wide .result = omega (arith, c .if3 .taken) in
     sym (ap walkOf (value-high _ _ _ (w .wide .ensures) _ _ (w .before .before .if1 .left) (c .before .if2 .left) h))
 
--- src/lib.rt:35:14
 add-t6 : tie.Need-add-t6
 add-t6 c = search needs
 
--- src/lib.rt:22:1
 returns-4 : tie.Need-returns-4
 unfolding walkOf
 returns-4 c = sym (ap walkOf (value-good _ _ _ (c .before .before .wide .ensures) _ _ (c .before .before .before .before .if1 .left) (c .before .if2 .left) (c .if3 .left)))

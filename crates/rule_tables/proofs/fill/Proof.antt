@@ -18,31 +18,24 @@ keys c = filled-keys _ _ _ (demands (c .before .before .before .before)) (c .com
 namespaces : (c : tie.After-fill-namespaces) → Filled 9 (c .before .before .before .before .before .before .before .before .before .before .before .before .before .before .before .before .args .numbers .now) (c .fill-namespaces .last .1 .0)
 namespaces c = filled-namespaces _ _ _ (keys (c .before .before .before .before)) (c .fill-namespaces .ensures)
 
--- src/lib.rt:15:5
 last-verdicts-requires : tie.Need-last-verdicts-requires
 last-verdicts-requires c κs = let s = c .before .before .before in (record { loaded = s .pre .0; laid = laid-less (omega arith) (s .pre .1) })
 
--- src/lib.rt:16:5
 fill-on-demand-requires : tie.Need-fill-on-demand-requires
 fill-on-demand-requires c κs = let f = verdicts (c .before .before .before) in ((f .loaded, f .settled (omega arith)), f .laid)
 
--- src/lib.rt:17:5
 compute-body-demand-keys-requires : tie.Need-compute-body-demand-keys-requires
 compute-body-demand-keys-requires c κs = let f = demands (c .before .before .before) in (f .loaded, f .demands (omega arith))
 
--- src/lib.rt:18:5
 fill-namespaces-requires : tie.Need-fill-namespaces-requires
 fill-namespaces-requires c κs = let f = keys (c .before .before .before) in (f .loaded, f .laid)
 
--- src/lib.rt:19:5
 fill-first-bytes-requires : tie.Need-fill-first-bytes-requires
 fill-first-bytes-requires c κs = let f = namespaces (c .before .before .before) in (f .loaded, f .laid)
 
--- src/lib.rt:10:1
 same-length : tie.Need-same-length
 same-length c = search needs
 
--- src/lib.rt:10:1
 returns : tie.Need-returns
 returns c = filled-all _ _ _ (namespaces (c .before .before .before .before .before .before)) (c .before .before .fill-first-bytes .ensures)
 

@@ -1,69 +1,55 @@
 use mathlib.Core.Path.{_∙_}
 use Rattle.graph.specs.Check.{graphIn}
 use Rattle.run_parts.proofs.Working.{working-start, work-holds, work-short}
+use borrow.Author.Needs.{needs}
 use Rattle.run_parts.proofs.work.Statement.{statement}
 use Rattle.run_parts.proofs.work.Tie as tie
 
--- src/lib.rt:140:5
 clear-requires : tie.Need-clear-requires
-clear-requires c κs = _
+clear-requires c κs = search needs
 
--- src/lib.rt:141:11
 stages-requires : tie.Need-stages-requires
 unfolding graphIn
-stages-requires c κs = let s = c .before .before .before .before .before .before .before .before .before .before .before .before .before .before .before .before .before in (s .pre .0, (working-start _ (s .args .marks .now) (s .args .lines .now) _ _ _ (s .pre .1 .0 .0) (s .pre .1 .0 .1) (s .pre .1 .0 .2) (c .before .before .before .before .before .before .before .before .clear .ensures .0) (c .before .before .before .before .before .before .before .before .clear .ensures .1), s .pre .1 .1))
+stages-requires c κs = (c .before .before .before .before .before .before .before .before .before .before .before .before .before .before .before .before .before .pre .0, (working-start _ (c .before .before .before .before .before .before .before .before .before .before .before .before .before .before .before .before .before .args .marks .now) (c .before .before .before .before .before .before .before .before .before .before .before .before .before .before .before .before .before .args .lines .now) _ _ _ (c .before .before .before .before .before .before .before .before .before .before .before .before .before .before .before .before .before .pre .1 .0 .0) (c .before .before .before .before .before .before .before .before .before .before .before .before .before .before .before .before .before .pre .1 .0 .1) (c .before .before .before .before .before .before .before .before .before .before .before .before .before .before .before .before .before .pre .1 .0 .2) (c .before .before .before .before .before .before .before .before .clear .ensures .0) (c .before .before .before .before .before .before .before .before .clear .ensures .1), c .before .before .before .before .before .before .before .before .before .before .before .before .before .before .before .before .before .pre .1 .1))
 
--- src/lib.rt:143:32
 enum-told : tie.Need-enum-told
-enum-told c = c .match .keys1
+enum-told c = search needs
 
--- src/lib.rt:143:13
 clear-requires-2 : tie.Need-clear-requires-2
-clear-requires-2 c κs = _
+clear-requires-2 c κs = search needs
 
--- src/lib.rt:146:28
-enum-known-users : tie.Need-enum-known-users
-enum-known-users c = c .match .keys2
+enum-known-x : tie.Need-enum-known-x
+enum-known-x c = search needs
 
--- src/lib.rt:127:1
 same-length : tie.Need-same-length
-same-length c = c .before .before .before .before .before .before .before .before .before .before .before .before .before .before .before .before .before .stages .kept .1 .1 .0
+same-length c = search needs
 
--- src/lib.rt:127:1
 same-length-2 : tie.Need-same-length-2
-same-length-2 c = c .before .before .before .before .clear2 .kept .0 ∙ (c .before .before .before .before .before .before .before .before .before .before .before .before .before .before .before .before .before .stages .kept .1 .1 .1 .0 ∙ c .before .before .before .before .before .before .before .before .before .before .before .before .before .before .before .before .before .before .before .before .before .before .before .before .before .before .clear .kept .0)
+same-length-2 c = search needs
 
--- src/lib.rt:127:1
 same-length-3 : tie.Need-same-length-3
-same-length-3 c = c .before .before .before .before .clear2 .kept .1 .0 ∙ (c .before .before .before .before .before .before .before .before .before .before .before .before .before .before .before .before .before .stages .kept .1 .1 .1 .1 .0 ∙ c .before .before .before .before .before .before .before .before .before .before .before .before .before .before .before .before .before .before .before .before .before .before .before .before .before .before .clear .kept .1 .0)
+same-length-3 c = search needs
 
--- src/lib.rt:127:1
 same-length-4 : tie.Need-same-length-4
-same-length-4 c = c .before .before .before .before .before .before .before .before .before .before .before .before .before .before .before .before .before .stages .kept .1 .1 .1 .1 .1 .0
+same-length-4 c = search needs
 
--- src/lib.rt:127:1
 returns : tie.Need-returns
-returns c = work-short _ _ _ _ _ _ _ (c .before .before .before .before .before .before .before .before .before .before .before .before .before .before .before .before .before .stages .ensures) _ _ (c .before .before .before .before .before .before .before .enum-told .given .1) (c .before .before .before .before .before .before .before .before .before .before .before .before .before .before .before .before .before .stages .kept .1 .1 .1 .0 ∙ c .before .before .before .before .before .before .before .before .before .before .before .before .before .before .before .before .before .before .before .before .before .before .before .before .before .before .clear .kept .0) (c .before .before .before .before .before .before .before .before .before .before .before .before .before .before .before .before .before .stages .kept .1 .1 .1 .1 .0 ∙ c .before .before .before .before .before .before .before .before .before .before .before .before .before .before .before .before .before .before .before .before .before .before .before .before .before .before .clear .kept .1 .0) (c .before .before .before .before .clear2 .ensures .0) (c .before .before .before .before .clear2 .ensures .1)
+returns c = work-short _ _ _ _ _ _ _ _ (c .before .before .before .before .before .before .before .before .before .before .before .before .before .before .before .before .before .stages .ensures) _ _ (c .before .before .before .before .before .before .before .enum-told .given .1) (c .before .before .before .before .before .before .before .before .before .before .before .before .before .before .before .before .before .stages .kept .1 .1 .1 .0 ∙ c .before .before .before .before .before .before .before .before .before .before .before .before .before .before .before .before .before .before .before .before .before .before .before .before .before .before .clear .kept .0) (c .before .before .before .before .before .before .before .before .before .before .before .before .before .before .before .before .before .stages .kept .1 .1 .1 .1 .0 ∙ c .before .before .before .before .before .before .before .before .before .before .before .before .before .before .before .before .before .before .before .before .before .before .before .before .before .before .clear .kept .1 .0) (c .before .before .before .before .clear2 .ensures .0) (c .before .before .before .before .clear2 .ensures .1)
 
--- src/lib.rt:127:1
 same-length-5 : tie.Need-same-length-5
-same-length-5 c = c .before .before .before .before .before .before .before .before .before .before .before .stages .kept .1 .1 .0
+same-length-5 c = search needs
 
--- src/lib.rt:127:1
 same-length-6 : tie.Need-same-length-6
-same-length-6 c = c .before .before .before .before .before .before .before .before .before .before .before .stages .kept .1 .1 .1 .0 ∙ c .before .before .before .before .before .before .before .before .before .before .before .before .before .before .before .before .before .before .before .before .clear .kept .0
+same-length-6 c = search needs
 
--- src/lib.rt:127:1
 same-length-7 : tie.Need-same-length-7
-same-length-7 c = c .before .before .before .before .before .before .before .before .before .before .before .stages .kept .1 .1 .1 .1 .0 ∙ c .before .before .before .before .before .before .before .before .before .before .before .before .before .before .before .before .before .before .before .before .clear .kept .1 .0
+same-length-7 c = search needs
 
--- src/lib.rt:127:1
 same-length-8 : tie.Need-same-length-8
-same-length-8 c = c .before .before .before .before .before .before .before .before .before .before .before .stages .kept .1 .1 .1 .1 .1 .0
+same-length-8 c = search needs
 
--- src/lib.rt:127:1
 returns-2 : tie.Need-returns-2
-returns-2 c = work-holds _ _ _ _ _ _ _ (c .before .before .before .before .before .before .before .before .before .before .before .stages .ensures) (c .before .users .given .1)
+returns-2 c = work-holds _ _ _ _ _ _ _ _ (c .before .before .before .before .before .before .before .before .before .before .before .stages .ensures) (c .before .x .given .1)
 
 pub work-spec : {M : Type 1} → statement M
 work-spec =
@@ -73,7 +59,7 @@ work-spec =
     stages-requires
     enum-told
     clear-requires-2
-    enum-known-users
+    enum-known-x
     same-length
     same-length-2
     same-length-3

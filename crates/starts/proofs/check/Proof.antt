@@ -15,91 +15,69 @@ Inv-loop numbers tables starts total i₀ i = (i ≤ total) × (startsFault (gra
 abbrev μ-loop : tie.MeasureT-loop
 μ-loop numbers tables starts total i₀ i = total - i
 
--- src/lib.rt:104:9
 returns : tie.Need-returns Inv-loop μ-loop
 returns c = odd-checked _ _ (c .if1 .taken)
 
--- src/lib.rt:108:5
 loop-holds : tie.Need-loop-holds Inv-loop μ-loop
 loop-holds c = (omega arith, starts-begin _ _)
 
--- src/lib.rt:109:17
 mul-p : tie.Need-mul-p Inv-loop μ-loop
 mul-p c = search needs
 
--- src/lib.rt:113:24
 mul-wide : tie.Need-mul-wide Inv-loop μ-loop
 mul-wide c = search needs
 
--- src/lib.rt:113:24
 shared-slice-read-wide : tie.Need-shared-slice-read-wide Inv-loop μ-loop
 shared-slice-read-wide c = search needs
 
--- src/lib.rt:113:13
 wide-requires : tie.Need-wide-requires Inv-loop μ-loop
 wide-requires c κs = search needs
 
--- src/lib.rt:114:31
 add-wide : tie.Need-add-wide Inv-loop μ-loop
 add-wide c = search needs
 
--- src/lib.rt:114:24
 mul-wide-2 : tie.Need-mul-wide-2 Inv-loop μ-loop
 mul-wide-2 c = search needs
 
--- src/lib.rt:114:24
 shared-slice-read-wide-2 : tie.Need-shared-slice-read-wide-2 Inv-loop μ-loop
 shared-slice-read-wide-2 c = search needs
 
--- src/lib.rt:114:13
 wide-requires-2 : tie.Need-wide-requires-2 Inv-loop μ-loop
 wide-requires-2 c κs = search needs
 
--- src/lib.rt:115:31
 add-wide-2 : tie.Need-add-wide-2 Inv-loop μ-loop
 add-wide-2 c = search needs
 
--- src/lib.rt:115:24
 mul-wide-3 : tie.Need-mul-wide-3 Inv-loop μ-loop
 mul-wide-3 c = search needs
 
--- src/lib.rt:115:24
 shared-slice-read-wide-3 : tie.Need-shared-slice-read-wide-3 Inv-loop μ-loop
 shared-slice-read-wide-3 c = search needs
 
--- src/lib.rt:115:13
 wide-requires-3 : tie.Need-wide-requires-3 Inv-loop μ-loop
 wide-requires-3 c κs = search needs
 
--- src/lib.rt:110:13
 start-fault-requires : tie.Need-start-fault-requires Inv-loop μ-loop
 start-fault-requires c κs = search needs
 
--- src/lib.rt:118:35
 add-t27 : tie.Need-add-t27 Inv-loop μ-loop
 add-t27 c = let s : c .before .start-fault .result ≤ 3 = rw (c .before .start-fault .ensures) (fault-small _ _ _ _) in let l : 3 * c .before .before .before .before .before .before .before .before .before .loop .i + 2 < length (c .before .before .before .before .before .before .before .before .before .before .before .before .before .before .args .starts .now) = omega (arith, c .before .before .before .before .before .before .before .before .loop-test .taken) in record { fits = omega (arith, s, l) }
 
--- src/lib.rt:118:35
 sub-t28 : tie.Need-sub-t28 Inv-loop μ-loop
 sub-t28 c = let n = c .if2 .taken in omega (arith, n)
 
--- src/lib.rt:118:13
 returns-2 : tie.Need-returns-2 Inv-loop μ-loop
 returns-2 c = stop-checked _ _ _ _ (c .before .before .before .before .before .before .before .before .before .before .if1 .left) (c .before .before .before .before .before .before .before .before .loop-test .taken) (c .before .before .before .before .before .before .before .before .before .loop .inv .1) (fault-read _ _ _ _ _ _ _ (c .before .before .before .before .before .before .wide .ensures) (c .before .before .before .before .wide2 .ensures) (c .before .before .wide3 .ensures) (c .before .start-fault .ensures)) (c .if2 .taken)
 
--- src/lib.rt:120:9
 add-i : tie.Need-add-i Inv-loop μ-loop
 add-i c = search needs
 
--- src/lib.rt:108:5
 loop-less : tie.Need-loop-less Inv-loop μ-loop
 loop-less c = omega (arith, c .before .before .before .before .before .before .before .before .loop-test .taken)
 
--- src/lib.rt:108:5
 loop-again : tie.Need-loop-again Inv-loop μ-loop
 loop-again c = (omega (arith, c .before .before .before .before .before .before .before .before .loop-test .taken), turn-checked _ _ _ _ (c .before .before .before .before .before .before .before .before .before .before .if1 .left) (c .before .before .before .before .before .before .before .before .loop-test .taken) (c .before .before .before .before .before .before .before .before .before .loop .inv .1) (fault-read _ _ _ _ _ _ _ (c .before .before .before .before .before .before .wide .ensures) (c .before .before .before .before .wide2 .ensures) (c .before .before .wide3 .ensures) (c .before .start-fault .ensures)) (c .if2 .left))
 
--- src/lib.rt:99:1
 returns-3 : tie.Need-returns-3 Inv-loop μ-loop
 returns-3 c = end-checked _ _ _ (c .before .before .if1 .left) (omega (arith, c .loop-test .left)) (c .before .loop .inv .1)
 

@@ -5,20 +5,16 @@ use borrow.Author.Needs.{needs}
 use Rattle.starts.proofs.is_normal_index.Statement.{statement}
 use Rattle.starts.proofs.is_normal_index.Tie as tie
 
--- src/lib.rt:19:9
 header-of-requires : tie.Need-header-of-requires
 header-of-requires c κs = search needs
 
--- src/lib.rt:21:9
 returns : tie.Need-returns
 returns c = kept-out _ _ (omega (arith, c .if1 .taken, modules-are _ (c .before .before .header-of .ensures)))
 
--- src/lib.rt:23:5
 is-normal-requires : tie.Need-is-normal-requires
 unfolding graphIn
 is-normal-requires c κs = (c .before .before .before .before .before .pre, omega (arith, c .if1 .left, modules-are _ (c .before .before .header-of .ensures)))
 
--- src/lib.rt:15:1
 returns-2 : tie.Need-returns-2
 returns-2 c = kept-in _ _ _ (omega (arith, c .before .if1 .left, modules-are _ (c .before .before .before .header-of .ensures))) (c .is-normal .ensures)
 

@@ -7,24 +7,19 @@ use borrow.Author.Needs.{needs}
 use Rattle.starts.proofs.statement_fault.Statement.{statement}
 use Rattle.starts.proofs.statement_fault.Tie as tie
 
--- src/lib.rt:31:9
 is-normal-index-requires : tie.Need-is-normal-index-requires
 is-normal-index-requires c κs = search needs
 
--- src/lib.rt:32:9
 returns : tie.Need-returns
 returns c = statement-not _ _ _ (sym (c .before .is-normal-index .ensures) ∙ not-true _ (c .if1 .taken))
 
--- src/lib.rt:34:12
 statement-count-requires : tie.Need-statement-count-requires
 unfolding graphIn
 statement-count-requires c κs = (c .before .before .before .before .pre, kept-both _ _ (sym (c .before .is-normal-index .ensures) ∙ not-false _ (c .if1 .left)) .0)
 
--- src/lib.rt:35:9
 returns-2 : tie.Need-returns-2
 returns-2 c = statement-in _ _ _ (sym (c .before .before .before .is-normal-index .ensures) ∙ not-false _ (c .before .before .if1 .left)) (omega (arith, c .if2 .taken, c .before .statement-count .ensures))
 
--- src/lib.rt:27:1
 returns-3 : tie.Need-returns-3
 returns-3 c = statement-out _ _ _ (sym (c .before .before .before .is-normal-index .ensures) ∙ not-false _ (c .before .before .if1 .left)) (omega (arith, c .if2 .left, c .before .statement-count .ensures))
 

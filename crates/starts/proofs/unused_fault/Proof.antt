@@ -2,11 +2,9 @@ use Rattle.starts.proofs.Starting.{unused-none, unused-some}
 use Rattle.starts.proofs.unused_fault.Statement.{statement}
 use Rattle.starts.proofs.unused_fault.Tie as tie
 
--- src/lib.rt:63:9
 returns : tie.Need-returns
 returns c = unused-none _ (c .if1 .taken)
 
--- src/lib.rt:59:1
 returns-2 : tie.Need-returns-2
 returns-2 c = unused-some _ (c .if1 .left)
 

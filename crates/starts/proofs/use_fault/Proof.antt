@@ -4,23 +4,18 @@ use borrow.Author.Needs.{needs}
 use Rattle.starts.proofs.use_fault.Statement.{statement}
 use Rattle.starts.proofs.use_fault.Tie as tie
 
--- src/lib.rt:45:9
 header-of-requires : tie.Need-header-of-requires
 header-of-requires c κs = search needs
 
--- src/lib.rt:47:9
 returns : tie.Need-returns
 returns c = use-out _ _ _ (omega (arith, c .if1 .taken, symbols-are _ (c .before .before .header-of .ensures)))
 
--- src/lib.rt:50:9
 returns-2 : tie.Need-returns-2
 returns-2 c = use-none _ _ _ (omega (arith, c .before .if1 .left, symbols-are _ (c .before .before .before .header-of .ensures))) (c .if2 .taken)
 
--- src/lib.rt:53:9
 returns-3 : tie.Need-returns-3
 returns-3 c = use-in _ _ _ (omega (arith, c .before .before .if1 .left, symbols-are _ (c .before .before .before .before .header-of .ensures))) (c .before .if2 .left) (c .if3 .taken)
 
--- src/lib.rt:41:1
 returns-4 : tie.Need-returns-4
 returns-4 c = use-many _ _ _ (omega (arith, c .before .before .if1 .left, symbols-are _ (c .before .before .before .before .header-of .ensures))) (c .before .if2 .left) (omega (arith, c .if3 .left))
 

@@ -24,52 +24,40 @@ small c =
     let k = c .before .loop .k in
     omega (arith, c .before .loop .inv .sum, start-next h k, start-mono h (k + 1) 10 (omega (arith, c .loop-test .taken)), fits-all h Large (c .before .before .pre .1))
 
--- src/lib.rt:100:5
 loop-holds : tie.Need-loop-holds Inv-loop μ-loop
 loop-holds c = laying-start _ _
 
--- src/lib.rt:101:9
 mul-tables : tie.Need-mul-tables Inv-loop μ-loop
 mul-tables c = search needs
 
--- src/lib.rt:101:9
 slice-write-tables : tie.Need-slice-write-tables Inv-loop μ-loop
 slice-write-tables c = omega (arith, c .loop-test .taken, c .before .loop .inv .same-length, c .before .before .pre .0)
 
--- src/lib.rt:102:15
 mul-at : tie.Need-mul-at Inv-loop μ-loop
 mul-at c = search needs
 
--- src/lib.rt:102:15
 array-read-at : tie.Need-array-read-at Inv-loop μ-loop
 array-read-at c = search needs
 
--- src/lib.rt:102:9
 add-at : tie.Need-add-at Inv-loop μ-loop
 unfolding sizes
 add-at c = omega (arith, small c)
 
--- src/lib.rt:103:9
 add-k : tie.Need-add-k Inv-loop μ-loop
 add-k c = search needs
 
--- src/lib.rt:100:5
 loop-less : tie.Need-loop-less Inv-loop μ-loop
 loop-less c = omega (arith, c .loop-test .taken)
 
--- src/lib.rt:100:5
 loop-again : tie.Need-loop-again Inv-loop μ-loop
 loop-again c = laying-step _ _ _ _ _ (c .before .loop .inv) (c .before .before .pre .0) (c .loop-test .taken)
 
--- src/lib.rt:105:5
 slice-write-tables-2 : tie.Need-slice-write-tables-2 Inv-loop μ-loop
 slice-write-tables-2 c = omega (arith, c .before .loop .inv .same-length, c .before .before .pre .0)
 
--- src/lib.rt:82:1
 same-length : tie.Need-same-length Inv-loop μ-loop
 same-length c = length-set (c .before .loop .tables) 10 (c .before .loop .at) ∙ c .before .loop .inv .same-length
 
--- src/lib.rt:82:1
 returns : tie.Need-returns Inv-loop μ-loop
 unfolding startOf sizes
 returns c = laying-end _ _ _ _ _ (c .before .loop .inv) (c .before .before .pre .0) (c .loop-test .left)

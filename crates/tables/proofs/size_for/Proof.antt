@@ -2,23 +2,18 @@ use borrow.Author.Needs.{needs}
 use Rattle.tables.proofs.size_for.Statement.{statement}
 use Rattle.tables.proofs.size_for.Tie as tie
 
--- src/lib.rt:56:8
 holds-requires : tie.Need-holds-requires
 holds-requires c κs = search needs
 
--- src/lib.rt:57:9
 returns : tie.Need-returns
 returns c = c .before .holds .ensures (c .if1 .taken)
 
--- src/lib.rt:59:8
 holds-requires-2 : tie.Need-holds-requires-2
 holds-requires-2 c κs = search needs
 
--- src/lib.rt:60:9
 returns-2 : tie.Need-returns-2
 returns-2 c = c .before .holds2 .ensures (c .if2 .taken)
 
--- src/lib.rt:52:1
 returns-3 : tie.Need-returns-3
 returns-3 c = search needs
 

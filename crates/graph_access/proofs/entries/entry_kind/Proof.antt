@@ -4,11 +4,9 @@ use borrow.Author.Needs.{needs}
 use Rattle.graph_access.proofs.entries.entry_kind.Statement.{statement}
 use Rattle.graph_access.proofs.entries.entry_kind.Tie as tie
 
--- src/entries.rt:42:5
 number-requires : tie.Need-number-requires
 number-requires c κs = search needs
 
--- src/entries.rt:37:1
 returns : tie.Need-returns
 unfolding entryKind
 returns c = let s = c .before .before .before in found-below (c .number .ensures) (entry-kind-below (s .pre .0) _ (s .pre .1))

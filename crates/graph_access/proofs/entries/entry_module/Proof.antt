@@ -4,11 +4,9 @@ use borrow.Author.Needs.{needs}
 use Rattle.graph_access.proofs.entries.entry_module.Statement.{statement}
 use Rattle.graph_access.proofs.entries.entry_module.Tie as tie
 
--- src/entries.rt:33:15
 number-requires : tie.Need-number-requires
 number-requires c κs = search needs
 
--- src/entries.rt:28:1
 returns : tie.Need-returns
 unfolding entryModule
 returns c = let s = c .before .before .before in found-below (c .number .ensures) (entry-module-below (s .pre .0) _ (s .pre .1))

@@ -19,35 +19,27 @@ table c = let s = c .before .before .before in rw (c .section .ensures) (s .pre 
 here : (c : tie.After-section) → let s = c .before .before .before in getD (c .section .result .now) (s .args .e .0) 0 + s .args .i < length (s .args .numbers .now)
 here c = let s = c .before .before .before in number-inside _ _ (table c) _ (s .pre .1 .0) _ (s .pre .1 .1)
 
--- src/entries.rt:21:9
 section-requires : tie.Need-section-requires
 section-requires c κs = inside (c .before .before .pre .0 .laid) 4 (omega arith)
 
--- src/entries.rt:23:13
 mul-p : tie.Need-mul-p
 mul-p c = search needs
 
--- src/entries.rt:23:13
 shared-slice-read-p : tie.Need-shared-slice-read-p
 shared-slice-read-p c = let s = c .before .before .before .before in omega (arith, table (c .before) .long, s .pre .1 .0)
 
--- src/entries.rt:24:24
 add-wide : tie.Need-add-wide
 add-wide c = omega (arith, here (c .before))
 
--- src/entries.rt:24:16
 mul-wide : tie.Need-mul-wide
 mul-wide c = omega (arith, here (c .before))
 
--- src/entries.rt:24:16
 shared-slice-read-wide : tie.Need-shared-slice-read-wide
 shared-slice-read-wide c = omega (arith, here (c .before .before))
 
--- src/entries.rt:24:5
 wide-requires : tie.Need-wide-requires
 wide-requires c κs = search needs
 
--- src/entries.rt:16:1
 returns : tie.Need-returns
 unfolding entryOf graphIn
 returns c = let s = c .before .before .before .before .before .before in c .wide .ensures ∙ number-same _ _ (table (c .before .before .before)) _ (s .pre .1 .0) _ (s .pre .1 .1)

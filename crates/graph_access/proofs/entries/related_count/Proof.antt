@@ -20,35 +20,27 @@ table c = let s = c .before .before .before in rw (c .section .ensures) (s .pre 
 here : (c : tie.After-section) → let s = c .before .before .before in getD (c .section .result .now) (s .args .e .0) 0 + 2 < length (s .args .numbers .now)
 here c = let s = c .before .before .before in count-inside _ _ (table c) _ (s .pre .1)
 
--- src/entries.rt:51:9
 section-requires : tie.Need-section-requires
 section-requires c κs = inside (c .before .before .pre .0 .laid) 4 (omega arith)
 
--- src/entries.rt:53:13
 mul-p : tie.Need-mul-p
 mul-p c = search needs
 
--- src/entries.rt:53:13
 shared-slice-read-p : tie.Need-shared-slice-read-p
 shared-slice-read-p c = let s = c .before .before .before .before in omega (arith, table (c .before) .long, s .pre .1)
 
--- src/entries.rt:54:24
 add-wide : tie.Need-add-wide
 add-wide c = omega (arith, here (c .before))
 
--- src/entries.rt:54:16
 mul-wide : tie.Need-mul-wide
 mul-wide c = omega (arith, here (c .before))
 
--- src/entries.rt:54:16
 shared-slice-read-wide : tie.Need-shared-slice-read-wide
 shared-slice-read-wide c = omega (arith, here (c .before .before))
 
--- src/entries.rt:54:5
 wide-requires : tie.Need-wide-requires
 wide-requires c κs = search needs
 
--- src/entries.rt:46:1
 returns : tie.Need-returns
 unfolding related entryOf graphIn
 returns c = let s = c .before .before .before .before .before .before in c .wide .ensures ∙ count-same _ _ (table (c .before .before .before)) _ (s .pre .1)

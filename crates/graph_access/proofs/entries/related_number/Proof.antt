@@ -21,47 +21,36 @@ here : (c : tie.After-section) → let s = c .before .before .before in getD (c 
 unfolding related entryOf graphIn
 here c = let s = c .before .before .before in related-inside _ _ (table c) _ (s .pre .1 .0) _ (s .pre .1 .1) _ (s .pre .1 .2)
 
--- src/entries.rt:69:9
 section-requires : tie.Need-section-requires
 section-requires c κs = inside (c .before .before .pre .0 .laid) 4 (omega arith)
 
--- src/entries.rt:71:13
 mul-p : tie.Need-mul-p
 mul-p c = search needs
 
--- src/entries.rt:71:13
 shared-slice-read-p : tie.Need-shared-slice-read-p
 shared-slice-read-p c = let s = c .before .before .before .before in omega (arith, table (c .before) .long, s .pre .1 .0)
 
--- src/entries.rt:72:24
 add-wide : tie.Need-add-wide
 add-wide c = omega (arith, here (c .before))
 
--- src/entries.rt:72:32
 mul-wide : tie.Need-mul-wide
 mul-wide c = omega (arith, here (c .before))
 
--- src/entries.rt:72:24
 add-wide-2 : tie.Need-add-wide-2
 add-wide-2 c = omega (arith, here (c .before))
 
--- src/entries.rt:72:24
 add-wide-3 : tie.Need-add-wide-3
 add-wide-3 c = omega (arith, here (c .before))
 
--- src/entries.rt:72:16
 mul-wide-2 : tie.Need-mul-wide-2
 mul-wide-2 c = omega (arith, here (c .before))
 
--- src/entries.rt:72:16
 shared-slice-read-wide : tie.Need-shared-slice-read-wide
 shared-slice-read-wide c = omega (arith, here (c .before .before))
 
--- src/entries.rt:72:5
 wide-requires : tie.Need-wide-requires
 wide-requires c κs = search needs
 
--- src/entries.rt:58:1
 returns : tie.Need-returns
 unfolding related entryOf graphIn
 returns c = let s = c .before .before .before .before .before .before in c .wide .ensures ∙ related-same _ _ (table (c .before .before .before)) _ (s .pre .1 .0) _ (s .pre .1 .1) _ (s .pre .1 .2)

@@ -5,23 +5,18 @@ use borrow.Author.Needs.{needs}
 use Rattle.graph_access.proofs.helpers.helper_symbol.Statement.{statement}
 use Rattle.graph_access.proofs.helpers.helper_symbol.Tie as tie
 
--- src/helpers.rt:18:34
 add-wide : tie.Need-add-wide
 add-wide c = let s = c .before .before in omega (arith, helper-there (s .pre .0) _ (s .pre .1))
 
--- src/helpers.rt:18:26
 mul-wide : tie.Need-mul-wide
 mul-wide c = let s = c .before .before in omega (arith, helper-there (s .pre .0) _ (s .pre .1))
 
--- src/helpers.rt:18:26
 shared-slice-read-wide : tie.Need-shared-slice-read-wide
 shared-slice-read-wide c = let s = c .before .before .before in omega (arith, helper-there (s .pre .0) _ (s .pre .1))
 
--- src/helpers.rt:18:15
 wide-requires : tie.Need-wide-requires
 wide-requires c κs = search needs
 
--- src/helpers.rt:13:1
 returns : tie.Need-returns
 returns c = let s = c .before .before .before .before in found-below (c .wide .ensures ∙ helper-is (s .pre .0) _ (s .pre .1)) (helper-symbol-below (s .pre .0) _ (s .pre .1))
 

@@ -8,28 +8,22 @@ use borrow.Author.Needs.{needs}
 use Rattle.graph_access.proofs.lists.module_list.Statement.{statement}
 use Rattle.graph_access.proofs.lists.module_list.Tie as tie
 
--- src/lists.rt:32:13
 mul-p : tie.Need-mul-p
 mul-p c = search needs
 
--- src/lists.rt:32:13
 shared-slice-read-p : tie.Need-shared-slice-read-p
 shared-slice-read-p c = let s = c .before .before .before in omega (arith, s .pre .0 .long, s .pre .1 .0)
 
--- src/lists.rt:33:25
 add-list-place : tie.Need-add-list-place
 add-list-place c = let s = c .before .before .before in omega (arith, at-inside _ _ (s .pre .0) _ (s .pre .1 .0) 11 (omega arith))
 
--- src/lists.rt:33:33
 slice-aggregate-list-place : tie.Need-slice-aggregate-list-place
 slice-aggregate-list-place c = search needs
 
--- src/lists.rt:33:5
 list-place-requires : tie.Need-list-place-requires
 unfolding moduleWidths
 list-place-requires c κs = let s = c .before .before .before .before in rw (its-place _ _ (s .pre .0) _ (s .pre .1 .0)) (module-inside _ _ (s .pre .0) _ (s .pre .1 .0) _ (s .pre .1 .1))
 
--- src/lists.rt:26:1
 returns : tie.Need-returns
 unfolding moduleWidths
 returns c = let s = c .before .before .before .before .before in c .list-place .ensures ∙ ap (λ p. placeOf (s .args .numbers .now) (p + 12) moduleWidths (s .args .j)) (its-place _ _ (s .pre .0) _ (s .pre .1 .0))

@@ -16,23 +16,18 @@ use Rattle.graph_access.proofs.lists.module_list_length.Tie as tie
 its : (c : tie.After-module-list) → let s = c .before .before .before in Stands (s .args .numbers .now) (c .module-list .result) (getD moduleWidths (s .args .j) 0) (getD (getD (modulesIn (s .args .numbers .now)) (s .args .m) noItem .rows) (s .args .j) [])
 its c = let s = c .before .before .before in rw (c .module-list .ensures) (module-stands _ _ (s .pre .0) _ (s .pre .1 .0) _ (s .pre .1 .1))
 
--- src/lists.rt:42:9
 module-list-requires : tie.Need-module-list-requires
 module-list-requires c κs = search needs
 
--- src/lists.rt:43:16
 mul-wide : tie.Need-mul-wide
 mul-wide c = omega (arith, its c .inside)
 
--- src/lists.rt:43:16
 shared-slice-read-wide : tie.Need-shared-slice-read-wide
 shared-slice-read-wide c = its (c .before) .inside
 
--- src/lists.rt:43:5
 wide-requires : tie.Need-wide-requires
 wide-requires c κs = search needs
 
--- src/lists.rt:37:1
 returns : tie.Need-returns
 returns c = c .wide .ensures ∙ its (c .before .before) .counted
 

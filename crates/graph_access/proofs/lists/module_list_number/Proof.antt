@@ -16,52 +16,41 @@ use Rattle.graph_access.proofs.lists.module_list_number.Tie as tie
 its : (c : tie.After-module-list) → let s = c .before .before .before in Stands (s .args .numbers .now) (c .module-list .result) (getD moduleWidths (s .args .j) 0) (getD (getD (modulesIn (s .args .numbers .now)) (s .args .m) noItem .rows) (s .args .j) [])
 its c = let s = c .before .before .before in rw (c .module-list .ensures) (module-stands _ _ (s .pre .0) _ (s .pre .1 .0) _ (s .pre .1 .1))
 
--- src/lists.rt:60:9
 module-list-requires : tie.Need-module-list-requires
 module-list-requires c κs = search needs
 
--- src/lists.rt:61:24
 add-wide : tie.Need-add-wide
 add-wide c = omega (arith, its c .inside)
 
--- src/lists.rt:61:32
 mul-wide : tie.Need-mul-wide
 mul-wide c = search needs
 
--- src/lists.rt:61:32
 array-read-wide : tie.Need-array-read-wide
 array-read-wide c = search needs
 
--- src/lists.rt:61:32
 mul-wide-2 : tie.Need-mul-wide-2
 unfolding moduleWidths
 mul-wide-2 c = let s = c .before .before .before in omega (arith, its c .here _ _ (s .pre .1 .2) (s .pre .1 .3))
 
--- src/lists.rt:61:24
 add-wide-2 : tie.Need-add-wide-2
 unfolding moduleWidths
 add-wide-2 c = let s = c .before .before .before in omega (arith, its c .here _ _ (s .pre .1 .2) (s .pre .1 .3))
 
--- src/lists.rt:61:24
 add-wide-3 : tie.Need-add-wide-3
 unfolding moduleWidths
 add-wide-3 c = let s = c .before .before .before in omega (arith, its c .here _ _ (s .pre .1 .2) (s .pre .1 .3))
 
--- src/lists.rt:61:16
 mul-wide-3 : tie.Need-mul-wide-3
 unfolding moduleWidths
 mul-wide-3 c = let s = c .before .before .before in omega (arith, its c .here _ _ (s .pre .1 .2) (s .pre .1 .3))
 
--- src/lists.rt:61:16
 shared-slice-read-wide : tie.Need-shared-slice-read-wide
 unfolding moduleWidths
 shared-slice-read-wide c = let s = c .before .before .before .before in its (c .before) .here _ _ (s .pre .1 .2) (s .pre .1 .3)
 
--- src/lists.rt:61:5
 wide-requires : tie.Need-wide-requires
 wide-requires c κs = search needs
 
--- src/lists.rt:47:1
 returns : tie.Need-returns
 unfolding moduleWidths
 returns c = let s = c .before .before .before .before .before in c .wide .ensures ∙ sym (its (c .before .before) .same _ _ (s .pre .1 .2) (s .pre .1 .3))

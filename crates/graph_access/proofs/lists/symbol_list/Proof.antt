@@ -8,28 +8,22 @@ use borrow.Author.Needs.{needs}
 use Rattle.graph_access.proofs.lists.symbol_list.Statement.{statement}
 use Rattle.graph_access.proofs.lists.symbol_list.Tie as tie
 
--- src/lists.rt:71:13
 mul-p : tie.Need-mul-p
 mul-p c = search needs
 
--- src/lists.rt:71:13
 shared-slice-read-p : tie.Need-shared-slice-read-p
 shared-slice-read-p c = let s = c .before .before .before in omega (arith, s .pre .0 .long, s .pre .1 .0)
 
--- src/lists.rt:72:25
 add-list-place : tie.Need-add-list-place
 add-list-place c = let s = c .before .before .before in omega (arith, symbol-inside _ _ (s .pre .0) _ (s .pre .1 .0) 5 (omega arith))
 
--- src/lists.rt:72:32
 slice-aggregate-list-place : tie.Need-slice-aggregate-list-place
 slice-aggregate-list-place c = search needs
 
--- src/lists.rt:72:5
 list-place-requires : tie.Need-list-place-requires
 unfolding symbolWidths
 list-place-requires c κs = let s = c .before .before .before .before in rw (symbol-place _ _ (s .pre .0) _ (s .pre .1 .0)) (symbol-lists-inside _ _ (s .pre .0) _ (s .pre .1 .0) _ (s .pre .1 .1))
 
--- src/lists.rt:65:1
 returns : tie.Need-returns
 unfolding symbolWidths
 returns c = let s = c .before .before .before .before .before in c .list-place .ensures ∙ ap (λ p. placeOf (s .args .numbers .now) (p + 6) symbolWidths (s .args .j)) (symbol-place _ _ (s .pre .0) _ (s .pre .1 .0))

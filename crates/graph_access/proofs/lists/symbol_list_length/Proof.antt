@@ -16,23 +16,18 @@ use Rattle.graph_access.proofs.lists.symbol_list_length.Tie as tie
 its : (c : tie.After-symbol-list) → let s = c .before .before .before in Stands (s .args .numbers .now) (c .symbol-list .result) (getD symbolWidths (s .args .j) 0) (getD (getD (symbolsIn (s .args .numbers .now)) (s .args .s) noItem .rows) (s .args .j) [])
 its c = let s = c .before .before .before in rw (c .symbol-list .ensures) (symbol-stands _ _ (s .pre .0) _ (s .pre .1 .0) _ (s .pre .1 .1))
 
--- src/lists.rt:81:9
 symbol-list-requires : tie.Need-symbol-list-requires
 symbol-list-requires c κs = search needs
 
--- src/lists.rt:82:16
 mul-wide : tie.Need-mul-wide
 mul-wide c = omega (arith, its c .inside)
 
--- src/lists.rt:82:16
 shared-slice-read-wide : tie.Need-shared-slice-read-wide
 shared-slice-read-wide c = its (c .before) .inside
 
--- src/lists.rt:82:5
 wide-requires : tie.Need-wide-requires
 wide-requires c κs = search needs
 
--- src/lists.rt:76:1
 returns : tie.Need-returns
 returns c = c .wide .ensures ∙ its (c .before .before) .counted
 

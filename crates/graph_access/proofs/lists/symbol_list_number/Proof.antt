@@ -31,31 +31,24 @@ spot p w k e = rw e (omega (arith, one-mul k))
 there : (c : tie.After-symbol-list) → let s = c .before .before .before in c .symbol-list .result + 1 + s .args .k < length (s .args .numbers .now)
 there c = let s = c .before .before .before in let w = one (s .args .j) (s .pre .1 .1) in rw (spot _ _ _ w) at (its c .here _ 0 (s .pre .1 .2) (omega (arith, w)))
 
--- src/lists.rt:91:9
 symbol-list-requires : tie.Need-symbol-list-requires
 symbol-list-requires c κs = search needs
 
--- src/lists.rt:92:24
 add-wide : tie.Need-add-wide
 add-wide c = omega (arith, its c .inside)
 
--- src/lists.rt:92:24
 add-wide-2 : tie.Need-add-wide-2
 add-wide-2 c = omega (arith, there c)
 
--- src/lists.rt:92:16
 mul-wide : tie.Need-mul-wide
 mul-wide c = omega (arith, there c)
 
--- src/lists.rt:92:16
 shared-slice-read-wide : tie.Need-shared-slice-read-wide
 shared-slice-read-wide c = there (c .before)
 
--- src/lists.rt:92:5
 wide-requires : tie.Need-wide-requires
 wide-requires c κs = search needs
 
--- src/lists.rt:86:1
 returns : tie.Need-returns
 returns c = let s = c .before .before .before .before .before in
     let w = one (s .args .j) (s .pre .1 .1) in

@@ -3,11 +3,9 @@ use borrow.Author.Needs.{needs}
 use Rattle.graph_access.proofs.modules.dependency_count.Statement.{statement}
 use Rattle.graph_access.proofs.modules.dependency_count.Tie as tie
 
--- src/modules.rt:233:5
 list-length-requires : tie.Need-list-length-requires
 list-length-requires c κs = search needs
 
--- src/modules.rt:228:1
 returns : tie.Need-returns
 unfolding dependencies
 returns c = c .list-length .ensures

@@ -4,11 +4,9 @@ use borrow.Author.Needs.{needs}
 use Rattle.graph_access.proofs.modules.effects.Statement.{statement}
 use Rattle.graph_access.proofs.modules.effects.Tie as tie
 
--- src/modules.rt:83:5
 number-requires : tie.Need-number-requires
 number-requires c κs = search needs
 
--- src/modules.rt:78:1
 returns : tie.Need-returns
 unfolding effects
 returns c = let s = c .before .before .before in found-below (c .number .ensures) (effects-below (s .pre .0) _ (s .pre .1))

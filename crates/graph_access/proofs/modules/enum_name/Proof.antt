@@ -4,12 +4,10 @@ use Rattle.graph_access.specs.Names.{enumMembers, enumName}
 use Rattle.graph_access.proofs.modules.enum_name.Statement.{statement}
 use Rattle.graph_access.proofs.modules.enum_name.Tie as tie
 
--- src/modules.rt:383:5
 list-number-requires : tie.Need-list-number-requires
 unfolding enumMembers moduleWidths
 list-number-requires c κs = let s = c .before .before in (s .pre .0, (s .pre .1 .0, omega arith, s .pre .1 .1, omega arith))
 
--- src/modules.rt:378:1
 returns : tie.Need-returns
 unfolding enumMembers enumName
 returns c = c .list-number .ensures

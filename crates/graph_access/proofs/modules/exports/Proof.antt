@@ -3,11 +3,9 @@ use borrow.Author.Needs.{needs}
 use Rattle.graph_access.proofs.modules.exports.Statement.{statement}
 use Rattle.graph_access.proofs.modules.exports.Tie as tie
 
--- src/modules.rt:92:5
 number-requires : tie.Need-number-requires
 number-requires c κs = search needs
 
--- src/modules.rt:87:1
 returns : tie.Need-returns
 unfolding exports
 returns c = c .number .ensures

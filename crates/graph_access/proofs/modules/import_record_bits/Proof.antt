@@ -4,12 +4,10 @@ use Rattle.graph_access.specs.Names.{importRecords, importRecordBits}
 use Rattle.graph_access.proofs.modules.import_record_bits.Statement.{statement}
 use Rattle.graph_access.proofs.modules.import_record_bits.Tie as tie
 
--- src/modules.rt:224:5
 list-number-requires : tie.Need-list-number-requires
 unfolding importRecords moduleWidths
 list-number-requires c κs = let s = c .before .before in (s .pre .0, (s .pre .1 .0, omega arith, s .pre .1 .1, omega arith))
 
--- src/modules.rt:214:1
 returns : tie.Need-returns
 unfolding importRecords importRecordBits
 returns c = c .list-number .ensures

@@ -5,12 +5,10 @@ use Rattle.graph_access.proofs.Indexes.{found-at-most, record-target-be
 use Rattle.graph_access.proofs.modules.import_record_target.Statement.{statement}
 use Rattle.graph_access.proofs.modules.import_record_target.Tie as tie
 
--- src/modules.rt:196:5
 list-number-requires : tie.Need-list-number-requires
 unfolding importRecords moduleWidths
 list-number-requires c κs = let s = c .before .before in (s .pre .0, (s .pre .1 .0, omega arith, s .pre .1 .1, omega arith))
 
--- src/modules.rt:186:1
 returns : tie.Need-returns
 unfolding importRecords importRecordTarget
 returns c = let s = c .before .before .before in found-at-most (c .list-number .ensures) (record-target-below (s .pre .0) _ _ (s .pre .1 .0) (s .pre .1 .1))

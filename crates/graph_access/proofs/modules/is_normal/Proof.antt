@@ -6,11 +6,9 @@ use borrow.Author.Needs.{needs}
 use Rattle.graph_access.proofs.modules.is_normal.Statement.{statement}
 use Rattle.graph_access.proofs.modules.is_normal.Tie as tie
 
--- src/modules.rt:74:5
 number-requires : tie.Need-number-requires
 number-requires c κs = search needs
 
--- src/modules.rt:69:1
 returns : tie.Need-returns
 unfolding normal kind
 returns c = ap (λ n. eqb n 1) (c .number .ensures)

@@ -6,15 +6,12 @@ use Rattle.graph_access.proofs.Indexes.{found-at-most, module-list-few}
 use Rattle.graph_access.proofs.modules.list_length.Statement.{statement}
 use Rattle.graph_access.proofs.modules.list_length.Tie as tie
 
--- src/modules.rt:49:40
 section-requires : tie.Need-section-requires
 section-requires c κs = inside (c .before .before .pre .0 .laid) 0 (omega arith)
 
--- src/modules.rt:49:5
 module-list-length-requires : tie.Need-module-list-length-requires
 module-list-length-requires c κs = let s = c .before .before .before in (rw (c .section .ensures) (s .pre .0 .of-modules), s .pre .1)
 
--- src/modules.rt:44:1
 returns : tie.Need-returns
 unfolding moduleOf graphIn
 returns c = let s = c .before .before .before .before in found-at-most (c .module-list-length .ensures) (module-list-few (s .pre .0) _ _ (s .pre .1 .0) (s .pre .1 .1))

@@ -5,16 +5,13 @@ use Rattle.graph_access.specs.Words.{moduleOf}
 use Rattle.graph_access.proofs.modules.list_number.Statement.{statement}
 use Rattle.graph_access.proofs.modules.list_number.Tie as tie
 
--- src/modules.rt:65:40
 section-requires : tie.Need-section-requires
 section-requires c κs = inside (c .before .before .pre .0 .laid) 0 (omega arith)
 
--- src/modules.rt:65:5
 module-list-number-requires : tie.Need-module-list-number-requires
 unfolding moduleOf graphIn
 module-list-number-requires c κs = let s = c .before .before .before in (rw (c .section .ensures) (s .pre .0 .of-modules), s .pre .1)
 
--- src/modules.rt:53:1
 returns : tie.Need-returns
 unfolding moduleOf graphIn
 returns c = c .module-list-number .ensures

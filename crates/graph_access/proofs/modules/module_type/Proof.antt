@@ -3,11 +3,9 @@ use borrow.Author.Needs.{needs}
 use Rattle.graph_access.proofs.modules.module_type.Statement.{statement}
 use Rattle.graph_access.proofs.modules.module_type.Tie as tie
 
--- src/modules.rt:101:5
 number-requires : tie.Need-number-requires
 number-requires c κs = search needs
 
--- src/modules.rt:96:1
 returns : tie.Need-returns
 unfolding moduleType
 returns c = c .number .ensures

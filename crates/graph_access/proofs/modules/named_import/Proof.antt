@@ -5,12 +5,10 @@ use Rattle.graph_access.proofs.Indexes.{found-below, named-import-below
 use Rattle.graph_access.proofs.modules.named_import.Statement.{statement}
 use Rattle.graph_access.proofs.modules.named_import.Tie as tie
 
--- src/modules.rt:260:15
 list-number-requires : tie.Need-list-number-requires
 unfolding namedImports moduleWidths
 list-number-requires c κs = let s = c .before .before in (s .pre .0, (s .pre .1 .0, omega arith, s .pre .1 .1, omega arith))
 
--- src/modules.rt:255:1
 returns : tie.Need-returns
 unfolding namedImports only
 returns c = let s = c .before .before .before in found-below (c .list-number .ensures) (named-import-below (s .pre .0) _ _ (s .pre .1 .0) (s .pre .1 .1))

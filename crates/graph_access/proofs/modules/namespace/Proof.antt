@@ -4,11 +4,9 @@ use borrow.Author.Needs.{needs}
 use Rattle.graph_access.proofs.modules.namespace.Statement.{statement}
 use Rattle.graph_access.proofs.modules.namespace.Tie as tie
 
--- src/modules.rt:137:5
 number-requires : tie.Need-number-requires
 number-requires c κs = search needs
 
--- src/modules.rt:132:1
 returns : tie.Need-returns
 unfolding namespace
 returns c = let s = c .before .before .before in found-at-most (c .number .ensures) (namespace-below (s .pre .0) _ (s .pre .1))

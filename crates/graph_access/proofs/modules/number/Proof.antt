@@ -5,15 +5,12 @@ use Rattle.graph_access.specs.Words.{moduleOf}
 use Rattle.graph_access.proofs.modules.number.Statement.{statement}
 use Rattle.graph_access.proofs.modules.number.Tie as tie
 
--- src/modules.rt:40:42
 section-requires : tie.Need-section-requires
 section-requires c κs = inside (c .before .before .pre .0 .laid) 0 (omega arith)
 
--- src/modules.rt:40:5
 module-number-requires : tie.Need-module-number-requires
 module-number-requires c κs = let s = c .before .before .before in (rw (c .section .ensures) (s .pre .0 .of-modules), s .pre .1)
 
--- src/modules.rt:35:1
 returns : tie.Need-returns
 unfolding moduleOf graphIn
 returns c = c .module-number .ensures

@@ -5,12 +5,10 @@ use Rattle.graph_access.proofs.Indexes.{found-below, own-export-below}
 use Rattle.graph_access.proofs.modules.own_export.Statement.{statement}
 use Rattle.graph_access.proofs.modules.own_export.Tie as tie
 
--- src/modules.rt:278:15
 list-number-requires : tie.Need-list-number-requires
 unfolding ownExports moduleWidths
 list-number-requires c κs = let s = c .before .before in (s .pre .0, (s .pre .1 .0, omega arith, s .pre .1 .1, omega arith))
 
--- src/modules.rt:273:1
 returns : tie.Need-returns
 unfolding ownExports only
 returns c = let s = c .before .before .before in found-below (c .list-number .ensures) (own-export-below (s .pre .0) _ _ (s .pre .1 .0) (s .pre .1 .1))

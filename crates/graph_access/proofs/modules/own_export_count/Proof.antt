@@ -3,11 +3,9 @@ use borrow.Author.Needs.{needs}
 use Rattle.graph_access.proofs.modules.own_export_count.Statement.{statement}
 use Rattle.graph_access.proofs.modules.own_export_count.Tie as tie
 
--- src/modules.rt:269:5
 list-length-requires : tie.Need-list-length-requires
 list-length-requires c κs = search needs
 
--- src/modules.rt:264:1
 returns : tie.Need-returns
 unfolding ownExports
 returns c = c .list-length .ensures

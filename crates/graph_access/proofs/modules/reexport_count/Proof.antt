@@ -3,11 +3,9 @@ use borrow.Author.Needs.{needs}
 use Rattle.graph_access.proofs.modules.reexport_count.Statement.{statement}
 use Rattle.graph_access.proofs.modules.reexport_count.Tie as tie
 
--- src/modules.rt:146:5
 number-requires : tie.Need-number-requires
 number-requires c κs = search needs
 
--- src/modules.rt:141:1
 returns : tie.Need-returns
 unfolding reexportCount
 returns c = c .number .ensures

@@ -4,12 +4,10 @@ use Rattle.graph_access.specs.Names.{resolvedExports, exportName}
 use Rattle.graph_access.proofs.modules.resolved_export_name.Statement.{statement}
 use Rattle.graph_access.proofs.modules.resolved_export_name.Tie as tie
 
--- src/modules.rt:314:5
 list-number-requires : tie.Need-list-number-requires
 unfolding resolvedExports moduleWidths
 list-number-requires c κs = let s = c .before .before in (s .pre .0, (s .pre .1 .0, omega arith, s .pre .1 .1, omega arith))
 
--- src/modules.rt:309:1
 returns : tie.Need-returns
 unfolding resolvedExports exportName
 returns c = c .list-number .ensures

@@ -5,12 +5,10 @@ use Rattle.graph_access.proofs.Indexes.{found-below, resolved-export-be
 use Rattle.graph_access.proofs.modules.resolved_export_symbol.Statement.{statement}
 use Rattle.graph_access.proofs.modules.resolved_export_symbol.Tie as tie
 
--- src/modules.rt:328:15
 list-number-requires : tie.Need-list-number-requires
 unfolding resolvedExports moduleWidths
 list-number-requires c κs = let s = c .before .before in (s .pre .0, (s .pre .1 .0, omega arith, s .pre .1 .1, omega arith))
 
--- src/modules.rt:318:1
 returns : tie.Need-returns
 unfolding resolvedExports exportSymbol
 returns c = let s = c .before .before .before in found-below (c .list-number .ensures) (resolved-export-below (s .pre .0) _ _ (s .pre .1 .0) (s .pre .1 .1))

@@ -4,11 +4,9 @@ use borrow.Author.Needs.{needs}
 use Rattle.graph_access.proofs.modules.scan_effects.Statement.{statement}
 use Rattle.graph_access.proofs.modules.scan_effects.Tie as tie
 
--- src/modules.rt:164:5
 number-requires : tie.Need-number-requires
 number-requires c κs = search needs
 
--- src/modules.rt:159:1
 returns : tie.Need-returns
 unfolding scanEffects
 returns c = let s = c .before .before .before in found-below (c .number .ensures) (scan-effects-below (s .pre .0) _ (s .pre .1))

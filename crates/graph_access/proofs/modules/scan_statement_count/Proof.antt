@@ -3,11 +3,9 @@ use borrow.Author.Needs.{needs}
 use Rattle.graph_access.proofs.modules.scan_statement_count.Statement.{statement}
 use Rattle.graph_access.proofs.modules.scan_statement_count.Tie as tie
 
--- src/modules.rt:173:5
 number-requires : tie.Need-number-requires
 number-requires c κs = search needs
 
--- src/modules.rt:168:1
 returns : tie.Need-returns
 unfolding scanStatementCount
 returns c = c .number .ensures

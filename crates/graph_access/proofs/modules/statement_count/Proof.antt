@@ -5,11 +5,9 @@ use borrow.Author.Needs.{needs}
 use Rattle.graph_access.proofs.modules.statement_count.Statement.{statement}
 use Rattle.graph_access.proofs.modules.statement_count.Tie as tie
 
--- src/modules.rt:155:5
 number-requires : tie.Need-number-requires
 number-requires c κs = search needs
 
--- src/modules.rt:150:1
 returns : tie.Need-returns
 unfolding statementCount
 returns c = let s = c .before .before .before in found-at-most (c .number .ensures ∙ sym (statements-counted (s .pre .0) _ (s .pre .1))) (statements-few (s .pre .0) _ (s .pre .1))

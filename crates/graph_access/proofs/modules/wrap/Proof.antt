@@ -3,11 +3,9 @@ use borrow.Author.Needs.{needs}
 use Rattle.graph_access.proofs.modules.wrap.Statement.{statement}
 use Rattle.graph_access.proofs.modules.wrap.Tie as tie
 
--- src/modules.rt:119:5
 number-requires : tie.Need-number-requires
 number-requires c κs = search needs
 
--- src/modules.rt:114:1
 returns : tie.Need-returns
 unfolding wrap
 returns c = c .number .ensures

@@ -4,11 +4,9 @@ use borrow.Author.Needs.{needs}
 use Rattle.graph_access.proofs.modules.wrapper.Statement.{statement}
 use Rattle.graph_access.proofs.modules.wrapper.Tie as tie
 
--- src/modules.rt:128:5
 number-requires : tie.Need-number-requires
 number-requires c κs = search needs
 
--- src/modules.rt:123:1
 returns : tie.Need-returns
 unfolding wrapper
 returns c = let s = c .before .before .before in found-at-most (c .number .ensures) (wrapper-below (s .pre .0) _ (s .pre .1))

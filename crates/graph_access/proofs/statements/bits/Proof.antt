@@ -5,23 +5,18 @@ use borrow.Author.Needs.{needs}
 use Rattle.graph_access.proofs.statements.bits.Statement.{statement}
 use Rattle.graph_access.proofs.statements.bits.Tie as tie
 
--- src/statements.rt:59:9
 place-requires : tie.Need-place-requires
 place-requires c κs = search needs
 
--- src/statements.rt:60:16
 mul-wide : tie.Need-mul-wide
 mul-wide c = let s = c .before .before .before in omega (arith, bits-there (s .pre .0) (s .pre .1 .0) (s .pre .1 .1) (c .place .ensures))
 
--- src/statements.rt:60:16
 shared-slice-read-wide : tie.Need-shared-slice-read-wide
 shared-slice-read-wide c = let s = c .before .before .before .before in bits-there (s .pre .0) (s .pre .1 .0) (s .pre .1 .1) (c .before .place .ensures)
 
--- src/statements.rt:60:5
 wide-requires : tie.Need-wide-requires
 wide-requires c κs = search needs
 
--- src/statements.rt:54:1
 returns : tie.Need-returns
 returns c = let s = c .before .before .before .before .before in c .wide .ensures ∙ bits-are (s .pre .0) (s .pre .1 .0) (s .pre .1 .1) (c .before .before .place .ensures)
 

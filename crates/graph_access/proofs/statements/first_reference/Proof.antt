@@ -4,35 +4,27 @@ use borrow.Author.Needs.{needs}
 use Rattle.graph_access.proofs.statements.first_reference.Statement.{statement}
 use Rattle.graph_access.proofs.statements.first_reference.Tie as tie
 
--- src/statements.rt:106:9
 place-requires : tie.Need-place-requires
 place-requires c κs = search needs
 
--- src/statements.rt:107:38
 add-wide : tie.Need-add-wide
 add-wide c = let s = c .before .before .before in omega (arith, import-records (s .pre .0) (s .pre .1 .0) (s .pre .1 .1) (c .place .ensures) .inside)
 
--- src/statements.rt:107:30
 mul-wide : tie.Need-mul-wide
 mul-wide c = let s = c .before .before .before in omega (arith, import-records (s .pre .0) (s .pre .1 .0) (s .pre .1 .1) (c .place .ensures) .inside)
 
--- src/statements.rt:107:30
 shared-slice-read-wide : tie.Need-shared-slice-read-wide
 shared-slice-read-wide c = let s = c .before .before .before .before in import-records (s .pre .0) (s .pre .1 .0) (s .pre .1 .1) (c .before .place .ensures) .inside
 
--- src/statements.rt:107:9
 wide-requires : tie.Need-wide-requires
 wide-requires c κs = search needs
 
--- src/statements.rt:108:5
 add-result : tie.Need-add-result
 add-result c = let s = c .before .before .before .before .before in omega (arith, references-behind (s .pre .0) (s .pre .1 .0) (s .pre .1 .1) (c .before .before .place .ensures) (c .wide .ensures) .inside)
 
--- src/statements.rt:108:5
 add-result-2 : tie.Need-add-result-2
 add-result-2 c = let s = c .before .before .before .before .before in omega (arith, references-behind (s .pre .0) (s .pre .1 .0) (s .pre .1 .1) (c .before .before .place .ensures) (c .wide .ensures) .inside)
 
--- src/statements.rt:101:1
 returns : tie.Need-returns
 returns c = let s = c .before .before .before .before .before in references-behind (s .pre .0) (s .pre .1 .0) (s .pre .1 .1) (c .before .before .place .ensures) (c .wide .ensures) .follow
 

@@ -7,31 +7,24 @@ use borrow.Author.Needs.{needs}
 use Rattle.graph_access.proofs.statements.import_record.Statement.{statement}
 use Rattle.graph_access.proofs.statements.import_record.Tie as tie
 
--- src/statements.rt:85:9
 place-requires : tie.Need-place-requires
 place-requires c κs = search needs
 
--- src/statements.rt:86:40
 add-wide : tie.Need-add-wide
 add-wide c = let s = c .before .before .before in omega (arith, import-records (s .pre .0) (s .pre .1 .0) (s .pre .1 .1) (c .place .ensures) .here _ (s .pre .1 .2))
 
--- src/statements.rt:86:40
 add-wide-2 : tie.Need-add-wide-2
 add-wide-2 c = let s = c .before .before .before in omega (arith, import-records (s .pre .0) (s .pre .1 .0) (s .pre .1 .1) (c .place .ensures) .here _ (s .pre .1 .2))
 
--- src/statements.rt:86:32
 mul-wide : tie.Need-mul-wide
 mul-wide c = let s = c .before .before .before in omega (arith, import-records (s .pre .0) (s .pre .1 .0) (s .pre .1 .1) (c .place .ensures) .here _ (s .pre .1 .2))
 
--- src/statements.rt:86:32
 shared-slice-read-wide : tie.Need-shared-slice-read-wide
 shared-slice-read-wide c = let s = c .before .before .before .before in omega (arith, import-records (s .pre .0) (s .pre .1 .0) (s .pre .1 .1) (c .before .place .ensures) .here _ (s .pre .1 .2))
 
--- src/statements.rt:86:21
 wide-requires : tie.Need-wide-requires
 wide-requires c κs = search needs
 
--- src/statements.rt:74:1
 returns : tie.Need-returns
 unfolding only
 returns c = let s = c .before .before .before .before .before in found-below (c .wide .ensures ∙ sym (import-records (s .pre .0) (s .pre .1 .0) (s .pre .1 .1) (c .before .before .place .ensures) .same _ (s .pre .1 .2))) (statement-record-below (s .pre .0) _ _ _ (s .pre .1 .0) (s .pre .1 .1) (s .pre .1 .2))

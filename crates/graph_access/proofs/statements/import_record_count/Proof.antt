@@ -7,27 +7,21 @@ use borrow.Author.Needs.{needs}
 use Rattle.graph_access.proofs.statements.import_record_count.Statement.{statement}
 use Rattle.graph_access.proofs.statements.import_record_count.Tie as tie
 
--- src/statements.rt:69:9
 place-requires : tie.Need-place-requires
 place-requires c κs = search needs
 
--- src/statements.rt:70:24
 add-wide : tie.Need-add-wide
 add-wide c = let s = c .before .before .before in omega (arith, import-records (s .pre .0) (s .pre .1 .0) (s .pre .1 .1) (c .place .ensures) .inside)
 
--- src/statements.rt:70:16
 mul-wide : tie.Need-mul-wide
 mul-wide c = let s = c .before .before .before in omega (arith, import-records (s .pre .0) (s .pre .1 .0) (s .pre .1 .1) (c .place .ensures) .inside)
 
--- src/statements.rt:70:16
 shared-slice-read-wide : tie.Need-shared-slice-read-wide
 shared-slice-read-wide c = let s = c .before .before .before .before in import-records (s .pre .0) (s .pre .1 .0) (s .pre .1 .1) (c .before .place .ensures) .inside
 
--- src/statements.rt:70:5
 wide-requires : tie.Need-wide-requires
 wide-requires c κs = search needs
 
--- src/statements.rt:64:1
 returns : tie.Need-returns
 unfolding statementImportRecords
 returns c = let s = c .before .before .before .before .before in found-at-most (c .wide .ensures ∙ import-records (s .pre .0) (s .pre .1 .0) (s .pre .1 .1) (c .before .before .place .ensures) .counted) (statement-list-few (s .pre .0) _ _ 0 (s .pre .1 .0) (s .pre .1 .1) (omega arith))

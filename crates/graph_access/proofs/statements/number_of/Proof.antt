@@ -15,24 +15,19 @@ use Rattle.graph_access.proofs.statements.number_of.Tie as tie
 first : (c : tie.After-section) → let s = c .before .before .before in getD (c .section .result .now) (s .args .m .0) 0 ≡ firstOf (modulesIn (s .args .numbers .now)) (s .args .m .0)
 first c = let s = c .before .before .before in rw (c .section .ensures) (in-first (s .pre .0) _ (s .pre .1 .0))
 
--- src/statements.rt:48:9
 section-requires : tie.Need-section-requires
 section-requires c κs = inside (c .before .before .pre .0 .laid) 2 (omega arith)
 
--- src/statements.rt:50:5
 mul-result : tie.Need-mul-result
 mul-result c = search needs
 
--- src/statements.rt:50:5
 shared-slice-read-result : tie.Need-shared-slice-read-result
 shared-slice-read-result c = let s = c .before .before .before .before in rw (c .before .section .ensures) (omega (arith, s .pre .0 .of-statements .long, s .pre .1 .0))
 
--- src/statements.rt:50:5
 add-result : tie.Need-add-result
 unfolding statementList graphIn
 add-result c = let s = c .before .before .before .before .before in omega (arith, first (c .before .before), number-below (s .pre .0) _ (s .pre .1 .0) _ (s .pre .1 .1), s .pre .0 .few-statements)
 
--- src/statements.rt:43:1
 returns : tie.Need-returns
 unfolding graphIn
 returns c = let s = c .before .before .before .before .before in ap (λ j. j + s .args .i .0) (first (c .before .before))

@@ -19,35 +19,27 @@ here : (c : tie.After-section2) → let s = c .before .before .before .before in
 unfolding statementList graphIn
 here c = let s = c .before .before .before .before in index-inside _ _ _ _ (s .pre .0 .of-modules) (table c) _ (s .pre .1 .0) _ (s .pre .1 .1)
 
--- src/statements.rt:35:9
 section-requires : tie.Need-section-requires
 section-requires c κs = inside (c .before .before .pre .0 .laid) 2 (omega arith)
 
--- src/statements.rt:36:9
 section-requires-2 : tie.Need-section-requires-2
 section-requires-2 c κs = inside (c .before .before .before .pre .0 .laid) 3 (omega arith)
 
--- src/statements.rt:38:17
 mul-first : tie.Need-mul-first
 mul-first c = search needs
 
--- src/statements.rt:38:17
 shared-slice-read-first : tie.Need-shared-slice-read-first
 shared-slice-read-first c = let s = c .before .before .before .before .before in omega (arith, table (c .before) .long, s .pre .1 .0)
 
--- src/statements.rt:39:12
 add-result : tie.Need-add-result
 add-result c = omega (arith, here (c .before .before))
 
--- src/statements.rt:39:5
 mul-result : tie.Need-mul-result
 mul-result c = omega (arith, here (c .before .before))
 
--- src/statements.rt:39:5
 shared-slice-read-result : tie.Need-shared-slice-read-result
 shared-slice-read-result c = here (c .before .before .before)
 
--- src/statements.rt:30:1
 returns : tie.Need-returns
 unfolding statementOf statementList graphIn
 returns c = let s = c .before .before .before .before .before .before .before in place-there _ _ _ _ (s .pre .0 .of-modules) (table (c .before .before .before)) _ (s .pre .1 .0) _ (s .pre .1 .1)

@@ -7,47 +7,36 @@ use borrow.Author.Needs.{needs}
 use Rattle.graph_access.proofs.statements.reference_count.Statement.{statement}
 use Rattle.graph_access.proofs.statements.reference_count.Tie as tie
 
--- src/statements.rt:95:9
 place-requires : tie.Need-place-requires
 place-requires c κs = search needs
 
--- src/statements.rt:96:38
 add-wide : tie.Need-add-wide
 add-wide c = let s = c .before .before .before in omega (arith, import-records (s .pre .0) (s .pre .1 .0) (s .pre .1 .1) (c .place .ensures) .inside)
 
--- src/statements.rt:96:30
 mul-wide : tie.Need-mul-wide
 mul-wide c = let s = c .before .before .before in omega (arith, import-records (s .pre .0) (s .pre .1 .0) (s .pre .1 .1) (c .place .ensures) .inside)
 
--- src/statements.rt:96:30
 shared-slice-read-wide : tie.Need-shared-slice-read-wide
 shared-slice-read-wide c = let s = c .before .before .before .before in import-records (s .pre .0) (s .pre .1 .0) (s .pre .1 .1) (c .before .place .ensures) .inside
 
--- src/statements.rt:96:9
 wide-requires : tie.Need-wide-requires
 wide-requires c κs = search needs
 
--- src/statements.rt:97:24
 add-wide-2 : tie.Need-add-wide-2
 add-wide-2 c = let s = c .before .before .before .before .before in omega (arith, references-behind (s .pre .0) (s .pre .1 .0) (s .pre .1 .1) (c .before .before .place .ensures) (c .wide .ensures) .inside)
 
--- src/statements.rt:97:24
 add-wide-3 : tie.Need-add-wide-3
 add-wide-3 c = let s = c .before .before .before .before .before in omega (arith, references-behind (s .pre .0) (s .pre .1 .0) (s .pre .1 .1) (c .before .before .place .ensures) (c .wide .ensures) .inside)
 
--- src/statements.rt:97:16
 mul-wide-2 : tie.Need-mul-wide-2
 mul-wide-2 c = let s = c .before .before .before .before .before in omega (arith, references-behind (s .pre .0) (s .pre .1 .0) (s .pre .1 .1) (c .before .before .place .ensures) (c .wide .ensures) .inside)
 
--- src/statements.rt:97:16
 shared-slice-read-wide-2 : tie.Need-shared-slice-read-wide-2
 shared-slice-read-wide-2 c = let s = c .before .before .before .before .before .before in references-behind (s .pre .0) (s .pre .1 .0) (s .pre .1 .1) (c .before .before .before .place .ensures) (c .before .wide .ensures) .inside
 
--- src/statements.rt:97:5
 wide-requires-2 : tie.Need-wide-requires-2
 wide-requires-2 c κs = search needs
 
--- src/statements.rt:90:1
 returns : tie.Need-returns
 unfolding references
 returns c = let s = c .before .before .before .before .before .before .before in found-at-most (c .wide2 .ensures ∙ references-behind (s .pre .0) (s .pre .1 .0) (s .pre .1 .1) (c .before .before .before .before .place .ensures) (c .before .before .wide .ensures) .counted) (statement-list-few (s .pre .0) _ _ 1 (s .pre .1 .0) (s .pre .1 .1) (omega arith))

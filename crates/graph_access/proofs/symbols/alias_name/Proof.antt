@@ -3,11 +3,9 @@ use borrow.Author.Needs.{needs}
 use Rattle.graph_access.proofs.symbols.alias_name.Statement.{statement}
 use Rattle.graph_access.proofs.symbols.alias_name.Tie as tie
 
--- src/symbols.rt:93:5
 number-requires : tie.Need-number-requires
 number-requires c κs = search needs
 
--- src/symbols.rt:88:1
 returns : tie.Need-returns
 unfolding aliasName
 returns c = c .number .ensures

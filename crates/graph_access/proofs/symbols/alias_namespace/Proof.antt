@@ -4,11 +4,9 @@ use borrow.Author.Needs.{needs}
 use Rattle.graph_access.proofs.symbols.alias_namespace.Statement.{statement}
 use Rattle.graph_access.proofs.symbols.alias_namespace.Tie as tie
 
--- src/symbols.rt:84:5
 number-requires : tie.Need-number-requires
 number-requires c κs = search needs
 
--- src/symbols.rt:79:1
 returns : tie.Need-returns
 unfolding aliasNamespace
 returns c = let s = c .before .before .before in found-at-most (c .number .ensures) (alias-below (s .pre .0) _ (s .pre .1))

@@ -3,11 +3,9 @@ use borrow.Author.Needs.{needs}
 use Rattle.graph_access.proofs.symbols.constant_bits.Statement.{statement}
 use Rattle.graph_access.proofs.symbols.constant_bits.Tie as tie
 
--- src/symbols.rt:102:5
 number-requires : tie.Need-number-requires
 number-requires c κs = search needs
 
--- src/symbols.rt:97:1
 returns : tie.Need-returns
 unfolding constantBits
 returns c = c .number .ensures

@@ -3,11 +3,9 @@ use borrow.Author.Needs.{needs}
 use Rattle.graph_access.proofs.symbols.declaring_count.Statement.{statement}
 use Rattle.graph_access.proofs.symbols.declaring_count.Tie as tie
 
--- src/symbols.rt:129:5
 list-length-requires : tie.Need-list-length-requires
 list-length-requires c κs = search needs
 
--- src/symbols.rt:124:1
 returns : tie.Need-returns
 unfolding declaringStatements
 returns c = c .list-length .ensures

@@ -3,11 +3,9 @@ use borrow.Author.Needs.{needs}
 use Rattle.graph_access.proofs.symbols.export_chain_count.Statement.{statement}
 use Rattle.graph_access.proofs.symbols.export_chain_count.Tie as tie
 
--- src/symbols.rt:111:5
 list-length-requires : tie.Need-list-length-requires
 list-length-requires c κs = search needs
 
--- src/symbols.rt:106:1
 returns : tie.Need-returns
 unfolding exportChain
 returns c = c .list-length .ensures

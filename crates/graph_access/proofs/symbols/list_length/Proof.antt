@@ -6,15 +6,12 @@ use Rattle.graph_access.proofs.Indexes.{found-at-most, symbol-list-few}
 use Rattle.graph_access.proofs.symbols.list_length.Statement.{statement}
 use Rattle.graph_access.proofs.symbols.list_length.Tie as tie
 
--- src/symbols.rt:39:40
 section-requires : tie.Need-section-requires
 section-requires c κs = inside (c .before .before .pre .0 .laid) 1 (omega arith)
 
--- src/symbols.rt:39:5
 symbol-list-length-requires : tie.Need-symbol-list-length-requires
 symbol-list-length-requires c κs = let s = c .before .before .before in (rw (c .section .ensures) (s .pre .0 .of-symbols), s .pre .1)
 
--- src/symbols.rt:34:1
 returns : tie.Need-returns
 unfolding symbolOf graphIn
 returns c = let s = c .before .before .before .before in found-at-most (c .symbol-list-length .ensures) (symbol-list-few (s .pre .0) _ _ (s .pre .1 .0) (s .pre .1 .1))

@@ -5,16 +5,13 @@ use Rattle.graph_access.specs.Words.{symbolOf}
 use Rattle.graph_access.proofs.symbols.list_number.Statement.{statement}
 use Rattle.graph_access.proofs.symbols.list_number.Tie as tie
 
--- src/symbols.rt:48:40
 section-requires : tie.Need-section-requires
 section-requires c κs = inside (c .before .before .pre .0 .laid) 1 (omega arith)
 
--- src/symbols.rt:48:5
 symbol-list-number-requires : tie.Need-symbol-list-number-requires
 unfolding symbolOf graphIn
 symbol-list-number-requires c κs = let s = c .before .before .before in (rw (c .section .ensures) (s .pre .0 .of-symbols), s .pre .1)
 
--- src/symbols.rt:43:1
 returns : tie.Need-returns
 unfolding symbolOf graphIn
 returns c = c .symbol-list-number .ensures

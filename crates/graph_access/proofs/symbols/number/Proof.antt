@@ -5,15 +5,12 @@ use Rattle.graph_access.specs.Words.{symbolOf}
 use Rattle.graph_access.proofs.symbols.number.Statement.{statement}
 use Rattle.graph_access.proofs.symbols.number.Tie as tie
 
--- src/symbols.rt:30:42
 section-requires : tie.Need-section-requires
 section-requires c κs = inside (c .before .before .pre .0 .laid) 1 (omega arith)
 
--- src/symbols.rt:30:5
 symbol-number-requires : tie.Need-symbol-number-requires
 symbol-number-requires c κs = let s = c .before .before .before in (rw (c .section .ensures) (s .pre .0 .of-symbols), s .pre .1)
 
--- src/symbols.rt:25:1
 returns : tie.Need-returns
 unfolding symbolOf graphIn
 returns c = c .symbol-number .ensures

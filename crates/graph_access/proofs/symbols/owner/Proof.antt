@@ -4,11 +4,9 @@ use borrow.Author.Needs.{needs}
 use Rattle.graph_access.proofs.symbols.owner.Statement.{statement}
 use Rattle.graph_access.proofs.symbols.owner.Tie as tie
 
--- src/symbols.rt:57:15
 number-requires : tie.Need-number-requires
 number-requires c κs = search needs
 
--- src/symbols.rt:52:1
 returns : tie.Need-returns
 unfolding owner
 returns c = let s = c .before .before .before in found-below (c .number .ensures) (owner-below (s .pre .0) _ (s .pre .1))

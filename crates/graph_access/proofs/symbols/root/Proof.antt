@@ -4,11 +4,9 @@ use borrow.Author.Needs.{needs}
 use Rattle.graph_access.proofs.symbols.root.Statement.{statement}
 use Rattle.graph_access.proofs.symbols.root.Tie as tie
 
--- src/symbols.rt:75:15
 number-requires : tie.Need-number-requires
 number-requires c κs = search needs
 
--- src/symbols.rt:70:1
 returns : tie.Need-returns
 unfolding rootOf symbolOf
 returns c = let s = c .before .before .before in found-below (c .number .ensures) (root-below (s .pre .0) _ (s .pre .1))

@@ -4,12 +4,10 @@ use Rattle.graph_access.proofs.Indexes.{found-below, written-below}
 use Rattle.graph_access.proofs.symbols.written.Statement.{statement}
 use Rattle.graph_access.proofs.symbols.written.Tie as tie
 
--- src/symbols.rt:156:13
 list-number-requires : tie.Need-list-number-requires
 unfolding writtenPropertyStatements
 list-number-requires c κs = let s = c .before .before in (s .pre .0, (s .pre .1 .0, omega arith, s .pre .1 .1))
 
--- src/symbols.rt:151:1
 returns : tie.Need-returns
 unfolding writtenPropertyStatements only
 returns c = let s = c .before .before .before in found-below (c .list-number .ensures) (written-below (s .pre .0) _ _ (s .pre .1 .0) (s .pre .1 .1))

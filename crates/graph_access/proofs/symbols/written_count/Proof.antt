@@ -3,11 +3,9 @@ use borrow.Author.Needs.{needs}
 use Rattle.graph_access.proofs.symbols.written_count.Statement.{statement}
 use Rattle.graph_access.proofs.symbols.written_count.Tie as tie
 
--- src/symbols.rt:147:5
 list-length-requires : tie.Need-list-length-requires
 list-length-requires c κs = search needs
 
--- src/symbols.rt:142:1
 returns : tie.Need-returns
 unfolding writtenPropertyStatements
 returns c = c .list-length .ensures

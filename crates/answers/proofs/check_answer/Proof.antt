@@ -1,0 +1,21 @@
+use borrow.Author.Needs.{needs}
+use Rattle.answers.specs.Answers.{checkAnswerOf}
+use Rattle.answers.proofs.check_answer.Statement.{statement}
+use Rattle.answers.proofs.check_answer.Tie as tie
+
+enum-told : tie.Need-enum-told
+enum-told c = search needs
+
+enum-known-r : tie.Need-enum-known-r
+enum-known-r c = search needs
+
+returns : tie.Need-returns
+unfolding checkAnswerOf
+returns c = rw (c .enum-told .given .1)
+
+returns-2 : tie.Need-returns-2
+unfolding checkAnswerOf
+returns-2 c = rw (c .before .r .given .1)
+
+pub check-answer-spec : {M : Type 1} → statement M
+check-answer-spec = tie.close (tie.spec enum-told enum-known-r returns returns-2)

@@ -1,0 +1,2 @@
+-- The main definitions of `Answers`: `readAnswerOf`, `checkAnswerOf`, `drainAnswerOf`, `runAnswerOf`, `judgeAnswerOf`, `startsAnswerOf`.
+pub mod Answers

@@ -1,5 +1,0 @@
-pub mod Ends
-pub mod Together
-pub mod Tried
-pub mod Searching
-pub mod Users

@@ -1,2 +1,0 @@
--- The main definitions of `Stages`: `ownStartsOnce`, `PassEnds`.
-pub mod Stages

@@ -1,2 +1,0 @@
-pub mod Tiers
-pub mod Twice

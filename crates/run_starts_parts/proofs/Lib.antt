@@ -1,4 +1,0 @@
-pub mod Readying
-pub mod Passing
-pub mod Twice
-pub mod Tiers
