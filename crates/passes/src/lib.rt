@@ -158,10 +158,13 @@ fn helper_word(numbers: &[u32], tables: &[usize], marks: &[u8], m: ModuleIdx) ->
     requires { ⌜ (m .0 < headerIn (now numbers) .modules) × (markCount (graphIn (now numbers)) ≤ 8 * length (now marks)) ⌝ }
     ensures { λ r. ⌜ (r ≡ helperWord (graphIn (now (numbers .entry))) (marked (graphIn (now (numbers .entry))) (now (marks .entry))) (m .0)) × (r < 4294967296) ⌝ }
 {
+    let h = graph::header_of(numbers);
+    if h.helpers == 0 {
+        return 0;
+    }
     if modules::helper_count(numbers, tables, m) == 0 {
         return 0;
     }
-    let h = graph::header_of(numbers);
     let all = has_all(numbers, tables, marks, m);
     let mut word: usize = 0;
     let mut k: usize = 0;
