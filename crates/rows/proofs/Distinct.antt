@@ -11,6 +11,7 @@ use native.Mathlib.Omega.{arith}
 use borrow.Author.Tests.{eq-eqb, ne-eqb, lt-ltb, le-ltb}
 use lib.ListN.{length, getD, take}
 use Rattle.rows.specs.declared.Walk.{Walk}
+use Rattle.rows.specs.declared.Walk.the-variants.{At}
 use Rattle.rows.specs.Walk.{Parsed, got, fault, below, cells, many, elem, repeated, firsts, firstsAt, plainRow, distinctRow, rowOf, columnsOf, walkOf}
 use Rattle.rows.proofs.Cells.{Cells, cells-got}
 
@@ -104,3 +105,8 @@ module _ (columns numbers : List ℕ) (k q : ℕ) (r : Walk) (b : Bool) where
   pub by-plain : b ≡ false → r ≡ walkOf (many (plainRow columns numbers) firsts k [] q) → r ≡ walkOf (many (rowOf b columns numbers) firsts k [] q)
   unfolding rowOf
   by-plain h e = rw (h, rowOf) e
+
+-- an empty list ends where it begins
+pub no-rows : (step : List ℕ → ℕ → Parsed (List ℕ)) (q k : ℕ) → k ≡ 0 → At q ≡ walkOf (many step firsts k [] q)
+unfolding many walkOf
+no-rows step q k e = rw (e, many, walkOf)

@@ -293,6 +293,27 @@ pub fn distinct_rows(
     }
 }
 
+// `count` rows, distinct or not.
+fn some_rows(
+    numbers: &[u32],
+    q: usize,
+    count: usize,
+    distinct: bool,
+    width: usize,
+    a: usize,
+    b: usize,
+    c: usize,
+) -> Walk
+    requires { ⌜ (0 < width) × (width ≤ 3) × (count ≤ 16384) ⌝ }
+    ensures { λ r. ⌜ r ≡ walkOf (many (rowOf distinct (columnsOf width a b c) (now (numbers .entry))) firsts count [] q) ⌝ }
+{
+    if distinct {
+        distinct_rows(numbers, q, count, width, a, b, c)
+    } else {
+        plain_rows(numbers, q, count, width, a, b, c)
+    }
+}
+
 // A list: a count below `counts`, then rows.
 pub fn rows(
     numbers: &[u32],
@@ -311,11 +332,10 @@ pub fn rows(
         Walk::Fault(n, p) => Walk::Fault(n, p),
         Walk::At(q) => {
             let count = wide(numbers[at]);
-            if distinct {
-                distinct_rows(numbers, q, count, width, a, b, c)
-            } else {
-                plain_rows(numbers, q, count, width, a, b, c)
+            if count == 0 {
+                return Walk::At(q);
             }
+            some_rows(numbers, q, count, distinct, width, a, b, c)
         }
     }
 }

@@ -4,7 +4,7 @@ use mathlib.Core.List.{List, [], _∷_}
 use native.Mathlib.Omega.{arith}
 use Rattle.rows.specs.Walk.{got, walkOf, number, count, list, many, firsts, rowOf, columnsOf}
 use Rattle.rows.proofs.Walks.{at-got, list-go, list-stop}
-use Rattle.rows.proofs.Distinct.{by-distinct, by-plain}
+use Rattle.rows.proofs.Distinct.{no-rows}
 use Rattle.rows.proofs.Cells.{Number, number-got}
 use borrow.Author.Needs.{needs}
 use Rattle.rows.proofs.rows.Statement.{statement}
@@ -12,8 +12,7 @@ use Rattle.rows.proofs.rows.Tie as tie
 use Rattle.rows.proofs.rows.Reads as reads
 use Rattle.rows.proofs.rows.Lts as lts
 use Rattle.rows.proofs.counter.Reads as counter-reads
-use Rattle.rows.proofs.distinct_rows.Reads as distinct-rows-reads
-use Rattle.rows.proofs.plain_rows.Reads as plain-rows-reads
+use Rattle.rows.proofs.some_rows.Reads as some-rows-reads
 use Rattle.rows.proofs.wide.Reads as wide-reads
 
 -- the count that was read
@@ -49,23 +48,20 @@ shared-slice-read-wide c = there (c .before) .inside
 wide-requires : tie.Need-wide-requires
 wide-requires c κs = search needs
 
-distinct-rows-requires : tie.Need-distinct-rows-requires
-distinct-rows-requires c κs =
+returns : tie.Need-returns
+returns c = no-rows _ _ _ (c .if1 .taken) ∙ sym (all-rows (c .before))
+
+some-rows-requires : tie.Need-some-rows-requires
+some-rows-requires c κs =
     let w = c .before in
     let s = w .before .before .before .before .before .before .before in
     let t = there (w .before .before) in (s .pre .0, s .pre .1, omega (arith, t .good .0, t .same, w .wide .ensures))
 
-plain-rows-requires : tie.Need-plain-rows-requires
-plain-rows-requires c κs = search needs
-
-returns : tie.Need-returns
-returns c = sym (list-stop _ _ _ (sym (c .before .before .before .counter .ensures) ∙ c .before .n .given .1))
-
 returns-2 : tie.Need-returns-2
-returns-2 c = by-distinct _ _ _ _ _ _ (c .before .if1 .taken) (c .distinct-rows .ensures) ∙ sym (all-rows (c .before .before))
+returns-2 c = sym (list-stop _ _ _ (sym (c .before .before .before .counter .ensures) ∙ c .before .n .given .1))
 
 returns-3 : tie.Need-returns-3
-returns-3 c = by-plain _ _ _ _ _ _ (c .before .if1 .left) (c .plain-rows .ensures) ∙ sym (all-rows (c .before .before))
+returns-3 c = c .some-rows .ensures ∙ sym (all-rows (c .before .before))
 
 pub rows-spec : {M : Type 1} → statement M
 rows-spec =
@@ -77,8 +73,7 @@ rows-spec =
     mul-wide
     shared-slice-read-wide
     wide-requires
-    distinct-rows-requires
-    plain-rows-requires
     returns
+    some-rows-requires
     returns-2
     returns-3)
