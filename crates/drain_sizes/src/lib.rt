@@ -67,7 +67,7 @@ pub fn drain_middle(
     ensures { λ r. ⌜ Drains (now (numbers .entry)) (now (starts .entry)) r (rowsOf (now (marks .entry)) (now (lines .entry)) (now («modules_row» .entry)) (now («statements_row» .entry)) (now (used .entry)) (now (external .entry)) (now (json .entry)) (now (reason .entry))) (rowsOf (now (marks .exit)) (now (lines .exit)) (now («modules_row» .exit)) (now («statements_row» .exit)) (now (used .exit)) (now (external .exit)) (now (json .exit)) (now (reason .exit))) ⌝ }
 {
     let mut tables = [0usize; MIDDLE];
-    let mut partners = [0usize; 1408];
+    let mut partners = [0usize; 7168];
     let answer = drain_parts::drain_in(
         numbers,
         starts,

@@ -37,8 +37,8 @@ fn judge_middle(numbers: &[u32], starts: &[u32], lines: &[u32], h: Header, again
     ensures { λ r. ⌜ r ≡ judgeOf (now (numbers .entry)) (now (starts .entry)) (now (lines .entry)) ⌝ }
 {
     let mut tables = [0usize; MIDDLE];
-    let mut begun = [0u8; 8224];
-    let mut marks = [0u8; 8224];
+    let mut begun = [0u8; 33024];
+    let mut marks = [0u8; 33024];
     let answer = judge_parts::judge_in(
         numbers,
         starts,

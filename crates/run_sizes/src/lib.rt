@@ -30,8 +30,8 @@ pub fn run_middle(
     ensures { λ r. ⌜ Runs (now (numbers .entry)) r (rowsOf (now (marks .entry)) (now (lines .entry)) (now («modules_row» .entry)) (now («statements_row» .entry)) (now (used .entry)) (now (external .entry)) (now (json .entry)) (now (reason .entry)) (now (dead .entry)) (now (helpers .entry)) (now (entries .entry))) (rowsOf (now (marks .exit)) (now (lines .exit)) (now («modules_row» .exit)) (now («statements_row» .exit)) (now (used .exit)) (now (external .exit)) (now (json .exit)) (now (reason .exit)) (now (dead .exit)) (now (helpers .exit)) (now (entries .exit))) ⌝ }
 {
     let mut tables = [0usize; MIDDLE];
-    let mut partners = [0usize; 1408];
-    let mut plan = [0usize; 640];
+    let mut partners = [0usize; 7168];
+    let mut plan = [0usize; 5120];
     let answer = run_parts::run_in(
         numbers,
         h,

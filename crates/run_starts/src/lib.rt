@@ -159,9 +159,9 @@ fn starts_middle(
     ensures { λ r. ⌜ ReadsStarts (now (numbers .entry)) r (rowsOf (now (marks .entry)) (now (lines .entry)) (now (out .entry))) (rowsOf (now (marks .exit)) (now (lines .exit)) (now (out .exit))) ⌝ }
 {
     let mut tables = [0usize; MIDDLE];
-    let mut partners = [0usize; 1408];
-    let mut plan = [0usize; 640];
-    let mut seen = [0u8; 8224];
+    let mut partners = [0usize; 7168];
+    let mut plan = [0usize; 5120];
+    let mut seen = [0u8; 33024];
     let answer = starts_in(
         numbers,
         h,

@@ -58,12 +58,12 @@ module _ (h : Header) where
 -- the words of the tables of a size: those of the places, and all
 abbrev pub placesIn : Size → ℕ
 placesIn Small = 187
-placesIn Middle = 2443
+placesIn Middle = 11275
 placesIn Large = 35851
 
 abbrev pub wordsIn : Size → ℕ
 wordsIn Small = 363
-wordsIn Middle = 4875
+wordsIn Middle = 22539
 wordsIn Large = 71691
 
 module _ (h : Header) where

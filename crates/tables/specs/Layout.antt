@@ -121,5 +121,5 @@ Counts h modules symbols statements entries = (h .modules ≤ modules) × (h .sy
 
 abbrev pub FitsSize : Header → Size → Type 0
 FitsSize h Small = Counts h 16 64 64 16
-FitsSize h Middle = Counts h 128 1024 1024 128
+FitsSize h Middle = Counts h 1024 4096 4096 1024
 FitsSize h Large = Counts h 1024 16384 16384 1024

@@ -31,14 +31,14 @@ pub const NAMESPACES: usize = 8;
 pub const FIRST_BYTE_OF: usize = 9;
 
 // Words of the slice for the first five sections and for all ten: of a small graph (16 modules, 64 symbols, 64 statements, 16
-// entries), of one of middle size (128, 1,024, 1,024, 128), and of the largest.
+// entries), of one of middle size (1,024, 4,096, 4,096, 1,024), and of the largest.
 pub const SMALL_PLACES: usize = 187;
 
 pub const SMALL: usize = 363;
 
-pub const MIDDLE_PLACES: usize = 2443;
+pub const MIDDLE_PLACES: usize = 11275;
 
-pub const MIDDLE: usize = 4875;
+pub const MIDDLE: usize = 22539;
 
 pub const LARGE_PLACES: usize = 35851;
 
@@ -59,7 +59,7 @@ pub fn size_for(h: Header) -> Size
     if holds(h, 16, 64) {
         return Size::Small;
     }
-    if holds(h, 128, 1024) {
+    if holds(h, 1024, 4096) {
         return Size::Middle;
     }
     Size::Large

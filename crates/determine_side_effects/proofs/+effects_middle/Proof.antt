@@ -42,7 +42,7 @@ effects-middle-slice-aggregate-effects-in :
 effects-middle-slice-aggregate-effects-in t c = search needs
 
 effects-middle-effects-in-requires : (t : ℕ) → effects-middle-lts.Need-effects-in-requires (claims t) (effects-middle-at t) effects-middle.Post
-effects-middle-effects-in-requires t c κs = let s = c .before .before .before .before in (s .pre .1 .0, rw (length-replicate {A = ℕ} 4875 0) (omega (arith, start-mono (s .args .h) 6 10 (omega arith), fits-all (s .args .h) Middle (s .pre .1 .1)), omega arith))
+effects-middle-effects-in-requires t c κs = let s = c .before .before .before .before in (s .pre .1 .0, rw (length-replicate {A = ℕ} 22539 0) (omega (arith, start-mono (s .args .h) 6 10 (omega arith), fits-all (s .args .h) Middle (s .pre .1 .1)), omega arith))
 
 effects-middle-sub-effects-middle : (t : ℕ) → effects-middle-lts.Need-sub-effects-middle (claims t) (effects-middle-at t) effects-middle.Post
 effects-middle-sub-effects-middle t c = search needs

@@ -40,7 +40,7 @@ drain-middle-slice-aggregate-drain-in-2 :
 drain-middle-slice-aggregate-drain-in-2 t c = refl
 
 drain-middle-drain-in-requires : (t : ℕ) → drain-middle-lts.Need-drain-in-requires (claims t) (drain-middle-at t) drain-middle.Post
-drain-middle-drain-in-requires t c κs = let s = c .before .before .before .before .before .before .before .before .before .before .before .before .before .before .before .before .before .before .before .before in (s .pre .1 .0, (tables-long (s .args .h) Middle 4875 refl (omega arith) (s .pre .1 .1), partners-long (s .args .h) 128 1024 1408 (omega arith) (s .pre .1 .1 .0) (s .pre .1 .1 .1)))
+drain-middle-drain-in-requires t c κs = let s = c .before .before .before .before .before .before .before .before .before .before .before .before .before .before .before .before .before .before .before .before in (s .pre .1 .0, (tables-long (s .args .h) Middle 22539 refl (omega arith) (s .pre .1 .1), partners-long (s .args .h) 1024 4096 7168 (omega arith) (s .pre .1 .1 .0) (s .pre .1 .1 .1)))
 
 drain-middle-sub-drain-middle : (t : ℕ) → drain-middle-lts.Need-sub-drain-middle (claims t) (drain-middle-at t) drain-middle.Post
 drain-middle-sub-drain-middle t c = c .before .before .before .before .before .before .before .before .if1 .taken

@@ -29,7 +29,7 @@ check-middle-slice-aggregate-load : (t : ℕ) → check-middle-lts.Need-slice-ag
 check-middle-slice-aggregate-load t c = search needs
 
 check-middle-load-requires : (t : ℕ) → check-middle-lts.Need-load-requires (claims t) (check-middle-at t) check-middle.Post
-check-middle-load-requires t c κs = let s = c .before .before in (s .pre .1 .0, rw (length-replicate {A = ℕ} 2443 0) (fits-places (s .args .h) Middle (s .pre .1 .1), omega arith))
+check-middle-load-requires t c κs = let s = c .before .before in (s .pre .1 .0, rw (length-replicate {A = ℕ} 11275 0) (fits-places (s .args .h) Middle (s .pre .1 .1), omega arith))
 
 check-middle-sub-check-middle : (t : ℕ) → check-middle-lts.Need-sub-check-middle (claims t) (check-middle-at t) check-middle.Post
 check-middle-sub-check-middle t c = search needs

@@ -33,18 +33,18 @@ abbrev claims : ℕ → judge-middle-lts.Claims
 claims t = (judge-in-reads.Asked, judge-in-reads.Learnt, judge-middle-below t, judge-middle.Post)
 
 judge-middle-slice-aggregate-judge-in : (t : ℕ) → judge-middle-lts.Need-slice-aggregate-judge-in (claims t) (judge-middle-at t) judge-middle.Post
-judge-middle-slice-aggregate-judge-in t c = length-replicate {A = ℕ} 4875 0
+judge-middle-slice-aggregate-judge-in t c = length-replicate {A = ℕ} 22539 0
 
 judge-middle-slice-aggregate-judge-in-2 :
     (t : ℕ) → judge-middle-lts.Need-slice-aggregate-judge-in-2 (claims t) (judge-middle-at t) judge-middle.Post
-judge-middle-slice-aggregate-judge-in-2 t c = length-replicate {A = ℕ} 8224 0
+judge-middle-slice-aggregate-judge-in-2 t c = length-replicate {A = ℕ} 33024 0
 
 judge-middle-slice-aggregate-judge-in-3 :
     (t : ℕ) → judge-middle-lts.Need-slice-aggregate-judge-in-3 (claims t) (judge-middle-at t) judge-middle.Post
-judge-middle-slice-aggregate-judge-in-3 t c = length-replicate {A = ℕ} 8224 0
+judge-middle-slice-aggregate-judge-in-3 t c = length-replicate {A = ℕ} 33024 0
 
 judge-middle-judge-in-requires : (t : ℕ) → judge-middle-lts.Need-judge-in-requires (claims t) (judge-middle-at t) judge-middle.Post
-judge-middle-judge-in-requires t c κs = let s = c .before .before .before .before .before .before in (s .pre .1 .0, (tables-long (s .args .h) Middle 4875 refl (omega arith) (s .pre .1 .1), marks-clear (s .args .h) 128 1024 1024 8224 (omega arith) (s .pre .1 .1 .0) (s .pre .1 .1 .1) (s .pre .1 .1 .2)))
+judge-middle-judge-in-requires t c κs = let s = c .before .before .before .before .before .before in (s .pre .1 .0, (tables-long (s .args .h) Middle 22539 refl (omega arith) (s .pre .1 .1), marks-clear (s .args .h) 1024 4096 4096 33024 (omega arith) (s .pre .1 .1 .0) (s .pre .1 .1 .1) (s .pre .1 .1 .2)))
 
 judge-middle-sub-judge-middle : (t : ℕ) → judge-middle-lts.Need-sub-judge-middle (claims t) (judge-middle-at t) judge-middle.Post
 judge-middle-sub-judge-middle t c = c .if1 .taken

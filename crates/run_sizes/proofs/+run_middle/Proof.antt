@@ -37,7 +37,7 @@ run-middle-slice-aggregate-run-in-3 : (t : ℕ) → run-middle-lts.Need-slice-ag
 run-middle-slice-aggregate-run-in-3 t c = refl
 
 run-middle-run-in-requires : (t : ℕ) → run-middle-lts.Need-run-in-requires (claims t) (run-middle-at t) run-middle.Post
-run-middle-run-in-requires t c κs = let s = c .before .before .before .before .before .before .before .before .before .before .before .before .before .before .before .before .before .before .before .before .before .before .before .before .before .before in (s .pre .1 .0, (tables-long (s .args .h) Middle 4875 refl (omega arith) (s .pre .1 .1), (partners-long (s .args .h) 128 1024 1408 (omega arith) (s .pre .1 .1 .0) (s .pre .1 .1 .1) (s .pre .1 .1 .3), plan-long (s .args .h) 128 640 (omega arith) (omega arith) (s .pre .1 .1 .0) (s .pre .1 .1 .3))))
+run-middle-run-in-requires t c κs = let s = c .before .before .before .before .before .before .before .before .before .before .before .before .before .before .before .before .before .before .before .before .before .before .before .before .before .before in (s .pre .1 .0, (tables-long (s .args .h) Middle 22539 refl (omega arith) (s .pre .1 .1), (partners-long (s .args .h) 1024 4096 7168 (omega arith) (s .pre .1 .1 .0) (s .pre .1 .1 .1) (s .pre .1 .1 .3), plan-long (s .args .h) 1024 5120 (omega arith) (omega arith) (s .pre .1 .1 .0) (s .pre .1 .1 .3))))
 
 run-middle-slice-aggregate-run-middle : (t : ℕ) → run-middle-lts.Need-slice-aggregate-run-middle (claims t) (run-middle-at t) run-middle.Post
 run-middle-slice-aggregate-run-middle t c = refl

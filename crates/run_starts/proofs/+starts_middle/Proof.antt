@@ -28,19 +28,19 @@ abbrev claims : ℕ → lts.Claims
 claims t = (starts-in-reads.Asked, starts-in-reads.Learnt, below t, reads.Post)
 
 slice-aggregate-starts-in : (t : ℕ) → lts.Need-slice-aggregate-starts-in (claims t) (at t) reads.Post
-slice-aggregate-starts-in t c = length-replicate {A = ℕ} 4875 0
+slice-aggregate-starts-in t c = length-replicate {A = ℕ} 22539 0
 
 slice-aggregate-starts-in-2 : (t : ℕ) → lts.Need-slice-aggregate-starts-in-2 (claims t) (at t) reads.Post
-slice-aggregate-starts-in-2 t c = length-replicate {A = ℕ} 1408 0
+slice-aggregate-starts-in-2 t c = length-replicate {A = ℕ} 7168 0
 
 slice-aggregate-starts-in-3 : (t : ℕ) → lts.Need-slice-aggregate-starts-in-3 (claims t) (at t) reads.Post
-slice-aggregate-starts-in-3 t c = length-replicate {A = ℕ} 640 0
+slice-aggregate-starts-in-3 t c = length-replicate {A = ℕ} 5120 0
 
 slice-aggregate-starts-in-4 : (t : ℕ) → lts.Need-slice-aggregate-starts-in-4 (claims t) (at t) reads.Post
-slice-aggregate-starts-in-4 t c = length-replicate {A = ℕ} 8224 0
+slice-aggregate-starts-in-4 t c = length-replicate {A = ℕ} 33024 0
 
 starts-in-requires : (t : ℕ) → lts.Need-starts-in-requires (claims t) (at t) reads.Post
-starts-in-requires t c κs = let s = c .before .before .before .before .before .before .before .before .before .before .before in let h = s .args .h in let f = s .pre .1 .1 in (s .pre .1 .0, (tables-long h Middle 4875 refl (omega arith) f, (partners-long h 128 1024 1408 (omega arith) (f .0) (f .1), (plan-long h 128 640 (omega arith) (omega arith) (f .0) (f .3), seen-clear h 128 1024 1024 8224 (omega arith) (f .0) (f .1) (f .2)))))
+starts-in-requires t c κs = let s = c .before .before .before .before .before .before .before .before .before .before .before in let h = s .args .h in let f = s .pre .1 .1 in (s .pre .1 .0, (tables-long h Middle 22539 refl (omega arith) f, (partners-long h 1024 4096 7168 (omega arith) (f .0) (f .1), (plan-long h 1024 5120 (omega arith) (omega arith) (f .0) (f .3), seen-clear h 1024 4096 4096 33024 (omega arith) (f .0) (f .1) (f .2)))))
 
 slice-aggregate-starts-middle : (t : ℕ) → lts.Need-slice-aggregate-starts-middle (claims t) (at t) reads.Post
 slice-aggregate-starts-middle t c = length-replicate {A = ℕ} 1 0
