@@ -222,6 +222,8 @@ pub fn order_in(
         cap,
         &plan[users..],
         count,
+        order,
+        chain,
         visited,
         nodes,
         outs,

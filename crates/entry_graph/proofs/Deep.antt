@@ -23,7 +23,7 @@ unfolding graphIn
 loaded-targets {numbers} t m h = targets (λ u. u < graphIn numbers .header .modules) (importRecords (moduleOf (graphIn numbers) m)) (λ k l n. let b = record-target-below t m k h l in omega arith)
 
 -- how many numbers below k are not in a set
-unfoldable fresh : ℕ → (ℕ → Bool) → ℕ
+unfoldable pub fresh : ℕ → (ℕ → Bool) → ℕ
 fresh zero f = 0
 fresh (suc k) f = elim (f k) [ true ↦ fresh k f | false ↦ suc (fresh k f) ]
 
@@ -68,6 +68,11 @@ fresh-new (suc k) m f h o = go (eqb k m) refl (f k) refl (fresh-new k m f)
     go true e false i r = let q : with m f k ≡ true = rw e in rw (q, i, fresh) (omega (arith, less))
     go false e true i r = let d = eqb-false k m e in let l : fresh k (with m f) < fresh k f = r (omega (arith, d)) o in let q : with m f k ≡ true = with-more m k f i in rw (q, i, fresh) l
     go false e false i r = let d = eqb-false k m e in let l : fresh k (with m f) < fresh k f = r (omega (arith, d)) o in let q : with m f k ≡ false = rw (e, i) in rw (q, i, fresh) (omega (arith, l))
+
+-- a bit that is set takes one of them away
+pub fresh-set : (k m : ℕ) (f h : ℕ → Bool) → ((x : ℕ) → h x ≡ (eqb x m || f x)) → m < k → f m ≡ false → fresh k h < fresh k f
+unfolding with
+fresh-set k m f h e l o = let q : h ≡ with m f = λ i x. e x i in rw q (fresh-new k m f l o)
 
 -- what was visited stays so
 abbrev Any : ℕ → Type 0

@@ -5,4 +5,5 @@ pub mod Walking
 pub mod Entries
 pub mod Keeping
 pub mod Deep
+pub mod Frames
 pub mod Made

@@ -1,13 +1,14 @@
 -- What the steps of the walk leave: a node put, an edge added, an import record taken.
-use Prim.Native.Nat.{ℕ, _+_, _<_}
+use Prim.Native.Nat.{ℕ, _+_, _<_, _≤_}
 use mathlib.Core.Path.{_≡_}
 use mathlib.Core.Bool.{Bool, true, false}
 use mathlib.Core.List.{List, []}
-use lib.ListN.{getD, set}
+use lib.ListN.{length, getD, set, drop}
 use Rattle.index.specs.declared.ModuleIdx.{ModuleIdx}
 use Rattle.graph.specs.Check.{Graph}
 use Rattle.graph_access.specs.Names.{importRecords}
 use Rattle.graph_access.specs.Words.{moduleOf, normal}
+use Rattle.bit_row.specs.Row.{bitAt}
 use Rattle.keep_record.specs.Lines.{elem}
 use Rattle.entry_graph.specs.declared.Built.{Built}
 use Rattle.entry_graph.specs.declared.Built.the-variants.{Nodes, Full}
@@ -15,7 +16,9 @@ use Rattle.entry_graph.specs.declared.Import.{Import}
 use Rattle.entry_graph.specs.declared.Import.the-variants.{Unresolved, SameRoot, Edge}
 use Rattle.entry_graph.specs.declared.Step.{Step}
 use Rattle.entry_graph.specs.declared.Step.the-variants.{Walk, Stay, Overfull}
-use Rattle.entry_graph.specs.Ordering.{Ordering, addEdge, importRecord}
+use Rattle.entry_graph.specs.declared.Taken.{Taken}
+use Rattle.entry_graph.specs.declared.Taken.the-variants.{UpTo, All, Overfull as Overfilled}
+use Rattle.entry_graph.specs.Ordering.{Ordering, addEdge, importRecord, allRecords, construct}
 use Rattle.entry_graph.specs.Memory.{orderingIn, Stored}
 
 -- Module m is a node. A node before: nothing changes; else it is the last one, and has no successors.
@@ -64,3 +67,17 @@ pub record Takes (modules cap root : ℕ) (i : Import) (nodes₀ : List ℕ) (n�
   pub stay-is : (n : ℕ) → r ≡ Stay n → (go : ℕ → ℕ → Ordering → Ordering) (v : List ℕ)
       → importAs go root i (orderingIn modules cap v nodes₀ n₀ outs₀ succs₀) ≡ orderingIn modules cap v nodes n outs succs
   pub too-many : r ≡ Overfull → cap < modules
+
+-- What taking the records of module m from record k on leaves, where a walk may go `fuel` levels deep: the records from i on, and before them a walk from a
+-- module that is not visited; or none.
+pub record TakesRecords (g : Graph) (modules cap fuel root m k : ℕ) (visited nodes₀ : List ℕ) (n₀ : ℕ) (outs₀ succs₀ nodes outs succs edges : List ℕ) (r : Taken) : Type 0 where
+  pub upto-stored : (i : ℕ) (from t : ModuleIdx) (n : ℕ) → r ≡ UpTo i from t n → Stored modules cap nodes n outs succs edges
+  pub upto-below : (i : ℕ) (from t : ModuleIdx) (n : ℕ) → r ≡ UpTo i from t n → (from .0 < modules) × (t .0 < modules) × (0 < fuel) × (bitAt visited (t .0) ≡ false)
+  pub upto-few : (i : ℕ) (from t : ModuleIdx) (n : ℕ) → r ≡ UpTo i from t n → i ≤ length (recordsOf g m)
+  pub upto-is : (i : ℕ) (from t : ModuleIdx) (n : ℕ) → r ≡ UpTo i from t n
+      → allRecords (λ x y q. construct g fuel x y q) root (drop k (recordsOf g m)) (orderingIn modules cap visited nodes₀ n₀ outs₀ succs₀)
+      ≡ allRecords (λ x y q. construct g fuel x y q) root (drop i (recordsOf g m)) (construct g fuel (from .0) (t .0) (orderingIn modules cap visited nodes n outs succs))
+  pub all-stored : (n : ℕ) → r ≡ All n → Stored modules cap nodes n outs succs edges
+  pub all-is : (n : ℕ) → r ≡ All n
+      → allRecords (λ x y q. construct g fuel x y q) root (drop k (recordsOf g m)) (orderingIn modules cap visited nodes₀ n₀ outs₀ succs₀) ≡ orderingIn modules cap visited nodes n outs succs
+  pub too-many : r ≡ Overfilled → cap < modules

@@ -1,7 +1,7 @@
 // The graph by which dynamic entries are ordered (dynamic_entries.rs, `construct_dynamic_entry_graph`).
 ghost use mathlib.Core.Path.{_≡_};
 ghost use Prim.Native.Nat.{ℕ, _+_, _*_, _<_, _≤_};
-ghost use mathlib.Core.Bool.{_||_};
+ghost use mathlib.Core.Bool.{false, _||_};
 ghost use mathlib.Core.List.{List, []};
 ghost use lib.Dec.{eqb};
 ghost use lib.ListN.{length, getD, take};
@@ -13,7 +13,7 @@ ghost use Rattle.graph_access.specs.Names.{importRecords};
 ghost use Rattle.graph_access.specs.Words.{moduleOf};
 ghost use Rattle.entry_graph.specs.Ordering.{noOrdering, construct, addEdge, fromEntries};
 ghost use Rattle.entry_graph.specs.Memory.{orderingIn, Stored, Builds};
-ghost use Rattle.entry_graph.specs.Steps.{Put, Holds, recordsOf, Bounded, Asks, behindEdge, Takes};
+ghost use Rattle.entry_graph.specs.Steps.{Put, Holds, recordsOf, Bounded, Asks, behindEdge, Takes, TakesRecords};
 use graph_access::entries;
 use graph_access::modules;
 use index::EntryIdx;
@@ -37,6 +37,13 @@ enum Import {
 enum Step {
     Walk(ModuleIdx, ModuleIdx, usize),
     Stay(usize),
+    Overfull,
+}
+
+// How far the import records of a module were taken: up to a record, with a walk under a root from a module left, or all. Both have the number of nodes.
+enum Taken {
+    UpTo(usize, ModuleIdx, ModuleIdx, usize),
+    All(usize),
     Overfull,
 }
 
@@ -196,16 +203,63 @@ fn is_over(fuel: usize, visited: &[u8], m: ModuleIdx) -> bool
     bit_row::test(visited, m.0)
 }
 
-// The walk from module m under a root, at most `fuel` levels deep. As many as there are modules suffice (`construct-deep` in proofs/Deep.antt), so
-// the machine's stack holds at most 1025 calls.
-fn construct_dynamic_entry_graph(
+// Takes the import records of module m from record k on, up to the first behind which a walk is left from a module that is not visited. `fuel` is how
+// deep that walk may go.
+fn take_records(
     numbers: &[u32],
     tables: &[usize],
     fuel: usize,
     cap: usize,
     root: ModuleIdx,
     m: ModuleIdx,
+    k: usize,
     n: usize,
+    visited: &[u8],
+    nodes: &mut [usize],
+    outs: &mut [usize],
+    succs: &mut [u16],
+    edges: &mut [u8],
+) -> Taken
+    requires { ⌜ Loaded (now numbers) (now tables) ⌝ }
+    requires { ⌜ Stored (headerIn (now numbers) .modules) cap (now nodes) n (now outs) (now succs) (now edges) ⌝ }
+    requires { ⌜ (root .0 < headerIn (now numbers) .modules) × (m .0 < headerIn (now numbers) .modules) × (headerIn (now numbers) .modules ≤ 8 * length (now visited)) ⌝ }
+    ensures { λ r. ⌜ TakesRecords (graphIn (now (numbers .entry))) (headerIn (now (numbers .entry)) .modules) cap fuel (root .0) (m .0) k (now (visited .entry)) (now (nodes .entry)) n (now (outs .entry)) (now (succs .entry)) (now (nodes .exit)) (now (outs .exit)) (now (succs .exit)) (now (edges .exit)) r ⌝ }
+{
+    let size = record_count(numbers, tables, m);
+    let mut c = n;
+    let mut i = k;
+    while i < size {
+        let import = read_record(numbers, tables, root, m, ImportRecordIdx(i));
+        i += 1;
+        match take_import(numbers, cap, root, import, c, nodes, outs, succs, edges) {
+            Step::Walk(r, t, d) => {
+                c = d;
+                if !is_over(fuel, visited, t) {
+                    return Taken::UpTo(i, r, t, d);
+                }
+            }
+            Step::Stay(d) => {
+                c = d;
+            }
+            Step::Overfull => {
+                return Taken::Overfull;
+            }
+        }
+    }
+    Taken::All(c)
+}
+
+// The walk from module `first`, which is not visited and is its own root. It keeps its own stack, so that the machine's does not grow with the graph:
+// frame d is a walk that waits for the one behind it, with the import record at which it goes on in `records`, and 1,024 times its module plus its
+// root in `walks`. There are never more frames than modules, since each has visited one more.
+fn construct_dynamic_entry_graph(
+    numbers: &[u32],
+    tables: &[usize],
+    cap: usize,
+    first: ModuleIdx,
+    n: usize,
+    records: &mut [usize],
+    walks: &mut [usize],
     visited: &mut [u8],
     nodes: &mut [usize],
     outs: &mut [usize],
@@ -214,61 +268,69 @@ fn construct_dynamic_entry_graph(
 ) -> Built
     requires { ⌜ Loaded (now numbers) (now tables) ⌝ }
     requires { ⌜ Stored (headerIn (now numbers) .modules) cap (now nodes) n (now outs) (now succs) (now edges) ⌝ }
-    requires { ⌜ (root .0 < headerIn (now numbers) .modules) × (m .0 < headerIn (now numbers) .modules) × (headerIn (now numbers) .modules ≤ 8 * length (now visited)) ⌝ }
-    ensures { λ r. ⌜ Holds (headerIn (now (numbers .entry)) .modules) cap (construct (graphIn (now (numbers .entry))) fuel (root .0) (m .0) (orderingIn (headerIn (now (numbers .entry)) .modules) cap (now (visited .entry)) (now (nodes .entry)) n (now (outs .entry)) (now (succs .entry)))) (now (visited .exit)) (now (nodes .exit)) (now (outs .exit)) (now (succs .exit)) (now (edges .exit)) r ⌝ }
+    requires { ⌜ (headerIn (now numbers) .modules ≤ length (now records)) × (headerIn (now numbers) .modules ≤ length (now walks)) ⌝ }
+    requires { ⌜ (first .0 < headerIn (now numbers) .modules) × (headerIn (now numbers) .modules ≤ 8 * length (now visited)) × (bitAt (now visited) (first .0) ≡ false) ⌝ }
+    ensures { λ r. ⌜ Holds (headerIn (now (numbers .entry)) .modules) cap (construct (graphIn (now (numbers .entry))) (headerIn (now (numbers .entry)) .modules) (first .0) (first .0) (orderingIn (headerIn (now (numbers .entry)) .modules) cap (now (visited .entry)) (now (nodes .entry)) n (now (outs .entry)) (now (succs .entry)))) (now (visited .exit)) (now (nodes .exit)) (now (outs .exit)) (now (succs .exit)) (now (edges .exit)) r ⌝ }
 {
-    if is_over(fuel, visited, m) {
-        return Built::Nodes(n);
-    }
-    bit_row::set(visited, m.0);
-    let size = record_count(numbers, tables, m);
-    let mut c = n;
+    let h = graph::header_of(numbers);
+    bit_row::set(visited, first.0);
+    let mut root = first.0;
+    let mut m = first.0;
     let mut k: usize = 0;
-    while k < size {
-        let import = read_record(numbers, tables, root, m, ImportRecordIdx(k));
-        k += 1;
-        match take_import(numbers, cap, root, import, c, nodes, outs, succs, edges) {
-            Step::Walk(r, t, d) => {
-                match construct_dynamic_entry_graph(
-                    numbers,
-                    tables,
-                    fuel - 1,
-                    cap,
-                    r,
-                    t,
-                    d,
-                    visited,
-                    nodes,
-                    outs,
-                    succs,
-                    edges,
-                ) {
-                    Built::Nodes(e) => {
-                        c = e;
-                    }
-                    Built::Full => {
-                        return Built::Full;
-                    }
-                }
-            }
-            Step::Stay(d) => {
+    let mut c = n;
+    let mut depth: usize = 0;
+    loop {
+        match take_records(
+            numbers,
+            tables,
+            h.modules - 1 - depth,
+            cap,
+            ModuleIdx(root),
+            ModuleIdx(m),
+            k,
+            c,
+            visited,
+            nodes,
+            outs,
+            succs,
+            edges,
+        ) {
+            Taken::UpTo(i, r, t, d) => {
+                bit_row::set(visited, t.0);
+                records[depth] = i;
+                walks[depth] = 1024 * m + root;
+                depth += 1;
+                root = r.0;
+                m = t.0;
+                k = 0;
                 c = d;
             }
-            Step::Overfull => {
+            Taken::All(d) => {
+                if depth == 0 {
+                    return Built::Nodes(d);
+                }
+                depth -= 1;
+                k = records[depth];
+                m = walks[depth] / 1024;
+                root = walks[depth] % 1024;
+                c = d;
+            }
+            Taken::Overfull => {
                 return Built::Full;
             }
         }
     }
-    Built::Nodes(c)
 }
 
-// The graph of the first `count` entries of a list. The rows hold no graph yet.
+// The graph of the first `count` entries of a list. The rows hold no graph yet; `records` and `walks` are the walk's stack.
 pub fn entry_graph(
     numbers: &[u32],
     tables: &[usize],
     cap: usize,
     list: &[usize],
     count: usize,
+    records: &mut [usize],
+    walks: &mut [usize],
     visited: &mut [u8],
     nodes: &mut [usize],
     outs: &mut [usize],
@@ -277,10 +339,10 @@ pub fn entry_graph(
 ) -> Built
     requires { ⌜ Loaded (now numbers) (now tables) ⌝ }
     requires { ⌜ (count ≤ length (now list)) × ((i : ℕ) → i < count → getD (now list) i 0 < headerIn (now numbers) .entries) ⌝ }
+    requires { ⌜ (headerIn (now numbers) .modules ≤ length (now records)) × (headerIn (now numbers) .modules ≤ length (now walks)) ⌝ }
     requires { ⌜ Stored (headerIn (now numbers) .modules) cap (now nodes) 0 (now outs) (now succs) (now edges) × (headerIn (now numbers) .modules ≤ 8 * length (now visited)) ⌝ }
     ensures { λ r. ⌜ Builds (headerIn (now (numbers .entry)) .modules) cap (fromEntries (graphIn (now (numbers .entry))) (take count (now (list .entry))) noOrdering) (now (nodes .exit)) (now (outs .exit)) (now (succs .exit)) (now (edges .exit)) r ⌝ }
 {
-    let h = graph::header_of(numbers);
     let bytes = visited.len();
     let mut n: usize = 0;
     let mut i: usize = 0;
@@ -290,11 +352,11 @@ pub fn entry_graph(
         match construct_dynamic_entry_graph(
             numbers,
             tables,
-            h.modules,
             cap,
             m,
-            m,
             n,
+            records,
+            walks,
             visited,
             nodes,
             outs,
