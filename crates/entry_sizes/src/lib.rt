@@ -1,5 +1,6 @@
 // Parting and sorting the entries of a graph, with rows by its size.
-// There is room for 16 successors of each module at first; where a module has more, the ordering graph is built again with room for 1,024.
+// Up to 128 modules there is room for all of them as successors of each. Above, there is room for 16 at first; where a module has more, the ordering
+// graph is built again with room for 1,024.
 ghost use mathlib.Core.Path.{_≡_};
 ghost use Prim.Native.Nat.{ℕ, _<_, _≤_};
 ghost use mathlib.Core.Bool.{_&&_};
@@ -47,7 +48,7 @@ fn order_small(numbers: &[u32], tables: &[usize], users: usize, plan: &mut [usiz
     )
 }
 
-// The same with rows for a graph of middle size. `again` is 0 (`frames::apart`).
+// The same with rows for a graph of middle size, and room for every module as a successor of each. `again` is 0 (`frames::apart`).
 fn order_middle(
     numbers: &[u32],
     tables: &[usize],
@@ -58,12 +59,12 @@ fn order_middle(
     requires { ⌜ Loaded (now numbers) (now tables) ⌝ }
     requires { ⌜ (headerIn (now numbers) .modules ≤ 128) × (headerIn (now numbers) .entries ≤ 128) ⌝ }
     requires { ⌜ Parted (graphIn (now numbers)) (now plan) users × Cleared (graphIn (now numbers)) (now plan) ⌝ }
-    ensures { λ r. ⌜ Orders (graphIn (now (numbers .entry))) 16 users (now (plan .entry)) (now (plan .exit)) r ⌝ }
+    ensures { λ r. ⌜ Orders (graphIn (now (numbers .entry))) 128 users (now (plan .entry)) (now (plan .exit)) r ⌝ }
 {
     let mut visited = [0u8; 16];
     let mut nodes = [0usize; 128];
     let mut outs = [0usize; 128];
-    let mut succs = [0u16; 2048];
+    let mut succs = [0u16; 16384];
     let mut edges = [0u8; 2048];
     let mut order = [0usize; 128];
     let mut chain = [0usize; 256];
@@ -72,7 +73,7 @@ fn order_middle(
         numbers,
         tables,
         users,
-        16,
+        128,
         &mut visited,
         &mut nodes,
         &mut outs,
@@ -235,7 +236,7 @@ fn split(numbers: &[u32], tables: &[usize], h: Header, plan: &mut [usize]) -> us
     split_large(numbers, tables, plan, frames::apart(numbers))
 }
 
-// Sorts the dynamic entries with rows by the graph's size, with room for 16 successors of each module.
+// Sorts the dynamic entries with rows by the graph's size, with room for at least 16 successors of each module.
 fn order_by_size(
     numbers: &[u32],
     tables: &[usize],

@@ -45,7 +45,7 @@ order-middle-slice-aggregate-order-in-3 t c = sym (length-replicate {A = ℕ} 12
 
 order-middle-slice-aggregate-order-in-4 :
     (t : ℕ) → order-middle-lts.Need-slice-aggregate-order-in-4 (claims t) (order-middle-at t) order-middle.Post
-order-middle-slice-aggregate-order-in-4 t c = sym (length-replicate {A = ℕ} 2048 0)
+order-middle-slice-aggregate-order-in-4 t c = sym (length-replicate {A = ℕ} 16384 0)
 
 order-middle-slice-aggregate-order-in-5 :
     (t : ℕ) → order-middle-lts.Need-slice-aggregate-order-in-5 (claims t) (order-middle-at t) order-middle.Post
@@ -67,7 +67,7 @@ order-middle-order-in-requires : (t : ℕ) → order-middle-lts.Need-order-in-re
 order-middle-order-in-requires t c κs =
     let s = c .before .before .before .before .before .before .before .before .before .before .before .before in
     let h = headerIn (s .args .numbers .now) in
-    (s .pre .1 .0, (s .pre .1 .1 .1, rows-ready (h .modules) (h .entries) 16 128 (s .pre .1 .1 .0 .0) (s .pre .1 .1 .0 .1) (omega arith) (omega arith) 16 128 128 2048 2048 128 256 128 (omega arith) (omega arith) (omega arith) (omega arith) (omega arith) (omega arith) (omega arith) (omega arith)))
+    (s .pre .1 .0, (s .pre .1 .1 .1, rows-ready (h .modules) (h .entries) 128 128 (s .pre .1 .1 .0 .0) (s .pre .1 .1 .0 .1) (omega arith) (omega arith) 16 128 128 16384 2048 128 256 128 (omega arith) (omega arith) (omega arith) (omega arith) (omega arith) (omega arith) (omega arith) (omega arith)))
 
 order-middle-enum-told : (t : ℕ) → order-middle-lts.Need-enum-told (claims t) (order-middle-at t) order-middle.Post
 order-middle-enum-told t c = c .match .keys1

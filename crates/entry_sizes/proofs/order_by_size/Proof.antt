@@ -1,4 +1,6 @@
 use Rattle.entry_sizes.proofs.Tiers.{within}
+use Rattle.entry_sizes.proofs.Again.{orders-wider}
+use native.Mathlib.Omega.{arith}
 use borrow.Author.Needs.{needs}
 use Rattle.entry_sizes.proofs.order_by_size.Statement.{statement}
 use Rattle.entry_sizes.proofs.order_by_size.Tie as tie
@@ -35,7 +37,7 @@ same-length-2 : tie.Need-same-length-2
 same-length-2 c = c .before .before .order-middle .kept .1 .1 .1 .0
 
 returns-2 : tie.Need-returns-2
-returns-2 c = c .before .before .order-middle .ensures
+returns-2 c = orders-wider _ _ _ _ _ _ (omega arith) (c .before .before .order-middle .ensures)
 
 apart-requires-2 : tie.Need-apart-requires-2
 apart-requires-2 c κs = search needs
