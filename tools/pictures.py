@@ -41,7 +41,7 @@ GROUPS = [
     ),
     ("Worked cases", 4, 580, 120, "tests", "worked_facts vectors"),
     ("Judge", 4, 720, 160, "code", "record_form justification completeness line_judgement judge_parts judge"),
-    ("Record and worklist", 5, 20, 860, "code", "keep_record marked fact_marks starts worklist answer_rows rule_tables"),
+    ("Record and worklist", 5, 20, 860, "code", "keep_record include_statements marked fact_marks starts worklist answer_rows rule_tables"),
     (
         "Keep rules", 6, 20, 860, "code",
         "keep_rules include_module include_statement include_symbol consequences include_context",

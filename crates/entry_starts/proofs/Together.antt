@@ -13,7 +13,7 @@ use Rattle.keep_record.specs.declared.Added.the-variants.{Lines, Full}
 use Rattle.keep_record.specs.Held.{linesOf, Held, Grown}
 use Rattle.worklist.specs.Drain.{started, drainedAll}
 use Rattle.worklist.specs.Links.{Linked, AllLinked}
-use Rattle.worklist.proofs.Going.{grown-as, full-more}
+use Rattle.include_statements.proofs.Going.{grown-as, full-more}
 use Rattle.worklist.proofs.Ends.{all-longer}
 use Rattle.entry_starts.specs.Working.{Working, Started}
 

@@ -111,7 +111,7 @@ fn swept(numbers: &[u32], tables: &[usize], m: ModuleIdx, i: StmtIdx) -> bool
 }
 
 // K2, candidate i.
-fn sweep_candidate(numbers: &[u32], tables: &[usize], m: ModuleIdx, i: StmtIdx) -> Candidate
+pub fn sweep_candidate(numbers: &[u32], tables: &[usize], m: ModuleIdx, i: StmtIdx) -> Candidate
     requires { ⌜ Prepared (now numbers) (now tables) ⌝ }
     requires { ⌜ (m .0 < headerIn (now numbers) .modules) × (i .0 < length (statementList (graphIn (now numbers)) (m .0))) ⌝ }
     ensures { λ r. ⌜ (r ≡ sweepCandidate (graphIn (now (numbers .entry))) (lastVerdicts (graphIn (now (numbers .entry)))) (m .0) (i .0)) × GoodCandidate (graphIn (now (numbers .entry))) r ⌝ }
@@ -123,7 +123,7 @@ fn sweep_candidate(numbers: &[u32], tables: &[usize], m: ModuleIdx, i: StmtIdx) 
 }
 
 // K3, candidate k (`include_side_effectful_dependencies`).
-fn dependency_candidate(numbers: &[u32], tables: &[usize], m: ModuleIdx, k: usize) -> Candidate
+pub fn dependency_candidate(numbers: &[u32], tables: &[usize], m: ModuleIdx, k: usize) -> Candidate
     requires { ⌜ Prepared (now numbers) (now tables) ⌝ }
     requires { ⌜ (m .0 < headerIn (now numbers) .modules) × (k < length (dependencies (moduleOf (graphIn (now numbers)) (m .0)))) ⌝ }
     ensures { λ r. ⌜ (r ≡ dependencyCandidate (graphIn (now (numbers .entry))) (lastVerdicts (graphIn (now (numbers .entry)))) (m .0) k) × GoodCandidate (graphIn (now (numbers .entry))) r ⌝ }
@@ -142,7 +142,7 @@ fn dependency_candidate(numbers: &[u32], tables: &[usize], m: ModuleIdx, k: usiz
 }
 
 // How many candidates K4 has.
-fn eval_candidates(numbers: &[u32], tables: &[usize], m: ModuleIdx) -> usize
+pub fn eval_candidates(numbers: &[u32], tables: &[usize], m: ModuleIdx) -> usize
     requires { ⌜ Prepared (now numbers) (now tables) ⌝ }
     requires { ⌜ m .0 < headerIn (now numbers) .modules ⌝ }
     ensures { λ r. ⌜ r ≡ evalCandidates (graphIn (now (numbers .entry))) (m .0) ⌝ }
@@ -157,7 +157,7 @@ fn eval_candidates(numbers: &[u32], tables: &[usize], m: ModuleIdx) -> usize
 }
 
 // K4, candidate k.
-fn eval_candidate(numbers: &[u32], tables: &[usize], m: ModuleIdx, k: usize) -> Candidate
+pub fn eval_candidate(numbers: &[u32], tables: &[usize], m: ModuleIdx, k: usize) -> Candidate
     requires { ⌜ Prepared (now numbers) (now tables) ⌝ }
     requires { ⌜ (m .0 < headerIn (now numbers) .modules) × (k < length (namedImports (moduleOf (graphIn (now numbers)) (m .0)))) ⌝ }
     ensures { λ r. ⌜ (r ≡ evalCandidate (graphIn (now (numbers .entry))) (m .0) k) × GoodCandidate (graphIn (now (numbers .entry))) r ⌝ }
@@ -167,7 +167,12 @@ fn eval_candidate(numbers: &[u32], tables: &[usize], m: ModuleIdx, k: usize) -> 
 }
 
 // K5, candidate k (`included_commonjs_export_symbol`).
-fn export_symbol_candidate(numbers: &[u32], tables: &[usize], m: ModuleIdx, k: usize) -> Candidate
+pub fn export_symbol_candidate(
+    numbers: &[u32],
+    tables: &[usize],
+    m: ModuleIdx,
+    k: usize,
+) -> Candidate
     requires { ⌜ Prepared (now numbers) (now tables) ⌝ }
     requires { ⌜ (m .0 < headerIn (now numbers) .modules) × (k < length (commonJsExportSymbols (moduleOf (graphIn (now numbers)) (m .0)))) ⌝ }
     ensures { λ r. ⌜ (r ≡ exportSymbolCandidate (graphIn (now (numbers .entry))) (m .0) k) × GoodCandidate (graphIn (now (numbers .entry))) r ⌝ }
@@ -193,7 +198,7 @@ pub fn dev_namespace(numbers: &[u32], tables: &[usize], m: ModuleIdx) -> bool
 }
 
 // K6.
-fn dev_candidate(numbers: &[u32], tables: &[usize], m: ModuleIdx) -> Candidate
+pub fn dev_candidate(numbers: &[u32], tables: &[usize], m: ModuleIdx) -> Candidate
     requires { ⌜ Prepared (now numbers) (now tables) ⌝ }
     requires { ⌜ m .0 < headerIn (now numbers) .modules ⌝ }
     requires { ⌜ normal (graphIn (now numbers)) (m .0) ≡ true ⌝ }

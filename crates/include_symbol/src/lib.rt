@@ -127,7 +127,7 @@ fn demanded_body(numbers: &[u32], tables: &[usize], s: SymbolIdx, x: Reason) -> 
 }
 
 // How many candidates K10 has.
-fn demand_candidates(numbers: &[u32], tables: &[usize], s: SymbolIdx, x: Reason) -> usize
+pub fn demand_candidates(numbers: &[u32], tables: &[usize], s: SymbolIdx, x: Reason) -> usize
     requires { ⌜ Prepared (now numbers) (now tables) ⌝ }
     requires { ⌜ s .0 < headerIn (now numbers) .symbols ⌝ }
     ensures { λ r. ⌜ r ≡ demandCandidates (graphIn (now (numbers .entry))) (demanded (graphIn (now (numbers .entry))) (lastVerdicts (graphIn (now (numbers .entry)))) (s .0) (x .bits)) ⌝ }
@@ -140,7 +140,7 @@ fn demand_candidates(numbers: &[u32], tables: &[usize], s: SymbolIdx, x: Reason)
 }
 
 // K10, candidate i (`drain_body_demand_stmts`).
-fn demand_candidate(
+pub fn demand_candidate(
     numbers: &[u32],
     tables: &[usize],
     s: SymbolIdx,
@@ -201,7 +201,7 @@ fn export_candidate(numbers: &[u32], tables: &[usize], name: usize, n: usize) ->
 }
 
 // K11 (`follow_cjs_namespace_alias`).
-fn alias_candidate(numbers: &[u32], tables: &[usize], s: SymbolIdx) -> Candidate
+pub fn alias_candidate(numbers: &[u32], tables: &[usize], s: SymbolIdx) -> Candidate
     requires { ⌜ Prepared (now numbers) (now tables) ⌝ }
     requires { ⌜ s .0 < headerIn (now numbers) .symbols ⌝ }
     ensures { λ r. ⌜ (r ≡ aliasCandidate (graphIn (now (numbers .entry))) (rootOf (graphIn (now (numbers .entry)) .symbols) (s .0)) 0) × GoodCandidate (graphIn (now (numbers .entry))) r ⌝ }
@@ -241,7 +241,7 @@ fn needs_wrapper(numbers: &[u32], tables: &[usize], t: SymbolIdx) -> bool
 }
 
 // How many candidates K12 has.
-fn wrapper_candidates(numbers: &[u32], tables: &[usize], s: SymbolIdx) -> usize
+pub fn wrapper_candidates(numbers: &[u32], tables: &[usize], s: SymbolIdx) -> usize
     requires { ⌜ Prepared (now numbers) (now tables) ⌝ }
     requires { ⌜ s .0 < headerIn (now numbers) .symbols ⌝ }
     ensures { λ r. ⌜ r ≡ wrapperCandidates (graphIn (now (numbers .entry))) (s .0) (targetOf (graphIn (now (numbers .entry))) (s .0)) ⌝ }
@@ -254,7 +254,7 @@ fn wrapper_candidates(numbers: &[u32], tables: &[usize], s: SymbolIdx) -> usize
 }
 
 // K12, candidate k (`demand_esm_initialization`).
-fn wrapper_candidate(numbers: &[u32], tables: &[usize], s: SymbolIdx, k: usize) -> Candidate
+pub fn wrapper_candidate(numbers: &[u32], tables: &[usize], s: SymbolIdx, k: usize) -> Candidate
     requires { ⌜ Prepared (now numbers) (now tables) ⌝ }
     requires { ⌜ (s .0 < headerIn (now numbers) .symbols) × (k < wrapperCandidates (graphIn (now numbers)) (s .0) (targetOf (graphIn (now numbers)) (s .0))) ⌝ }
     ensures { λ r. ⌜ (r ≡ wrapperCandidate (graphIn (now (numbers .entry))) (s .0) (targetOf (graphIn (now (numbers .entry))) (s .0)) k) × GoodCandidate (graphIn (now (numbers .entry))) r ⌝ }
@@ -269,7 +269,7 @@ fn wrapper_candidate(numbers: &[u32], tables: &[usize], s: SymbolIdx, k: usize) 
 }
 
 // How many candidates K13 has.
-fn declaration_candidates(numbers: &[u32], tables: &[usize], s: SymbolIdx) -> usize
+pub fn declaration_candidates(numbers: &[u32], tables: &[usize], s: SymbolIdx) -> usize
     requires { ⌜ Prepared (now numbers) (now tables) ⌝ }
     requires { ⌜ s .0 < headerIn (now numbers) .symbols ⌝ }
     ensures { λ r. ⌜ r ≡ declarationCandidates (graphIn (now (numbers .entry))) (targetOf (graphIn (now (numbers .entry))) (s .0)) ⌝ }
@@ -283,7 +283,7 @@ fn declaration_candidates(numbers: &[u32], tables: &[usize], s: SymbolIdx) -> us
 }
 
 // K13, candidate k.
-fn declaration_candidate(
+pub fn declaration_candidate(
     numbers: &[u32],
     tables: &[usize],
     s: SymbolIdx,
@@ -309,7 +309,7 @@ fn declaration_candidate(
 }
 
 // How many candidates K14 has.
-fn write_candidates(numbers: &[u32], tables: &[usize], s: SymbolIdx) -> usize
+pub fn write_candidates(numbers: &[u32], tables: &[usize], s: SymbolIdx) -> usize
     requires { ⌜ Prepared (now numbers) (now tables) ⌝ }
     requires { ⌜ s .0 < headerIn (now numbers) .symbols ⌝ }
     ensures { λ r. ⌜ r ≡ writeCandidates (graphIn (now (numbers .entry))) (s .0) ⌝ }
@@ -325,7 +325,7 @@ fn write_candidates(numbers: &[u32], tables: &[usize], s: SymbolIdx) -> usize
 }
 
 // K14, candidate k (`include_property_write_referencing_stmts`).
-fn write_candidate(numbers: &[u32], tables: &[usize], s: SymbolIdx, k: usize) -> Candidate
+pub fn write_candidate(numbers: &[u32], tables: &[usize], s: SymbolIdx, k: usize) -> Candidate
     requires { ⌜ Prepared (now numbers) (now tables) ⌝ }
     requires { ⌜ (s .0 < headerIn (now numbers) .symbols) × (k < writeCandidates (graphIn (now numbers)) (s .0)) ⌝ }
     ensures { λ r. ⌜ (r ≡ writeCandidate (graphIn (now (numbers .entry))) (s .0) k) × GoodCandidate (graphIn (now (numbers .entry))) r ⌝ }

@@ -18,7 +18,7 @@ use Rattle.keep_record.specs.declared.Added.the-variants.{Lines, Full}
 use Rattle.keep_record.specs.Lines.{added, adds}
 use Rattle.keep_record.specs.Held.{linesOf, Held, Grown, Writable}
 use Rattle.worklist.specs.Drain.{line, joined}
-use Rattle.worklist.proofs.Going.{Going, go-start, go-step, go-full, go-done}
+use Rattle.include_statements.proofs.Going.{Going, go-start, go-step, go-full, go-done}
 
 -- statement i of those that declare symbol s, and those from i on
 unfoldable pub joinedAt : Graph → ℕ → ℕ → ℕ → ℕ → Line

@@ -20,7 +20,7 @@ use Rattle.worklist.specs.Drain.{line, news, drained, started, drainedAl
 use Rattle.starts.specs.Starts.{startsOf}
 use Rattle.worklist.specs.Links.{Linked, StillLinked, AllLinked}
 use Rattle.starts.specs.Starts.{StartsGood}
-use Rattle.worklist.proofs.Going.{full-more, grown-as, grown-longer}
+use Rattle.include_statements.proofs.Going.{full-more, grown-as, grown-longer}
 use Rattle.worklist.proofs.Handled.{count-more}
 use Rattle.worklist.proofs.Ends.{drained-stop, drained-next, drained-longer, started-longer, all-longer}
 

@@ -15,9 +15,11 @@ use Rattle.keep_record.specs.Lines.{adds}
 use Rattle.keep_record.specs.Held.{lineAt, linesOf, Grown}
 use Rattle.keep_record.proofs.Rows.{lines-length, lines-at}
 use Rattle.keep_record.proofs.Adding.{adds-prefix, adds-longer}
+use Rattle.keep_rules.specs.Rules.{segmentsOf, gives}
+use Rattle.include_statements.specs.Following.{lineBy, linesBy}
 use Rattle.worklist.specs.Drain.{line, factAt, joins, followed, news}
 use Rattle.worklist.specs.Links.{Linked, LinkReady, StillLinked}
-use Rattle.worklist.proofs.Going.{both-full, both-added, grown-longer}
+use Rattle.include_statements.proofs.Going.{both-full, both-added, grown-longer}
 
 -- the first lines stay
 pub take-adds : (g : Graph) (base : ℕ) (lines ls : List Line) (n : ℕ) → n ≤ length lines → take n (adds g base lines ls) ≡ take n lines
@@ -47,6 +49,11 @@ module _ (g : Graph) (base : ℕ) (v row : List ℕ) (count k : ℕ) (f : Fact) 
       let e : factAt (linesOf count row) k ≡ f = ap (λ l. l .fact) (lines-at count row k (line (moduleFact 0) 0 0 0) inside) ∙ sym is in
       ap (λ x. joins g base (linesOf count row) k x ++ followed g v k x) e
 
+  -- what the loops over the rules add is what follows
+  followed-lines : linesBy k (segmentsOf g v f) ≡ followed g v k f
+  unfolding linesBy lineBy followed gives
+  followed-lines = refl
+
   pub handle-full : (links marks′ row′ : List ℕ) → Grown g base (adds g base (linesOf count row) (joins g base (linesOf count row) k f)) marks′ row′ Full
       → Grown g base (adds g base (linesOf count row) (news g v base (linesOf count row) k)) marks′ row′ Full × StillLinked g base links row′ (k + 1) Full
   handle-full links marks′ row′ w =
@@ -67,9 +74,9 @@ module _ (g : Graph) (base : ℕ) (v row : List ℕ) (count k : ℕ) (f : Fact) 
     pub still-linked : (links : List ℕ) → Linked g base links (take k (linesOf count row)) → Linked g base links (take k (linesOf d row′))
     still-linked links t = rw (take-grown g base row count _ marks′ row′ d w k (omega arith)) t
 
-    pub handle-done : (links marks″ row″ : List ℕ) (r : Added) → Linked g base links (take (k + 1) (linesOf d row′)) → Grown g base (adds g base (linesOf d row′) (followed g v k f)) marks″ row″ r
+    pub handle-done : (links marks″ row″ : List ℕ) (r : Added) → Linked g base links (take (k + 1) (linesOf d row′)) → Grown g base (adds g base (linesOf d row′) (linesBy k (segmentsOf g v f))) marks″ row″ r
         → Grown g base (adds g base (linesOf count row) (news g v base (linesOf count row) k)) marks″ row″ r × StillLinked g base links row″ (k + 1) r
     handle-done links marks″ row″ r t u = (
-      rw news-are (both-added g base (linesOf count row) _ _ marks′ row′ d marks″ row″ r w u),
+      rw news-are (both-added g base (linesOf count row) _ _ marks′ row′ d marks″ row″ r w (rw followed-lines at u)),
       record { known = λ c q. rw (take-grown g base row′ d _ marks″ row″ c (rw q at u) (k + 1) (omega (arith, count-more g base row count _ marks′ row′ d w))) t },
     )

@@ -26,7 +26,7 @@ use Rattle.keep_record.specs.Held.{linesOf, Held, Grown}
 use Rattle.keep_record.proofs.Rows.{lines-length}
 use Rattle.worklist.specs.Drain.{joined, joinsAll, isModule, moduleLine, nameOf, joinedTo, joins}
 use Rattle.worklist.specs.Links.{Linked}
-use Rattle.worklist.proofs.Going.{grown-as}
+use Rattle.include_statements.proofs.Going.{grown-as}
 
 -- the indexes of a good fact
 pub good-module : (numbers : List ℕ) (f : Fact) → Good (graphIn numbers) f → (m : ModuleIdx) → f ≡ Module m → m .0 < headerIn numbers .modules

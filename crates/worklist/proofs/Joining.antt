@@ -26,7 +26,7 @@ use Rattle.keep_record.proofs.Rows.{lines-length, lines-at, lines-take}
 use Rattle.keep_record.proofs.Adding.{adds-prefix, adds-longer, adds-append}
 use Rattle.worklist.specs.Drain.{factAt, joined, forwardsTo, joinsAll}
 use Rattle.worklist.specs.Links.{firstForward, Linked}
-use Rattle.worklist.proofs.Going.{full-more, grown-as}
+use Rattle.include_statements.proofs.Going.{full-more, grown-as}
 use Rattle.worklist.proofs.Linking.{noLine, forward-of, first-here, first-there}
 
 -- the joins of lines, by whether the first of them is a forward to module m

@@ -1,6 +1,4 @@
-pub mod Going
 pub mod Declared
-pub mod Followed
 pub mod Joined
 pub mod Handled
 pub mod Ends

@@ -12,13 +12,11 @@ ghost use Rattle.graph_access.specs.Words.{symbolOf};
 ghost use Rattle.keep_rules.specs.Prepared.{Prepared};
 ghost use Rattle.keep_record.specs.Lines.{adds};
 ghost use Rattle.keep_record.specs.Held.{lineAt, linesOf, Held, Grown};
-ghost use Rattle.worklist.specs.Drain.{joined, joinsAll, joins, followed, news, drained, started, drainOf};
+ghost use Rattle.worklist.specs.Drain.{joined, joinsAll, joins, news, drained, started, drainOf};
 ghost use Rattle.starts.specs.Starts.{startsOf};
 ghost use Rattle.worklist.specs.Links.{Linked, LinkReady, StillLinked, AllLinked, firstsAt, lastsAt, nextsAt, partnersSize};
 ghost use Rattle.starts.specs.Starts.{StartsGood};
 ghost use Rattle.facts.specs.declared.Fact.the-variants.{Forward};
-use consequences::Consequence;
-use consequences::Cursor;
 use facts::Fact;
 use graph_access::symbols;
 use graph_format::Header;
@@ -185,61 +183,6 @@ fn join(
     }
 }
 
-// K2 to K14 at line k, which has this fact.
-fn follow(
-    numbers: &[u32],
-    tables: &[usize],
-    marks: &mut [u8],
-    lines: &mut [u32],
-    stage: Stage,
-    fact: Fact,
-    k: usize,
-) -> Added
-    requires { ⌜ Prepared (now numbers) (now tables) ⌝ }
-    requires { ⌜ Held (graphIn (now numbers)) (stage .base) (now marks) (now lines) (stage .count) ⌝ }
-    requires { ⌜ Good (graphIn (now numbers)) fact × (stage .base ≤ k) × (k < stage .count) ⌝ }
-    ensures { λ r. ⌜ Grown (graphIn (now (numbers .entry))) (stage .base) (adds (graphIn (now (numbers .entry))) (stage .base) (linesOf (stage .count) (now (lines .entry))) (followed (graphIn (now (numbers .entry))) (lastVerdicts (graphIn (now (numbers .entry)))) k fact)) (now (marks .exit)) (now (lines .exit)) r ⌝ }
-{
-    let base = stage.base;
-    let mut total = stage.count;
-    let mut cursor = Cursor {
-        segment: 0,
-        index: 0,
-        place: 0,
-    };
-    loop {
-        match consequences::next(numbers, tables, fact, cursor) {
-            Consequence::Yields(rule, f, c) => {
-                let line = Line {
-                    fact: f,
-                    rule,
-                    because: k + 1,
-                    and: 0,
-                };
-                match keep_record::add(
-                    numbers,
-                    tables,
-                    marks,
-                    lines,
-                    Stage { base, count: total },
-                    line,
-                ) {
-                    Added::Lines(n) => {
-                        total = n;
-                    }
-                    Added::Full => {
-                        return Added::Full;
-                    }
-                }
-                cursor = c;
-            }
-            Consequence::Done => {
-                return Added::Lines(total);
-            }
-        }
-    }
-}
-
 // Enters line k, a forward of symbol s, into the table.
 fn link_forward(
     numbers: &[u32],
@@ -332,7 +275,7 @@ fn handle(
                 fact,
                 k,
             );
-            follow(
+            include_statements::follow(
                 numbers,
                 tables,
                 marks,

@@ -1,5 +1,5 @@
 use Rattle.worklist.proofs.Declared.{joinedFrom, joined-writable, declare-start, declare-step, declare-full, declare-done}
-use Rattle.worklist.proofs.Going.{Going}
+use Rattle.include_statements.proofs.Going.{Going}
 use Rattle.worklist.specs.Drain.{joined}
 use Rattle.keep_record.specs.Lines.{adds}
 use Rattle.keep_record.specs.Held.{linesOf, Held, Grown}

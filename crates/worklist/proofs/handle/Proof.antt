@@ -25,7 +25,7 @@ link-requires : tie.Need-link-requires
 link-requires c κs = let s = c .before .before .before .before .before .before .before .before .before .before .before .before .before .before .before .before .before .before .before .before in (s .pre .0, (link-ready _ _ (lastVerdicts (graphIn (s .args .numbers .now))) _ _ _ _ (s .pre .1 .1 .1 .1) (c .before .before .before .before .before .before .before .before .before .before .before .before .before .fact-at .ensures) _ _ _ (rw (c .before .before .before .joined .given .1) at (c .before .before .before .before .before .before .before .before .before .join .ensures)) (s .pre .1 .1 .1 .0), still-linked _ _ (lastVerdicts (graphIn (s .args .numbers .now))) _ _ _ _ (s .pre .1 .1 .1 .1) (c .before .before .before .before .before .before .before .before .before .before .before .before .before .fact-at .ensures) _ _ _ (rw (c .before .before .before .joined .given .1) at (c .before .before .before .before .before .before .before .before .before .join .ensures)) _ (s .pre .1 .1 .0)))
 
 follow-requires : tie.Need-follow-requires
-follow-requires c κs = let s = c .before .before .before .before .before .before .before .before .before .before .before .before .before .before .before .before .before .before .before .before .before .before .before .before .before in (s .pre .0, ((rw (c .before .before .before .before .before .before .before .before .joined .given .1) at (c .before .before .before .before .before .before .before .before .before .before .before .before .before .before .join .ensures)) .held _ refl .1, (rw (c .before .before .before .before .before .before .before .before .before .before .before .before .before .before .before .before .before .before .fact-at .ensures) (s .pre .1 .0 .good _ (s .pre .1 .1 .1 .1)), s .pre .1 .1 .1 .0, link-ready _ _ (lastVerdicts (graphIn (s .args .numbers .now))) _ _ _ _ (s .pre .1 .1 .1 .1) (c .before .before .before .before .before .before .before .before .before .before .before .before .before .before .before .before .before .before .fact-at .ensures) _ _ _ (rw (c .before .before .before .before .before .before .before .before .joined .given .1) at (c .before .before .before .before .before .before .before .before .before .before .before .before .before .before .join .ensures)) (s .pre .1 .1 .1 .0) .inside)))
+follow-requires c κs = let s = c .before .before .before .before .before .before .before .before .before .before .before .before .before .before .before .before .before .before .before .before .before .before .before .before .before in (s .pre .0, ((rw (c .before .before .before .before .before .before .before .before .joined .given .1) at (c .before .before .before .before .before .before .before .before .before .before .before .before .before .before .join .ensures)) .held _ refl .1, (rw (c .before .before .before .before .before .before .before .before .before .before .before .before .before .before .before .before .before .before .fact-at .ensures) (s .pre .1 .0 .good _ (s .pre .1 .1 .1 .1)), link-ready _ _ (lastVerdicts (graphIn (s .args .numbers .now))) _ _ _ _ (s .pre .1 .1 .1 .1) (c .before .before .before .before .before .before .before .before .before .before .before .before .before .before .before .before .before .before .fact-at .ensures) _ _ _ (rw (c .before .before .before .before .before .before .before .before .joined .given .1) at (c .before .before .before .before .before .before .before .before .before .before .before .before .before .before .join .ensures)) (s .pre .1 .1 .1 .0) .inside)))
 
 same-length : tie.Need-same-length
 same-length c = search needs

@@ -1,0 +1,4 @@
+pub mod Going
+pub mod Segments
+pub mod References
+pub mod Goods

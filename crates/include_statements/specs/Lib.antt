@@ -1,0 +1,2 @@
+-- The main definitions of `Following`: `linesBy`.
+pub mod Following
