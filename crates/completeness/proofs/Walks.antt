@@ -5,6 +5,8 @@ use mathlib.Core.Bool.{Bool, true, false, and-true}
 use mathlib.Core.List.{List, []}
 use native.Mathlib.Numerals.{add-one}
 use native.Mathlib.Omega.{arith}
+use borrow.Author.Tests.{eq-eqb, ne-eqb}
+use lib.Dec.{eqb}
 use lib.Seq.{drop-cons}
 use lib.ListN.{length, getD, drop, drop-of-length-le}
 use Rattle.graph_tables.specs.Tables.{headerIn}
@@ -19,11 +21,10 @@ use Rattle.facts.specs.declared.Reason.{Reason}
 use Rattle.facts.specs.declared.Fact.{Fact}
 use Rattle.facts.specs.declared.Fact.the-variants.{Module, Statement, Use, CheckedUse, Forward, Bailout}
 use Rattle.facts.specs.Facts.{factOf, moduleFact, statementFact, Good}
+use Rattle.keep_rules.specs.declared.Candidate.the-variants.{Gives, Nothing}
 use Rattle.keep_rules.specs.Rules.{segmentsOf, givenBy, gives}
-use Rattle.consequences.specs.declared.Cursor.{Cursor}
-use Rattle.consequences.specs.declared.Consequence.{Consequence}
-use Rattle.consequences.specs.declared.Consequence.the-variants.{Yields, Done}
-use Rattle.consequences.specs.Cursors.{segmentsIn, left, Placed, Nexts}
+use Rattle.consequences.specs.Cursors.{segmentsIn, segmentIn, left, Placed}
+use Rattle.consequences.proofs.Walking.{left-found, left-skips, left-ended, left-none}
 use Rattle.keep_record.specs.declared.Line.{Line}
 use Rattle.keep_record.specs.Held.{lineAt, linesOf}
 use Rattle.keep_record.proofs.Rows.{tabulate-length, tabulate-at, lines-at}
@@ -72,33 +73,34 @@ module _ (starts : List ℕ) where
 pub placed-first : (numbers : List ℕ) (f : Fact) → Placed numbers f 0 0
 placed-first numbers f = record { known = λ m i k e z. absurd (omega (arith, z)) }
 
-module _ (numbers : List ℕ) (kept : Fact → Bool) (f : Fact) where
-  pub closed-start : all (λ x. kept (x .fact)) (left numbers f 0 0) ≡ isClosedAt (graphIn numbers) (lastVerdicts (graphIn numbers)) kept f
-  unfolding isClosedAt gives left segmentsIn
-  closed-start = refl
+pub closed-start : (numbers : List ℕ) (kept : Fact → Bool) (f : Fact) → all (λ x. kept (x .fact)) (left numbers f 0 0) ≡ isClosedAt (graphIn numbers) (lastVerdicts (graphIn numbers)) kept f
+unfolding isClosedAt gives left segmentsIn
+closed-start numbers kept f = refl
 
-  module _ (at : Cursor) (whole : Bool) (rest : all (λ x. kept (x .fact)) (left numbers f (at .segment) (at .index)) ≡ whole) (r : Consequence) (n : Nexts numbers f at r) where
-    pub closed-done : r ≡ Done → true ≡ whole
-    unfolding all
-    closed-done is = rw (n .done is, all) at rest
+module _ (numbers : List ℕ) (kept : Fact → Bool) (f : Fact) (j c : ℕ) (whole : Bool) (rest : all (λ x. kept (x .fact)) (left numbers f j c) ≡ whole) (n : ℕ) (size : n ≡ length (segmentsIn numbers f)) where
+  pub segments-done : n ≤ j → true ≡ whole
+  unfolding all
+  segments-done h = let past : length (segmentsIn numbers f) ≤ j = omega (arith, size, h) in rw (left-none numbers f j c past, all) at rest
 
-    module _ (rule : ℕ) (e : Fact) (d : Cursor) (is : r ≡ Yields rule e d) where
-      pub closed-good : Good (graphIn numbers) e
-      closed-good = n .yields rule e d is .1
+  module _ (inside : j < n) (m : ℕ) (many : m ≡ segmentIn numbers f j .count) where
+    in-segments : j < length (segmentsIn numbers f)
+    in-segments = omega (arith, size, inside)
 
-      pub closed-placed : Placed numbers f (d .segment) (d .place)
-      closed-placed = n .yields rule e d is .2
+    pub segment-done : m ≤ c → all (λ x. kept (x .fact)) (left numbers f (j + 1) 0) ≡ whole
+    segment-done b = rw (left-ended numbers f j c in-segments (omega (arith, b, many))) at rest
 
-      pub closed-less : length (left numbers f (d .segment) (d .index)) < length (left numbers f (at .segment) (at .index))
-      closed-less = omega (arith, ap length (n .yields rule e d is .0))
+    module _ (b : c < m) where
+      pub segment-skips : Nothing ≡ segmentIn numbers f j .candidate c → all (λ x. kept (x .fact)) (left numbers f j (c + 1)) ≡ whole
+      segment-skips q = rw (left-skips numbers f j c in-segments (omega (arith, b, many)) q) at rest
 
-      pub closed-stop : (t : Bool) → t ≡ kept e → t ≡ false → false ≡ whole
-      unfolding all
-      closed-stop t k z = rw (n .yields rule e d is .0, sym k ∙ z, all) at rest
+      module _ (e : Fact) (q : Gives e ≡ segmentIn numbers f j .candidate c) (t : Bool) (k : t ≡ kept e) where
+        pub segment-stop : t ≡ false → false ≡ whole
+        unfolding all
+        segment-stop z = rw (left-found numbers f j c e in-segments (omega (arith, b, many)) q, sym k ∙ z, all) at rest
 
-      pub closed-next : (t : Bool) → t ≡ kept e → t ≡ true → all (λ x. kept (x .fact)) (left numbers f (d .segment) (d .index)) ≡ whole
-      unfolding all
-      closed-next t k z = rw (n .yields rule e d is .0, sym k ∙ z, all) at rest
+        pub segment-next : t ≡ true → all (λ x. kept (x .fact)) (left numbers f j (c + 1)) ≡ whole
+        unfolding all
+        segment-next z = rw (left-found numbers f j c e in-segments (omega (arith, b, many)) q, sym k ∙ z, all) at rest
 
 -- the statements that declare a symbol
 unfoldable pub statementKept : Graph → (Fact → Bool) → ℕ → List ℕ → Bool
@@ -173,3 +175,10 @@ module _ (g : Graph) (v : List ℕ) (kept : Fact → Bool) (row : List ℕ) (n :
 
 pub line-good : (g : Graph) (row : List ℕ) (n : ℕ) → ((k : ℕ) → k < n → Good g (lineAt row k .fact)) → (k : ℕ) → k < n → (f : Fact) → f ≡ lineAt row k .fact → Good g f
 line-good g row n good k h f is = rw is (good k h)
+
+-- the number of the first open line, beside the number of lines
+pub open-at : (k n : ℕ) (whole : Bool) → k < n → false ≡ whole → eqb k n ≡ whole
+open-at k n whole h e = ne-eqb k n (λ q. absurd (omega (arith, h, q))) ∙ e
+
+pub none-open : (k n : ℕ) (whole : Bool) → k ≤ n → n ≤ k → true ≡ whole → eqb k n ≡ whole
+none-open k n whole h l e = eq-eqb k n (omega (arith, h, l)) ∙ e

@@ -6,24 +6,14 @@ use native.Mathlib.Numerals.{add-one}
 use native.Mathlib.Omega.{arith}
 use lib.Seq.{drop-cons}
 use lib.ListN.{length, getD, drop, drop-of-length-le}
-use Rattle.graph.specs.Check.{graphIn}
 use Rattle.facts.specs.declared.Fact.{Fact}
-use Rattle.facts.specs.Facts.{Good}
 use Rattle.keep_rules.specs.declared.Candidate.{Candidate}
 use Rattle.keep_rules.specs.declared.Candidate.the-variants.{Gives, Nothing}
 use Rattle.keep_rules.specs.Rules.{Segment, noSegment, Given, picked, givenBy}
-use Rattle.consequences.specs.declared.Sought.{Sought}
-use Rattle.consequences.specs.declared.Sought.the-variants.{Found, Ended}
-use Rattle.consequences.specs.declared.Cursor.{Cursor}
-use Rattle.consequences.specs.declared.Consequence.{Consequence}
-use Rattle.consequences.specs.declared.Consequence.the-variants.{Yields, Done}
-use Rattle.consequences.specs.Cursors.{segmentsIn, segmentIn, Placed, left, Seeks, Nexts}
+use Rattle.consequences.specs.Cursors.{segmentsIn, segmentIn, left}
 
 abbrev given : ℕ → Fact → Given
 given r e = record { rule = r; fact = e }
-
-pub same-given : {r r' : ℕ} {e : Fact} {l l' : List Given} → r' ≡ r → l' ≡ l → _≡_ {A = List Given} (given r e ∷ l) (given r' e ∷ l')
-same-given p q = rw (p, q)
 
 -- one segment's candidates
 module _ (r : ℕ) (p : ℕ → Candidate) (n k : ℕ) where
@@ -81,62 +71,3 @@ module _ (numbers : List ℕ) (f : Fact) (j k : ℕ) where
   pub left-none : length (segmentsIn numbers f) ≤ j → left numbers f j k ≡ []
   unfolding left
   left-none l = segments-none (segmentsIn numbers f) j k l
-
--- what a search and a step say
-soughtFact : Fact → Sought → Fact
-soughtFact other (Found e i) = e
-soughtFact other Ended = other
-
-soughtPlace : Sought → ℕ
-soughtPlace (Found e i) = i + 1
-soughtPlace Ended = 0
-
-yieldedRule : Consequence → ℕ
-yieldedRule (Yields r e d) = r + 1
-yieldedRule Done = 0
-
-yieldedFact : Fact → Consequence → Fact
-yieldedFact other (Yields r e d) = e
-yieldedFact other Done = other
-
-yieldedCursor : Cursor → Consequence → Cursor
-yieldedCursor other (Yields r e d) = d
-yieldedCursor other Done = other
-
-no-zero : (n : ℕ) → n + 1 ≡ 0 → ⊥
-no-zero n e = omega (arith, e)
-
-module _ (numbers : List ℕ) (f : Fact) (j k : ℕ) where
-  pub seeks-found : (e : Fact) (i : ℕ) → left numbers f j k ≡ given (segmentIn numbers f j .rule) e ∷ left numbers f j i → Good (graphIn numbers) e
-      → Seeks numbers f j k (Found e i)
-  unfolding soughtFact soughtPlace
-  seeks-found e i l g =
-      record {
-        found = λ e' i' q.
-            let a : e ≡ e' = ap (soughtFact e) q in
-            let b : i ≡ i' = omega (arith, ap soughtPlace q) in
-            (rw (sym a, sym b) l, rw (sym a) g);
-        ended = λ q. absurd (no-zero _ (ap soughtPlace q));
-      }
-
-  pub seeks-ended : left numbers f j k ≡ left numbers f (j + 1) 0 → Seeks numbers f j k Ended
-  unfolding soughtPlace
-  seeks-ended l = record { found = λ e i q. absurd (no-zero _ (sym (ap soughtPlace q))); ended = λ q. l }
-
-module _ (numbers : List ℕ) (f : Fact) (c : Cursor) where
-  pub nexts-yields : (r : ℕ) (e : Fact) (d : Cursor) → left numbers f (c .segment) (c .index) ≡ given r e ∷ left numbers f (d .segment) (d .index)
-      → Good (graphIn numbers) e → Placed numbers f (d .segment) (d .place) → r < 15 → Nexts numbers f c (Yields r e d)
-  unfolding yieldedRule yieldedFact yieldedCursor
-  nexts-yields r e d l g p s =
-      record {
-        yields = λ r' e' d' q.
-            let a : r ≡ r' = omega (arith, ap yieldedRule q) in
-            let b : e ≡ e' = ap (yieldedFact e) q in
-            let x : d ≡ d' = ap (yieldedCursor d) q in
-            (rw (sym a, sym b, sym x) l, rw (sym b) g, rw (sym x) p, omega arith);
-        done = λ q. absurd (no-zero _ (ap yieldedRule q));
-      }
-
-  pub nexts-done : left numbers f (c .segment) (c .index) ≡ [] → Nexts numbers f c Done
-  unfolding yieldedRule
-  nexts-done l = record { yields = λ r e d q. absurd (no-zero _ (sym (ap yieldedRule q))); done = λ q. l }

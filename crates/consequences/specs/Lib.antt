@@ -1,2 +1,2 @@
--- The main definitions of `Cursors`: `left`, `Nexts`.
+-- The main definitions of `Cursors`: `left`, `Placed`.
 pub mod Cursors
