@@ -1,12 +1,12 @@
 -- What a fact shows is in its row.
-use Prim.Native.Nat.{ℕ, _+_, _*_, _-_, _<_, _≤_}
-use mathlib.Core.Path.{_≡_, refl, ap, _∙_}
+use Prim.Native.Nat.{ℕ, zero, suc, _+_, _*_, _-_, _<_, _≤_}
+use mathlib.Core.Path.{_≡_, refl, ap, _∙_, sym}
 use mathlib.Core.Bool.{Bool, true, false, _||_, not}
 use mathlib.Core.List.{List, [], _∷_, _++_}
 use native.Mathlib.Omega.{arith}
 use borrow.Author.Tests.{ne-eqb, eqb-false}
 use lib.Dec.{eqb}
-use lib.ListN.{length, getD}
+use lib.ListN.{length, getD, drop, replicate}
 use Rattle.bit_row.specs.Row.{bytesFor, bitAt, cleared}
 use Rattle.bit_row.proofs.Size.{bytes-hold}
 use Rattle.bit_row.proofs.Cleared.{cleared-unset, cleared-kept}
@@ -20,7 +20,7 @@ use Rattle.index.specs.declared.SymbolIdx.{SymbolIdx}
 use Rattle.facts.specs.declared.Reason.{Reason}
 use Rattle.index.specs.declared.ModuleIdx.{ModuleIdx}
 use Rattle.index.specs.declared.StmtIdx.{StmtIdx}
-use Rattle.graph_access.specs.Words.{flag, statementList, moduleOf, symbolOf, normal}
+use Rattle.graph_access.specs.Words.{flag, tabulate, some, statementList, moduleOf, symbolOf, normal}
 use Rattle.facts.specs.Facts.{Good}
 use Rattle.graph.specs.Loaded.{Loaded}
 use Rattle.graph_access.proofs.Indexes.{owner-below, root-below, alias-below}
@@ -30,37 +30,12 @@ use Rattle.keep_record.specs.Lines.{elem}
 use Rattle.keep_record.specs.Held.{lineAt, linesOf}
 use Rattle.answer_rows.specs.declared.Row.{Row}
 use Rattle.answer_rows.specs.declared.Row.the-variants.{Modules, Statements, Used, External, Json, NamespaceReason}
-use Rattle.answer_rows.specs.Shown.{onlyIf, bytesBefore, usedBy, externalBy, jsonBy, reasonBy, shows, rowBytes, shown, shownRow}
+use Rattle.answer_rows.specs.Shown.{onlyIf, usedBy, externalBy, jsonBy, reasonBy, shows, rowBytes, shown, bitValue, byteOf, bytesOf, shownRow}
+use Rattle.answer_rows.specs.Together.{ShowsLines}
 use Rattle.answer_rows.proofs.Tabulated.{none-passes}
 use Rattle.answer_rows.proofs.Bytes.{row-is}
 use Rattle.answer_rows.proofs.FirstBytes.{statement-inside}
 use Rattle.answer_rows.proofs.OfUses.{jsonIf, reasonIf}
-
--- how long the rows are
-module _ (g : Graph) (row : Row) (n : ℕ) (l : rowBytes g row ≤ n) where
-  pub modules-wide : row ≡ Modules → g .header .modules ≤ 8 * n
-  unfolding rowBytes
-  modules-wide e = let h : bytesFor (g .header .modules) ≤ n = rw e at l in omega (arith, h, bytes-hold (g .header .modules))
-
-  pub used-wide : row ≡ Used → g .header .symbols ≤ 8 * n
-  unfolding rowBytes
-  used-wide e = let h : bytesFor (g .header .symbols) ≤ n = rw e at l in omega (arith, h, bytes-hold (g .header .symbols))
-
-  pub external-wide : row ≡ External → g .header .symbols ≤ 8 * n
-  unfolding rowBytes
-  external-wide e = let h : bytesFor (g .header .symbols) ≤ n = rw e at l in omega (arith, h, bytes-hold (g .header .symbols))
-
-  pub json-wide : row ≡ Json → g .header .symbols ≤ 8 * n
-  unfolding rowBytes
-  json-wide e = let h : bytesFor (g .header .symbols) ≤ n = rw e at l in omega (arith, h, bytes-hold (g .header .symbols))
-
-  pub reasons-wide : row ≡ NamespaceReason → g .header .modules ≤ n
-  unfolding rowBytes
-  reasons-wide e = let h : g .header .modules ≤ n = rw e at l in h
-
-  pub statements-wide : row ≡ Statements → bytesBefore (g .statements) (g .header .modules) ≤ n
-  unfolding rowBytes
-  statements-wide e = let h : bytesBefore (g .statements) (g .header .modules) ≤ n = rw e at l in h
 
 -- how many bytes each has
 module _ (g : Graph) (row : Row) where
@@ -86,6 +61,19 @@ module _ (g : Graph) (row : Row) where
   pub reasons-bytes : row ≡ NamespaceReason → rowBytes g row ≡ g .header .modules
   unfolding rowBytes
   reasons-bytes e = rw e
+
+-- a cleared row shows no lines
+no-bytes : (g : Graph) (row : Row) (i n : ℕ) → replicate n 0 ≡ tabulate (byteOf (shown g row [])) i n
+unfolding tabulate byteOf bitValue shown some
+no-bytes g row i zero = refl
+no-bytes g row i (suc n) = ap (λ (l : List ℕ). 0 ∷ l) (no-bytes g row (i + 1) n)
+
+cleared-shown : (g : Graph) (row : Row) (lent : List ℕ) → cleared (rowBytes g row) lent ≡ shownRow g row [] lent
+unfolding cleared shownRow bytesOf
+cleared-shown g row lent = ap (λ (l : List ℕ). l ++ drop (rowBytes g row) lent) (no-bytes g row 0 (rowBytes g row))
+
+pub cleared-row : (g : Graph) (row : Row) (n : ℕ) (lent bare : List ℕ) → n ≡ rowBytes g row → bare ≡ cleared n lent → bare ≡ shownRow g row [] lent
+cleared-row g row n lent bare e c = c ∙ ap (λ k. cleared k lent) e ∙ cleared-shown g row lent
 
 -- a good fact, by its kind
 pub good-module : (g : Graph) (f : Fact) (m : ModuleIdx) → f ≡ Module m → Good g f → Good g (Module m)
@@ -233,30 +221,23 @@ module _ {numbers tables : List ℕ} (t : Loaded numbers tables) where
       none-passes (λ x. elem j (shows g row (x .fact))) (lineAt lines) 0 count
       (λ k m n. under-not (8 * rowBytes g row) j (shows g row (lineAt lines k .fact)) (within row (lineAt lines k .fact) (good k (omega (arith, n)))) l)
 
-  -- what is left by the lines over a cleared row
-  pub shown-row-is : (row : Row) (lines : List ℕ) (count : ℕ) (lent bits : List ℕ) → ((k : ℕ) → k < count → Good g (lineAt lines k .fact))
+  -- what the lines leave of a cleared row
+  pub shown-over : (row : Row) (lines : List ℕ) (count : ℕ) (lent bare bits : List ℕ) → bare ≡ shownRow g row [] lent → ((k : ℕ) → k < count → Good g (lineAt lines k .fact))
       → rowBytes g row ≤ length lent → length bits ≡ length lent → ((i : ℕ) → getD bits i 0 < 256) → ((i : ℕ) → getD lent i 0 < 256)
-      → ((j : ℕ) → bitAt bits j ≡ (shown g row (linesOf count lines) j || bitAt (cleared (rowBytes g row) lent) j))
-      → bits ≡ shownRow g row (linesOf count lines) lent
-  unfolding shownRow
-  shown-row-is row lines count lent bits good long same small small-lent is = row-is (shown g row (linesOf count lines)) (rowBytes g row) lent long bits same small small-lent front behind
+      → ShowsLines g row true (linesOf count lines) bare bits → bits ≡ shownRow g row (linesOf count lines) lent
+  unfolding shownRow ShowsLines
+  shown-over row lines count lent bare bits e good long same small small-lent is = row-is (shown g row (linesOf count lines)) (rowBytes g row) lent long bits same small small-lent front behind
     where
       or-unset : (a b : Bool) → b ≡ false → (a || b) ≡ a
       or-unset true b e = refl
       or-unset false b e = e
 
+      bare-bit : (j : ℕ) → bitAt bare j ≡ bitAt (cleared (rowBytes g row) lent) j
+      bare-bit j = ap (λ (r : List ℕ). bitAt r j) (e ∙ sym (cleared-shown g row lent))
+
       front : (j : ℕ) → j < 8 * rowBytes g row → bitAt bits j ≡ shown g row (linesOf count lines) j
-      front j l = is j ∙ or-unset (shown g row (linesOf count lines) j) (bitAt (cleared (rowBytes g row) lent) j) (cleared-unset (rowBytes g row) lent j l)
+      front j l = is j ∙ or-unset (shown g row (linesOf count lines) j) (bitAt bare j) (bare-bit j ∙ cleared-unset (rowBytes g row) lent j l)
 
       behind : (j : ℕ) → 8 * rowBytes g row ≤ j → bitAt bits j ≡ bitAt lent j
       behind j l =
-          is j ∙ ap (λ (b : Bool). b || bitAt (cleared (rowBytes g row) lent) j) (shown-inside row lines count j good l) ∙ cleared-kept (rowBytes g row) lent j l
-
-  -- as the code leaves it: n bytes were cleared first
-  pub shown-over : (row : Row) (lines : List ℕ) (count n : ℕ) (lent mid bits : List ℕ) → n ≡ rowBytes g row → mid ≡ cleared n lent
-      → ((k : ℕ) → k < count → Good g (lineAt lines k .fact)) → rowBytes g row ≤ length lent → length bits ≡ length lent → ((i : ℕ) → getD bits i 0 < 256)
-      → ((i : ℕ) → getD lent i 0 < 256) → ((j : ℕ) → bitAt bits j ≡ (shown g row (linesOf count lines) j || bitAt mid j)) → bits ≡ shownRow g row (linesOf count lines) lent
-  shown-over row lines count n lent mid bits e c good long same small small-lent is =
-      let m : mid ≡ cleared (rowBytes g row) lent = c ∙ ap (λ k. cleared k lent) e in
-      shown-row-is row lines count lent bits good long same small small-lent
-      (λ j. is j ∙ ap (λ (r : List ℕ). shown g row (linesOf count lines) j || bitAt r j) m)
+          is j ∙ ap (λ (b : Bool). b || bitAt bare j) (shown-inside row lines count j good l) ∙ bare-bit j ∙ cleared-kept (rowBytes g row) lent j l

@@ -6,5 +6,5 @@ pub mod OfUses
 pub mod InRow
 pub mod Turned
 pub mod Enough
-pub mod OtherKinds
 pub mod Fitting
+pub mod Ending

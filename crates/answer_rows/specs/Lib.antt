@@ -4,4 +4,3 @@
 pub mod Shown
 pub mod Together
 pub mod Tabled
-pub mod Kinds

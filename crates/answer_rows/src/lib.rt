@@ -4,7 +4,7 @@ ghost use Prim.Native.Nat.{ℕ, _+_, _*_, _-_, _<_, _≤_};
 ghost use mathlib.Core.Bool.{Bool, true, false, _||_, not};
 ghost use mathlib.Core.List.{List, [], _∷_, _++_};
 ghost use lib.Dec.{eqb};
-ghost use lib.ListN.{length, getD};
+ghost use lib.ListN.{length, getD, drop};
 ghost use Rattle.bit_row.specs.Row.{bitAt};
 ghost use Rattle.graph_tables.specs.Tables.{headerIn};
 ghost use Rattle.graph.specs.Check.{graphIn};
@@ -15,21 +15,19 @@ ghost use Rattle.graph.specs.Loaded.{Loaded};
 ghost use Rattle.keep_rules.specs.Prepared.{Prepared};
 ghost use Rattle.keep_record.specs.Lines.{elem};
 ghost use Rattle.keep_record.specs.Held.{lineAt, linesOf, Held};
-ghost use Rattle.answer_rows.specs.Shown.{bytesBefore, usedBy, externalBy, jsonBy, reasonBy, shows, rowBytes, shown, shownRow, onlyIf, rowsEnough};
-ghost use Rattle.answer_rows.specs.Kinds.{oneKind, otherKind};
-ghost use Rattle.answer_rows.specs.Together.{sixRows, lengthsOf, RowsShown};
+ghost use Rattle.answer_rows.specs.Shown.{bytesBefore, usedBy, externalBy, jsonBy, reasonBy, rowBytes, onlyIf, rowsEnough};
+ghost use Rattle.answer_rows.specs.Together.{sixRows, lengthsOf, Shows, FactShown, LinesShown, RowsShown};
 ghost use Rattle.answer_rows.specs.Tabled.{FirstByteTable, FirstBytes};
 ghost use Rattle.tables.specs.Layout.{startOf, Laid, Kept, firstBytesIn, atFirstBytes, allSections};
 ghost use Rattle.graph_access.specs.Names.{owner as ownerIn};
 ghost use Rattle.graph_access.specs.Words.{symbolOf};
-ghost use Rattle.facts.specs.declared.Fact.the-variants.{Module, Statement, Use};
-ghost use Rattle.answer_rows.specs.declared.Row.the-variants.{Statements};
+ghost use Rattle.facts.specs.declared.Fact.the-variants.{Module, Use};
+ghost use Rattle.answer_rows.specs.declared.Row.the-variants.{Modules, Statements, Used, External, Json, NamespaceReason};
 use facts::Fact;
 use facts::Reason;
 use graph_access::modules;
 use graph_access::symbols;
 use index::ModuleIdx;
-use index::StmtIdx;
 use index::SymbolIdx;
 use tables::FIRST_BYTE_OF;
 
@@ -189,145 +187,116 @@ fn note_namespace_inclusion_reason(
     }
 }
 
-// Shows what a use shows in a row.
-fn show_use(numbers: &[u32], tables: &[usize], row: Row, s: SymbolIdx, x: Reason, bits: &mut [u8])
-    requires { ⌜ Prepared (now numbers) (now tables) ⌝ }
-    requires { ⌜ Good (graphIn (now numbers)) (Use s x) × (rowBytes (graphIn (now numbers)) row ≤ length (now bits)) ⌝ }
-    ensures { λ _. ⌜ ((j : ℕ) → bitAt (now (bits .exit)) j ≡ (elem j (shows (graphIn (now (numbers .entry))) row (Use s x)) || bitAt (now (bits .entry)) j)) ⌝ }
-{
-    match row {
-        Row::Modules => {}
-        Row::Statements => {}
-        Row::Used => show_used(numbers, tables, s, x, bits),
-        Row::External => show_external(numbers, tables, s, x, bits),
-        Row::Json => note_json_self_reference(numbers, tables, s, x, bits),
-        Row::NamespaceReason => note_namespace_inclusion_reason(numbers, tables, s, x, bits),
-    }
-}
-
-// Shows what a module shows in a row.
-fn show_module(numbers: &[u32], tables: &[usize], row: Row, m: ModuleIdx, bits: &mut [u8])
-    requires { ⌜ Prepared (now numbers) (now tables) ⌝ }
-    requires { ⌜ Good (graphIn (now numbers)) (Module m) × (rowBytes (graphIn (now numbers)) row ≤ length (now bits)) ⌝ }
-    ensures { λ _. ⌜ ((j : ℕ) → bitAt (now (bits .exit)) j ≡ (elem j (shows (graphIn (now (numbers .entry))) row (Module m)) || bitAt (now (bits .entry)) j)) ⌝ }
-{
-    match row {
-        Row::Modules => bit_row::set(bits, m.0),
-        Row::Statements => {}
-        Row::Used => {}
-        Row::External => {}
-        Row::Json => {}
-        Row::NamespaceReason => {
-            if include_module::dev_namespace(numbers, tables, m) {
-                bit_row::set(bits, 8 * m.0);
-            }
-        }
-    }
-}
-
-// Shows what a statement shows in a row: its bit in the part of the row that begins with its module's first byte.
-fn show_statement(
+// Shows what a use shows. Json symbols and why a namespace is included are shown of the main part alone.
+fn show_use(
     numbers: &[u32],
     tables: &[usize],
-    row: Row,
-    m: ModuleIdx,
-    i: StmtIdx,
-    bits: &mut [u8],
+    s: SymbolIdx,
+    x: Reason,
+    main: bool,
+    used: &mut [u8],
+    external: &mut [u8],
+    json: &mut [u8],
+    reason: &mut [u8],
 )
     requires { ⌜ Prepared (now numbers) (now tables) ⌝ }
-    requires { ⌜ FirstBytes (now numbers) (now tables) ⌝ }
-    requires { ⌜ Good (graphIn (now numbers)) (Statement m i) × (rowBytes (graphIn (now numbers)) row ≤ length (now bits)) ⌝ }
-    ensures { λ _. ⌜ ((j : ℕ) → bitAt (now (bits .exit)) j ≡ (elem j (shows (graphIn (now (numbers .entry))) row (Statement m i)) || bitAt (now (bits .entry)) j)) ⌝ }
+    requires { ⌜ s .0 < headerIn (now numbers) .symbols ⌝ }
+    requires { ⌜ (headerIn (now numbers) .symbols ≤ 8 * length (now used)) × (headerIn (now numbers) .symbols ≤ 8 * length (now external)) × (headerIn (now numbers) .symbols ≤ 8 * length (now json)) × (headerIn (now numbers) .modules ≤ length (now reason)) ⌝ }
+    ensures { λ _. ⌜ Shows (graphIn (now (numbers .entry))) Used true (Use s x) (now (used .entry)) (now (used .exit)) × Shows (graphIn (now (numbers .entry))) External true (Use s x) (now (external .entry)) (now (external .exit)) × Shows (graphIn (now (numbers .entry))) Json main (Use s x) (now (json .entry)) (now (json .exit)) × Shows (graphIn (now (numbers .entry))) NamespaceReason main (Use s x) (now (reason .entry)) (now (reason .exit)) ⌝ }
 {
-    match row {
-        Row::Modules => {}
-        Row::Statements => {
-            bit_row::set_in_part(bits, first_byte_of(numbers, tables, m), i.0);
-        }
-        Row::Used => {}
-        Row::External => {}
-        Row::Json => {}
-        Row::NamespaceReason => {}
+    show_used(numbers, tables, s, x, used);
+    show_external(numbers, tables, s, x, external);
+    if main {
+        note_json_self_reference(numbers, tables, s, x, json);
+        note_namespace_inclusion_reason(numbers, tables, s, x, reason);
     }
 }
 
-// Shows what a fact shows in a row.
-fn show_fact(numbers: &[u32], tables: &[usize], row: Row, fact: Fact, bits: &mut [u8])
+// Shows what a module shows.
+fn show_module(
+    numbers: &[u32],
+    tables: &[usize],
+    m: ModuleIdx,
+    main: bool,
+    modules_row: &mut [u8],
+    reason: &mut [u8],
+)
     requires { ⌜ Prepared (now numbers) (now tables) ⌝ }
-    requires { ⌜ FirstBytes (now numbers) (now tables) ⌝ }
-    requires { ⌜ Good (graphIn (now numbers)) fact × (rowBytes (graphIn (now numbers)) row ≤ length (now bits)) ⌝ }
-    ensures { λ _. ⌜ ((j : ℕ) → bitAt (now (bits .exit)) j ≡ (elem j (shows (graphIn (now (numbers .entry))) row fact) || bitAt (now (bits .entry)) j)) ⌝ }
+    requires { ⌜ (m .0 < headerIn (now numbers) .modules) × (headerIn (now numbers) .modules ≤ 8 * length (now «modules_row»)) × (headerIn (now numbers) .modules ≤ length (now reason)) ⌝ }
+    ensures { λ _. ⌜ Shows (graphIn (now (numbers .entry))) Modules true (Module m) (now («modules_row» .entry)) (now («modules_row» .exit)) × Shows (graphIn (now (numbers .entry))) NamespaceReason main (Module m) (now (reason .entry)) (now (reason .exit)) ⌝ }
+{
+    bit_row::set(modules_row, m.0);
+    if main {
+        if include_module::dev_namespace(numbers, tables, m) {
+            bit_row::set(reason, 8 * m.0);
+        }
+    }
+}
+
+// Shows what a fact shows; a statement in the part of its row that begins with its module's first byte.
+fn show_fact(
+    numbers: &[u32],
+    tables: &[usize],
+    fact: Fact,
+    main: bool,
+    modules_row: &mut [u8],
+    statements_row: &mut [u8],
+    used: &mut [u8],
+    external: &mut [u8],
+    json: &mut [u8],
+    reason: &mut [u8],
+)
+    requires { ⌜ Prepared (now numbers) (now tables) × FirstBytes (now numbers) (now tables) ⌝ }
+    requires { ⌜ Good (graphIn (now numbers)) fact ⌝ }
+    requires { ⌜ rowsEnough (graphIn (now numbers)) (lengthsOf (sixRows (now «modules_row») (now «statements_row») (now used) (now external) (now json) (now reason))) ≡ true ⌝ }
+    ensures { λ _. ⌜ FactShown (graphIn (now (numbers .entry))) main fact (sixRows (now («modules_row» .entry)) (now («statements_row» .entry)) (now (used .entry)) (now (external .entry)) (now (json .entry)) (now (reason .entry))) (sixRows (now («modules_row» .exit)) (now («statements_row» .exit)) (now (used .exit)) (now (external .exit)) (now (json .exit)) (now (reason .exit))) ⌝ }
 {
     match fact {
-        Fact::Module(m) => show_module(numbers, tables, row, m, bits),
-        Fact::Statement(m, i) => show_statement(numbers, tables, row, m, i, bits),
-        Fact::Use(s, x) => show_use(numbers, tables, row, s, x, bits),
+        Fact::Module(m) => show_module(numbers, tables, m, main, modules_row, reason),
+        Fact::Statement(m, i) => {
+            bit_row::set_in_part(statements_row, first_byte_of(numbers, tables, m), i.0);
+        }
+        Fact::Use(s, x) => show_use(numbers, tables, s, x, main, used, external, json, reason),
         Fact::CheckedUse(_, _) => {}
         Fact::Forward(_) => {}
         Fact::Bailout(_) => {}
     }
 }
 
-// One kind (`kindOf`) of the facts that show something in a row.
-fn one_kind(row: Row) -> u32
-    ensures { λ r. ⌜ r ≡ oneKind row ⌝ }
-{
-    match row {
-        Row::Modules => 1,
-        Row::Statements => 2,
-        Row::Used => 3,
-        Row::External => 3,
-        Row::Json => 3,
-        Row::NamespaceReason => 1,
-    }
-}
-
-// The other kind of such facts, the same where there is but one.
-fn other_kind(row: Row) -> u32
-    ensures { λ r. ⌜ r ≡ otherKind row ⌝ }
-{
-    match row {
-        Row::Modules => 1,
-        Row::Statements => 2,
-        Row::Used => 3,
-        Row::External => 3,
-        Row::Json => 3,
-        Row::NamespaceReason => 3,
-    }
-}
-
-// Whether a kind is one of two.
-fn is_either(kind: u32, one: u32, other: u32) -> bool
-    ensures { λ r. ⌜ r ≡ (eqb kind one || eqb kind other) ⌝ }
-{
-    if kind == one {
-        return true;
-    }
-    kind == other
-}
-
-// Shows what the lines show in a row. Lines whose kind, their first number, shows nothing there are passed over.
+// Shows what the lines from number `from` to `to` show, lines of the main part or not.
 fn show_lines(
     numbers: &[u32],
     tables: &[usize],
-    row: Row,
     lines: &[u32],
-    count: usize,
-    bits: &mut [u8],
+    from: usize,
+    to: usize,
+    main: bool,
+    modules_row: &mut [u8],
+    statements_row: &mut [u8],
+    used: &mut [u8],
+    external: &mut [u8],
+    json: &mut [u8],
+    reason: &mut [u8],
 )
-    requires { ⌜ Prepared (now numbers) (now tables) ⌝ }
-    requires { ⌜ FirstBytes (now numbers) (now tables) ⌝ }
-    requires { ⌜ rowBytes (graphIn (now numbers)) row ≤ length (now bits) ⌝ }
-    requires { ⌜ (6 * count ≤ length (now lines)) × ((k : ℕ) → k < count → Good (graphIn (now numbers)) (lineAt (now lines) k .fact)) ⌝ }
-    ensures { λ _. ⌜ ((j : ℕ) → bitAt (now (bits .exit)) j ≡ (shown (graphIn (now (numbers .entry))) row (linesOf count (now (lines .entry))) j || bitAt (now (bits .entry)) j)) ⌝ }
+    requires { ⌜ Prepared (now numbers) (now tables) × FirstBytes (now numbers) (now tables) ⌝ }
+    requires { ⌜ rowsEnough (graphIn (now numbers)) (lengthsOf (sixRows (now «modules_row») (now «statements_row») (now used) (now external) (now json) (now reason))) ≡ true ⌝ }
+    requires { ⌜ (from ≤ to) × (6 * to ≤ length (now lines)) × ((k : ℕ) → k < to → Good (graphIn (now numbers)) (lineAt (now lines) k .fact)) ⌝ }
+    ensures { λ _. ⌜ LinesShown (graphIn (now (numbers .entry))) main (drop from (linesOf to (now (lines .entry)))) (sixRows (now («modules_row» .entry)) (now («statements_row» .entry)) (now (used .entry)) (now (external .entry)) (now (json .entry)) (now (reason .entry))) (sixRows (now («modules_row» .exit)) (now («statements_row» .exit)) (now (used .exit)) (now (external .exit)) (now (json .exit)) (now (reason .exit))) ⌝ }
 {
-    let one = one_kind(row);
-    let other = other_kind(row);
-    let mut k: usize = 0;
-    while k < count {
-        if is_either(lines[6 * k], one, other) {
-            show_fact(numbers, tables, row, keep_record::fact_at(lines, k), bits);
-        }
+    let mut k = from;
+    while k < to {
+        show_fact(
+            numbers,
+            tables,
+            keep_record::fact_at(lines, k),
+            main,
+            modules_row,
+            statements_row,
+            used,
+            external,
+            json,
+            reason,
+        );
         k += 1;
     }
 }
@@ -383,18 +352,31 @@ pub fn are_long_enough(numbers: &[u32], tables: &[usize], lengths: Lengths) -> b
     lengths.reason >= row_bytes(numbers, tables, Row::NamespaceReason)
 }
 
-// Writes a row of the answer: the bits that the lines show; what is behind them stays as lent.
-fn show(numbers: &[u32], tables: &[usize], row: Row, lines: &[u32], count: usize, bits: &mut [u8])
-    requires { ⌜ Prepared (now numbers) (now tables) × FirstBytes (now numbers) (now tables) ⌝ }
-    requires { ⌜ rowBytes (graphIn (now numbers)) row ≤ length (now bits) ⌝ }
-    requires { ⌜ (6 * count ≤ length (now lines)) × ((k : ℕ) → k < count → Good (graphIn (now numbers)) (lineAt (now lines) k .fact)) ⌝ }
-    ensures { λ _. ⌜ now (bits .exit) ≡ shownRow (graphIn (now (numbers .entry))) row (linesOf count (now (lines .entry))) (now (bits .entry)) ⌝ }
+// Clears the answer's bytes of the six rows; what is behind them stays as lent.
+fn clear_rows(
+    numbers: &[u32],
+    tables: &[usize],
+    modules_row: &mut [u8],
+    statements_row: &mut [u8],
+    used: &mut [u8],
+    external: &mut [u8],
+    json: &mut [u8],
+    reason: &mut [u8],
+)
+    requires { ⌜ Loaded (now numbers) (now tables) × FirstBytes (now numbers) (now tables) ⌝ }
+    requires { ⌜ rowsEnough (graphIn (now numbers)) (lengthsOf (sixRows (now «modules_row») (now «statements_row») (now used) (now external) (now json) (now reason))) ≡ true ⌝ }
+    ensures { λ _. ⌜ RowsShown (graphIn (now (numbers .entry))) [] [] (sixRows (now («modules_row» .entry)) (now («statements_row» .entry)) (now (used .entry)) (now (external .entry)) (now (json .entry)) (now (reason .entry))) (sixRows (now («modules_row» .exit)) (now («statements_row» .exit)) (now (used .exit)) (now (external .exit)) (now (json .exit)) (now (reason .exit))) ⌝ }
 {
-    bit_row::clear(bits, row_bytes(numbers, tables, row));
-    show_lines(numbers, tables, row, lines, count, bits);
+    bit_row::clear(modules_row, row_bytes(numbers, tables, Row::Modules));
+    bit_row::clear(statements_row, row_bytes(numbers, tables, Row::Statements));
+    let symbols = row_bytes(numbers, tables, Row::Used);
+    bit_row::clear(used, symbols);
+    bit_row::clear(external, symbols);
+    bit_row::clear(json, symbols);
+    bit_row::clear(reason, row_bytes(numbers, tables, Row::NamespaceReason));
 }
 
-// Writes the six answer rows of a record of `total` lines, of which the first `main` are those of the main part.
+// Writes the six answer rows of a record of `total` lines, of which the first `main` are those of the main part. Each line is read once.
 pub fn show_all(
     numbers: &[u32],
     tables: &[usize],
@@ -413,17 +395,42 @@ pub fn show_all(
     requires { ⌜ (main ≤ total) × (6 * total ≤ length (now lines)) × ((k : ℕ) → k < total → Good (graphIn (now numbers)) (lineAt (now lines) k .fact)) ⌝ }
     ensures { λ _. ⌜ RowsShown (graphIn (now (numbers .entry))) (linesOf main (now (lines .entry))) (linesOf total (now (lines .entry))) (sixRows (now («modules_row» .entry)) (now («statements_row» .entry)) (now (used .entry)) (now (external .entry)) (now (json .entry)) (now (reason .entry))) (sixRows (now («modules_row» .exit)) (now («statements_row» .exit)) (now (used .exit)) (now (external .exit)) (now (json .exit)) (now (reason .exit))) ⌝ }
 {
-    show(numbers, tables, Row::Modules, lines, total, modules_row);
-    show(
+    clear_rows(
         numbers,
         tables,
-        Row::Statements,
-        lines,
-        total,
+        modules_row,
         statements_row,
+        used,
+        external,
+        json,
+        reason,
     );
-    show(numbers, tables, Row::Used, lines, total, used);
-    show(numbers, tables, Row::External, lines, total, external);
-    show(numbers, tables, Row::Json, lines, main, json);
-    show(numbers, tables, Row::NamespaceReason, lines, main, reason);
+    show_lines(
+        numbers,
+        tables,
+        lines,
+        0,
+        main,
+        true,
+        modules_row,
+        statements_row,
+        used,
+        external,
+        json,
+        reason,
+    );
+    show_lines(
+        numbers,
+        tables,
+        lines,
+        main,
+        total,
+        false,
+        modules_row,
+        statements_row,
+        used,
+        external,
+        json,
+        reason,
+    );
 }
