@@ -9,8 +9,10 @@ mod listing;
 mod shrink;
 pub mod sides;
 mod stage;
+mod timer;
 
 pub use circles::has_circle;
 pub use decide::{decide, time_decision, time_numbers, Decision, Times, BUDGET};
 pub use peer::{generate, happenings, loads, model, reference, Refused};
 pub use rolldown_common::Budget;
+pub use timer::{DecisionTimer, Least};

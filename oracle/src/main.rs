@@ -1,9 +1,10 @@
 //! `oracle`: the tree shaking's listing of a graph, of many graphs, its times, comparisons, and a list of answers.
 
+mod loads;
+
 use oracle::answers::{answers, read_answer};
 use oracle::compare::{Comparison, CALLS, LARGER};
-use oracle::generate::PRINTED;
-use oracle::loads::{loads, Load};
+use oracle::loads::LOADS;
 use oracle::reference::decode::decode;
 use oracle::reference::{check, leb128};
 use oracle::sides::{self, Side};
@@ -20,7 +21,8 @@ oracle --time [OPTIONS] [FILE]       how long its decision takes, the best of so
 oracle batch [OPTIONS]               graph files from standard input to listings, each behind its length in 4 bytes,
                                      the lowest first
 oracle compare FIRST COUNT [OPTIONS] compares the graphs of so many seeds with another side
-oracle loads [OPTIONS]               how long the decisions of the peer's loads take, and whether the other side agrees
+oracle loads [OPTIONS]               how long the decisions of the peer's loads take, beside the library's operations if it
+                                     is built in, and whether the other side agrees
 oracle answers COUNT SEED            a list of files in hexadecimal and listings in a line; to standard error, in how
                                      many of them each thing occurs
 oracle replay FILE [OPTIONS]         compares such a list with the tree shaking and another side
@@ -29,7 +31,8 @@ oracle replay FILE [OPTIONS]         compares such a list with the tree shaking 
 --hash-seeds N  in a comparison: so many orders
 --calls N       gives up after resolving so many symbols; a comparison goes on without a circle
 --seconds N     gives up after so long
---repeat N      times that are taken
+--repeat N      times that are taken; of a load, at least
+--together N    so many short calls on a load are timed together at most
 --other WHICH   reference (the usual one), library (if built in), or a program's path
 --differences N ends a comparison after so many differences
 ";
@@ -40,6 +43,7 @@ struct Options {
     calls: Option<u64>,
     seconds: u64,
     repeat: u32,
+    together: u32,
     other: String,
     differences: usize,
     time: bool,
@@ -71,6 +75,7 @@ fn options() -> Result<Options, Box<dyn Error>> {
         calls: None,
         seconds: BUDGET.time.as_secs(),
         repeat: 20,
+        together: 64,
         other: "reference".to_string(),
         differences: 3,
         time: false,
@@ -85,6 +90,7 @@ fn options() -> Result<Options, Box<dyn Error>> {
             "--calls" => options.calls = Some(value()?.parse()?),
             "--seconds" => options.seconds = value()?.parse()?,
             "--repeat" => options.repeat = value()?.parse()?,
+            "--together" => options.together = value()?.parse()?,
             "--other" => options.other = value()?,
             "--differences" => options.differences = value()?.parse::<usize>()?.max(1),
             "--time" => options.time = true,
@@ -180,41 +186,20 @@ fn batch(options: &Options) -> Result<bool, Box<dyn Error>> {
 
 fn time_loads(options: &Options) -> Result<bool, Box<dyn Error>> {
     let other = other(&options.other)?;
+    let way = loads::Way { seed: options.seed, repeat: options.repeat, together: options.together };
+    println!("{}", loads::TITLE);
     let mut all_equal = true;
-    let printed = Load { name: "printed case", graph: decode(&PRINTED) };
-    for load in loads().into_iter().chain([printed]) {
-        let Decision::Listed(listing) = decide(&load.graph, options.seed, options.budget(BUDGET.calls)) else {
-            println!("{}: gave up", load.name);
+    for load in &LOADS {
+        let graph = load.graph();
+        let Decision::Listed(listing) = decide(&graph, options.seed, options.budget(BUDGET.calls)) else {
+            println!("{:<39} gave up", load.name);
             continue;
         };
-        let equal = other(&load.graph.numbers()) == Ok(listing);
+        let equal = other(&graph.numbers()) == Ok(listing);
         all_equal &= equal;
-        let times = time_decision(&load.graph, options.seed, options.repeat).expect("it does not give up");
-        println!("{}: whole {:?}, include {:?}, equal {equal}", load.name, times.whole, times.include);
-        #[cfg(feature = "library")]
-        time_library(&load.graph.numbers(), options.repeat, times.whole);
+        println!("{}{}", loads::line(load, &graph, way), if equal { "" } else { "  DIFFERENT" });
     }
     Ok(all_equal)
-}
-
-/// The linked library's time for the same decision, with its check and its rows, and its share of the Rust's.
-#[cfg(feature = "library")]
-fn time_library(numbers: &[u32], repetitions: u32, whole: Duration) {
-    let best = lizdakk::with_stack(|| {
-        let mut run = ::compare::RunBuffers::for_graph(numbers).expect("the graph is accepted");
-        let mut best = Duration::MAX;
-        for _ in 0..repetitions.max(1) {
-            // Short runs are taken together, so that the clock does not count.
-            const TOGETHER: u32 = 16;
-            let begin = std::time::Instant::now();
-            for _ in 0..TOGETHER {
-                assert_eq!(std::hint::black_box(run.again()).number, 0);
-            }
-            best = best.min(begin.elapsed() / TOGETHER);
-        }
-        best
-    });
-    println!("    library {best:?}, {:.3} of the whole", best.as_secs_f64() / whole.as_secs_f64());
 }
 
 fn compare(options: &Options, first: u64, count: u64) -> Result<bool, Box<dyn Error>> {

@@ -1,11 +1,11 @@
-//! Rows for a run and for its starts that are made from the graph, so that no caller counts bits.
+//! Rows for a run, for its starts and for a drain that are made from the graph, so that no caller counts bits.
 
-use crate::library::{check, effects, run, starts};
+use crate::library::{check, drain, effects, run, starts};
 use peer::listing::{first_records, first_statement_bytes, is_set, Listed};
 use peer::model::Graph;
 use peer::reference::decode::decode;
 use peer::reference::drain::LINE;
-use peer::{Refused, RunAnswer, RunRows};
+use peer::{DrainAnswer, ReadAnswer, Refused, Rows, RunAnswer, RunRows};
 
 /// How many numbers a start has.
 const START: usize = 3;
@@ -204,13 +204,89 @@ impl<'a> RunBuffers<'a> {
 
 /// The starts that the run of a graph has of itself, as triples. The only refusals are those of [`check`].
 pub fn own_starts(numbers: &[u32]) -> Result<Vec<u32>, Refused> {
-    check(numbers).result()?;
-    let counts = Counts::of(&decode(numbers));
-    let (mut marks, mut record) = (vec![0; counts.marks().div_ceil(8)], vec![0; LINE * counts.most_lines()]);
-    let mut triples = vec![0; START * counts.most_starts()];
-    let count = starts(numbers, &mut marks, &mut record, &mut triples).result()?;
-    triples.truncate(count);
-    Ok(triples)
+    Ok(StartsBuffers::for_graph(numbers)?.starts)
+}
+
+/// The starts of a graph's run, with the rows that the library wrote.
+#[derive(Clone, Debug)]
+pub struct StartsBuffers<'a> {
+    numbers: &'a [u32],
+    marks: Vec<u8>,
+    record: Vec<u32>,
+    starts: Vec<u32>,
+}
+
+impl<'a> StartsBuffers<'a> {
+    /// Makes rows for a graph and writes its run's starts. The only refusals are those of [`check`].
+    pub fn for_graph(numbers: &'a [u32]) -> Result<StartsBuffers<'a>, Refused> {
+        check(numbers).result()?;
+        let counts = Counts::of(&decode(numbers));
+        let (marks, record) = (vec![0; counts.marks().div_ceil(8)], vec![0; LINE * counts.most_lines()]);
+        let mut buffers = StartsBuffers { numbers, marks, record, starts: vec![0; START * counts.most_starts()] };
+        let count = buffers.again().result()?;
+        buffers.starts.truncate(count);
+        // Every kind of a fact is above 0, and behind the lines the record is 0.
+        let lines = buffers.record.chunks_exact(LINE).take_while(|line| line[0] != 0).count();
+        buffers.record.truncate(LINE * lines);
+        Ok(buffers)
+    }
+
+    /// Writes them again into the same rows, which are just as long as they have to be: for measurements.
+    pub fn again(&mut self) -> ReadAnswer {
+        starts(self.numbers, &mut self.marks, &mut self.record, &mut self.starts)
+    }
+}
+
+/// A drain of a graph, with the rows that the library wrote.
+#[derive(Clone, Debug)]
+pub struct DrainBuffers<'a> {
+    numbers: &'a [u32],
+    starts: &'a [u32],
+    record: Vec<u32>,
+    marks: Vec<u8>,
+    modules: Vec<u8>,
+    statements: Vec<u8>,
+    /// Used, external, json.
+    symbols: [Vec<u8>; 3],
+    reason: Vec<u8>,
+}
+
+impl<'a> DrainBuffers<'a> {
+    /// Makes rows for a graph and drains. The only refusals are those of [`check`] and those of the starts.
+    pub fn for_graph(numbers: &'a [u32], starts: &'a [u32]) -> Result<DrainBuffers<'a>, Refused> {
+        check(numbers).result()?;
+        let counts = Counts::of(&decode(numbers));
+        let bytes = |bits: usize| vec![0; bits.div_ceil(8)];
+        let mut buffers = DrainBuffers {
+            numbers,
+            starts,
+            record: vec![0; LINE * counts.marks()],
+            marks: bytes(counts.marks()),
+            modules: bytes(counts.modules()),
+            statements: vec![0; counts.first_statement_bytes[counts.modules()]],
+            symbols: [(); 3].map(|()| bytes(counts.symbols)),
+            reason: vec![0; counts.modules()],
+        };
+        let lines = buffers.again().result()?;
+        buffers.record.truncate(LINE * lines);
+        Ok(buffers)
+    }
+
+    /// Drains again into the same rows, with a record that is just as long as it has to be: for measurements.
+    pub fn again(&mut self) -> DrainAnswer {
+        let [used, external, json] = &mut self.symbols;
+        let rows = &mut Rows {
+            marks: &mut self.marks,
+            record: &mut self.record,
+            modules: &mut self.modules,
+            statements: &mut self.statements,
+            used,
+            external,
+            json,
+            reason: &mut self.reason,
+        };
+        drain(self.numbers, self.starts, rows)
+    }
 }
 
 /// What lengths follow from.

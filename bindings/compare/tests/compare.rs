@@ -7,6 +7,7 @@ mod seeds;
 
 use compare::library;
 use lizdakk::with_stack;
+use peer::generate::counted::{at_edges, graph_of};
 use peer::generate::{self, Random, Size};
 use peer::model::{Encoded, Entry, Graph, Module, Record, Reference, Statement, Symbol};
 use peer::reference::{self, leb128};
@@ -145,6 +146,23 @@ fn largest_graphs() {
             compare_check(&generate::damaged(&mut random, &graph), "largest, damaged", seed);
         }
         51
+    });
+}
+
+/// Counts at which the library takes larger tables, and damage there.
+#[test]
+fn edges_of_sizes() {
+    for_seeds("edges of sizes", cases() / 200, |seed| {
+        let mut random = Random::new(seed);
+        for counts in at_edges() {
+            let graph = graph_of(&mut random, counts).encode();
+            assert_eq!(compare_check(&graph.numbers, "edge", seed), Refusal::PASSED);
+            assert_eq!(graph.numbers[2..6], counts);
+            for _ in 0..4 {
+                compare_check(&generate::damaged(&mut random, &graph), "edge, damaged", seed);
+            }
+        }
+        5 * at_edges().len() as u64
     });
 }
 

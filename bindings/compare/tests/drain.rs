@@ -7,6 +7,7 @@ mod seeds;
 
 use compare::library;
 use lizdakk::with_stack;
+use peer::generate::counted::{at_edges, graph_of, last_starts};
 use peer::generate::{self, Random, Size, PRINTED};
 use peer::model::Graph;
 use peer::reference::drain::{self, LINE};
@@ -258,6 +259,21 @@ fn largest_graphs() {
         let every = every_statement(&graph);
         Case::new(graph.numbers(), every, "largest, every statement", seed).compare_rooms(&mut random, RECORD);
         2
+    });
+}
+
+/// Counts at which the library takes larger tables: a few starts, the last of everything, then every statement.
+#[test]
+fn edges_of_sizes() {
+    for_seeds("edges of sizes", cases() / 200, |seed| {
+        let mut random = Random::new(seed);
+        for counts in at_edges() {
+            let graph = graph_of(&mut random, counts);
+            for starts in [generate::starts(&mut random, &graph), last_starts(&graph), every_statement(&graph)] {
+                Case::new(graph.numbers(), starts, "edge", seed).compare_rooms(&mut random, RECORD);
+            }
+        }
+        3 * at_edges().len() as u64
     });
 }
 

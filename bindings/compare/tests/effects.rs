@@ -7,6 +7,7 @@ mod seeds;
 
 use compare::library;
 use lizdakk::with_stack;
+use peer::generate::counted::{at_edges, graph_of};
 use peer::generate::{self, Random, Size};
 use peer::model::{Graph, Module, Record, Statement, Symbol};
 use peer::{reference, Refusal};
@@ -115,6 +116,19 @@ fn largest_graphs() {
         let graph = generate::graph(&mut random, Size::largest());
         compare_rooms(&graph.numbers(), graph.modules.len(), &mut random, "largest", seed);
         1
+    });
+}
+
+/// Counts at which the library takes larger tables.
+#[test]
+fn edges_of_sizes() {
+    for_seeds("effects at the edges of sizes", cases() / 200, |seed| {
+        let mut random = Random::new(seed);
+        for counts in at_edges() {
+            let graph = graph_of(&mut random, counts);
+            compare_rooms(&graph.numbers(), graph.modules.len(), &mut random, "edge", seed);
+        }
+        at_edges().len() as u64
     });
 }
 

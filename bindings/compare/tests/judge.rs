@@ -8,9 +8,10 @@ mod tally;
 
 use compare::library;
 use lizdakk::with_stack;
+use peer::generate::counted::{at_edges, graph_of, last_starts};
 use peer::generate::records::{Asked, Source, CHANGES};
 use peer::generate::{self, Random, Size, PRINTED};
-use peer::loads::loads;
+use peer::loads::LOADS;
 use peer::reference::decode::decode;
 use peer::reference::drain::LINE;
 use peer::reference::judge::Judge;
@@ -218,6 +219,27 @@ fn largest_graphs() {
     });
 }
 
+/// Counts at which the library takes larger tables: what the last of everything and every statement keep, and the run,
+/// whole and with a change.
+#[test]
+fn edges_of_sizes() {
+    for_seeds("edges of sizes", cases() / 200, |seed| {
+        let mut random = Random::new(seed);
+        for counts in at_edges() {
+            let graph = graph_of(&mut random, counts);
+            let [last, every] = [last_starts(&graph), every_statement(&graph)];
+            for source in [Source::of(graph.clone(), last), Source::of(graph.clone(), every), Source::run(graph)] {
+                assert_eq!(compare(&source.asked(), "edge", seed), Refusal::PASSED, "{counts:?}");
+                let change = &CHANGES[random.index(CHANGES.len())];
+                if let Some(asked) = change.make(&mut random, &source) {
+                    compare(&asked, change.name, seed);
+                }
+            }
+        }
+        3 * at_edges().len() as u64
+    });
+}
+
 fn every_statement(graph: &peer::model::Graph) -> Vec<u32> {
     let mut starts = Vec::new();
     for (index, module) in (0..).zip(&graph.modules) {
@@ -226,15 +248,16 @@ fn every_statement(graph: &peer::model::Graph) -> Vec<u32> {
     starts
 }
 
-/// The main stage of the runs that are measured, whole and without its last line.
+/// The main stage of the runs that are measured, whole and without its last line if it has one.
 #[test]
 fn loads_of_the_benchmark() {
     with_stack(|| {
-        for load in loads() {
-            let mut asked = Source::run(load.graph).asked();
+        for load in &LOADS {
+            let mut asked = Source::run(load.graph()).asked();
             assert_eq!(compare(&asked, load.name, 0), Refusal::PASSED);
-            asked.record.truncate(asked.record.len() - LINE);
-            let place = (asked.record.len() / LINE) as u64;
+            let Some(length) = asked.record.len().checked_sub(LINE) else { continue };
+            asked.record.truncate(length);
+            let place = (length / LINE) as u64;
             assert_eq!(compare(&asked, load.name, 0), Refusal { number: 6, place });
         }
     });

@@ -17,7 +17,7 @@ use peer::reference::rules::{Fact, Rules};
 use peer::reference::run::{self, Run};
 use peer::reference::run_by_sets::{order, run_by_sets, Decided};
 use peer::reference::starts::Starts;
-use peer::{loads, reference, RunAnswer, RunRows};
+use peer::{reference, RunAnswer, RunRows};
 use std::collections::{BTreeMap, BTreeSet, HashSet};
 
 const CASES: u64 = 20_000;
@@ -1027,28 +1027,4 @@ fn rows_after_a_refusal() {
     // A fault of the graph comes before all lengths.
     let mut lent = Lent::new(0);
     assert_eq!(reference::run(&numbers[..20], &mut lent.rows()), refused(4, 20));
-}
-
-/// The loads of the benchmark are graphs, and their runs are what their names say.
-#[test]
-fn loads_are_graphs() {
-    for load in loads::loads() {
-        assert_eq!(check(&load.graph.numbers()), Ok(()), "{}", load.name);
-        let run = Run::of(&load.graph);
-        let kept = bits_of(&run.modules).len();
-        let dead = bits_of(&run.dead).len();
-        println!(
-            "{}: {} numbers, {} rounds, {} and {} lines, {} of {} modules kept, {} of {} entries final, {dead} dead imports",
-            load.name,
-            load.graph.numbers().len(),
-            run.rounds,
-            run.lines.len(),
-            run.runtime_lines.len(),
-            kept,
-            load.graph.modules.len(),
-            run.entries.len(),
-            load.graph.entries.len(),
-        );
-    }
-    assert_eq!(Run::of(&loads::rounds(300)).rounds, 300);
 }

@@ -7,10 +7,11 @@ mod seeds;
 
 use compare::{library, RunBuffers};
 use lizdakk::with_stack;
+use peer::generate::counted::{at_edges, graph_of};
 use peer::generate::runs::{import_graph, run_graph, small_run_graph, sparse};
 use peer::generate::{self, Random, Size, PRINTED};
 use peer::listing::is_set;
-use peer::loads::{self, loads};
+use peer::loads::{self, LOADS};
 use peer::model::Graph;
 use peer::reference::drain::LINE;
 use peer::reference::run::{self, Run};
@@ -286,13 +287,26 @@ fn large_graphs() {
     });
 }
 
+/// Counts at which the library takes larger tables.
+#[test]
+fn edges_of_sizes() {
+    for_seeds("edges of sizes", cases() / 200, |seed| {
+        let mut random = Random::new(seed);
+        for counts in at_edges() {
+            let graph = graph_of(&mut random, counts);
+            Case::new(graph.numbers(), "edge", seed).compare_rooms(&mut random, RECORD);
+        }
+        at_edges().len() as u64
+    });
+}
+
 /// The graphs of the benchmark, and the longest runs: as many rounds as there can be, the deepest walks.
 #[test]
 fn loads_of_the_benchmark() {
     with_stack(|| {
         let mut random = Random::new(1);
-        for load in loads() {
-            Case::new(load.graph.numbers(), load.name, 0).compare_rooms(&mut random, RECORD);
+        for load in &LOADS {
+            Case::new(load.graph().numbers(), load.name, 0).compare_rooms(&mut random, RECORD);
         }
         let most_rounds = loads::rounds(1_024);
         let case = Case::new(most_rounds.numbers(), "most rounds", 0);

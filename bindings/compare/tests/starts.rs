@@ -7,9 +7,10 @@ mod seeds;
 
 use compare::{library, own_starts, RunBuffers};
 use lizdakk::with_stack;
+use peer::generate::counted::{at_edges, graph_of};
 use peer::generate::runs::{run_graph, small_run_graph, sparse};
 use peer::generate::{self, Random, Size, PRINTED};
-use peer::loads::{self, loads};
+use peer::loads::{self, LOADS};
 use peer::reference::drain::{self, LINE};
 use peer::reference::rows::Answer;
 use peer::reference::run::Run;
@@ -300,14 +301,29 @@ fn large_graphs() {
     });
 }
 
+/// Counts at which the library takes larger tables.
+#[test]
+fn edges_of_sizes() {
+    for_seeds("own starts at the edges of sizes", cases() / 200, |seed| {
+        let mut random = Random::new(seed);
+        for counts in at_edges() {
+            let numbers = graph_of(&mut random, counts).numbers();
+            judge_run(&numbers, &format!("edge {counts:?}, seed {seed}"));
+            Case::new(numbers, "edge", seed).compare_rooms(&mut random);
+        }
+        at_edges().len() as u64
+    });
+}
+
 /// The graphs of the benchmark, and as many rounds as there can be.
 #[test]
 fn loads_of_the_benchmark() {
     with_stack(|| {
         let mut random = Random::new(1);
-        for load in loads() {
-            Case::new(load.graph.numbers(), load.name, 0).compare_rooms(&mut random);
-            judge_run(&load.graph.numbers(), load.name);
+        for load in &LOADS {
+            let numbers = load.graph().numbers();
+            judge_run(&numbers, load.name);
+            Case::new(numbers, load.name, 0).compare_rooms(&mut random);
         }
         Case::new(loads::rounds(1_024).numbers(), "most rounds", 0).compare_rooms(&mut random);
     });

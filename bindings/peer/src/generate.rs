@@ -1,5 +1,6 @@
 //! Random graphs that are accepted, random damage to them, and random files of numbers. All follows from a seed.
 
+pub mod counted;
 pub mod records;
 pub mod runs;
 
@@ -197,18 +198,28 @@ impl Size {
 
 /// A random graph that is accepted, such that the keep rules apply often.
 pub fn graph(random: &mut Random, size: Size) -> Graph {
-    let mut graph = Graph { options: random.bits(&[80, 50, 50, 50, 30, 50]), ..Graph::default() };
-    place_modules(random, size, &mut graph);
-    place_symbols(random, size, &mut graph);
-    graph.helpers = (0..size.helpers).map(|_| random.below(graph.symbols.len() as u32)).collect();
-    fill_modules(random, size.lists, &mut graph);
-    fill_symbols(random, size.lists, &mut graph);
-    fill_statements(random, size.lists, &mut graph);
-    fill_entries(random, size, &mut graph);
-    if random.chance(30) {
-        place_bodies(random, &mut graph);
-    }
+    let mut graph = Graph { options: options(random), ..Graph::default() };
+    place_modules(random, size.modules, size.modules, &mut graph);
+    fill(random, size, &mut graph);
     graph
+}
+
+fn options(random: &mut Random) -> u32 {
+    random.bits(&[80, 50, 50, 50, 30, 50])
+}
+
+/// All but options, kinds of modules and the runtime.
+fn fill(random: &mut Random, size: Size, graph: &mut Graph) {
+    place_statements(random, size, graph);
+    place_symbols(random, size, graph);
+    graph.helpers = (0..size.helpers).map(|_| random.below(graph.symbols.len() as u32)).collect();
+    fill_modules(random, size.lists, graph);
+    fill_symbols(random, size.lists, graph);
+    fill_statements(random, size.lists, graph);
+    fill_entries(random, size, graph);
+    if random.chance(30) {
+        place_bodies(random, graph);
+    }
 }
 
 /// Makes some modules such that they are included on demand, with a gated statement, at times with a key in common.
@@ -236,15 +247,22 @@ fn place_bodies(random: &mut Random, graph: &mut Graph) {
     }
 }
 
-/// Kinds of modules, how many statements each has, and the runtime.
-fn place_modules(random: &mut Random, size: Size, graph: &mut Graph) {
-    let runtime = random.below(size.modules);
-    for index in 0..size.modules {
-        let normal = index == runtime || random.chance(70);
-        let statements = vec![Statement::default(); usize::from(normal)];
-        graph.modules.push(Module { normal, statements, ..Module::default() });
+/// Kinds of modules, at most so many of them normal beside the runtime, and which is that.
+fn place_modules(random: &mut Random, modules: u32, most_normal: u32, graph: &mut Graph) {
+    let (runtime, mut placed) = (random.below(modules), 0);
+    for index in 0..modules {
+        let normal = index == runtime || random.chance(70) && placed < most_normal;
+        placed += u32::from(normal && index != runtime);
+        graph.modules.push(Module { normal, ..Module::default() });
     }
     graph.runtime = runtime;
+}
+
+/// How many statements each normal module has.
+fn place_statements(random: &mut Random, size: Size, graph: &mut Graph) {
+    for module in graph.modules.iter_mut().filter(|module| module.normal) {
+        module.statements.push(Statement::default());
+    }
     let normal: Vec<usize> = (0..graph.modules.len()).filter(|&index| graph.modules[index].normal).collect();
     for _ in 0..size.more_statements {
         graph.modules[random.pick(&normal)].statements.push(Statement::default());

@@ -1,26 +1,47 @@
 //! Graphs of a given size and shape for measuring runs, the same ones at each call.
 
-use crate::generate::{shuffle, Random};
+mod drawn;
+
+use crate::generate::{shuffle, Random, PRINTED};
 use crate::model::{Entry, Graph, Module, Record, Reference, Statement, Symbol};
+use crate::reference::decode::decode;
+pub use drawn::{drawn, Draws};
 
 const DYNAMIC_IMPORT: u32 = 2;
 
-/// A load and its name.
+/// A load: a short name for tables and commands, a name that says what it is, and its graph.
 pub struct Load {
+    pub key: &'static str,
     pub name: &'static str,
-    pub graph: Graph,
+    make: fn() -> Graph,
 }
 
-/// All loads of runs.
-pub fn loads() -> Vec<Load> {
-    let load = |name, graph| Load { name, graph };
-    vec![
-        load("1,000 modules, 16,000 statements", bundle(1_000)),
-        load("100 modules, 1,600 statements", bundle(100)),
-        load("1,023 dynamic entries of 1,024 modules", wide(1_023)),
-        load("1,023 dynamic entries in one chain", deep(1_023)),
-        load("300 rounds", rounds(300)),
-    ]
+/// All loads of runs, the main ones first.
+pub const LOADS: [Load; 8] = [
+    load("bundle1000", "1,000 modules, 16,000 statements", || bundle(1_000)),
+    load("bundle100", "100 modules, 1,600 statements", || bundle(100)),
+    load("drawn1024", "1,024 modules, drawn from seed 0", || drawn(0, 1_024)),
+    load("unkept1024", "1,024 modules, nothing kept", || unkept(1_024)),
+    load("rounds300", "300 rounds", || rounds(300)),
+    load("printed", "printed case", || decode(&PRINTED)),
+    load("wide1023", "1,023 dynamic entries of 1,024 modules", || wide(1_023)),
+    load("deep1023", "1,023 dynamic entries in one chain", || deep(1_023)),
+];
+
+/// The main loads: there is a share of the Rust's time that is asked on each, and a count of instructions.
+pub fn main_loads() -> &'static [Load] {
+    const MAIN: usize = 6;
+    &LOADS[..MAIN]
+}
+
+const fn load(key: &'static str, name: &'static str, make: fn() -> Graph) -> Load {
+    Load { key, name, make }
+}
+
+impl Load {
+    pub fn graph(&self) -> Graph {
+        (self.make)()
+    }
 }
 
 /// A bundle: so many modules, each twentieth external, the others with some 17 statements; 16 symbols a module. All
@@ -170,6 +191,15 @@ fn plain(modules: u32) -> Graph {
         entries: vec![Entry { module: 0, kind: 0, related: Vec::new() }],
         ..Graph::default()
     }
+}
+
+/// So many modules of which nothing is kept: no entry, no effects, statement 0 alone.
+pub fn unkept(modules: u32) -> Graph {
+    let mut graph = plain(modules);
+    graph.entries.clear();
+    (graph.modules[0].effects, graph.modules[0].scan_effects) = (0, 0);
+    graph.modules.iter_mut().for_each(|module| module.statements.truncate(1));
+    graph
 }
 
 /// An import in statement 1 of a module, as a related statement.

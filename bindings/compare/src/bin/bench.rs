@@ -131,8 +131,7 @@ impl DrainRows {
 mod runs {
     use super::compare;
     use compare::library;
-    use peer::generate::PRINTED;
-    use peer::loads::loads;
+    use peer::loads::LOADS;
     use peer::model::Graph;
     use peer::reference::drain::LINE;
     use peer::reference::run::{self, Run};
@@ -140,12 +139,12 @@ mod runs {
     use std::hint::black_box;
 
     pub fn bench_runs() {
-        for load in loads() {
-            let numbers = load.graph.numbers();
+        for load in &LOADS {
+            let graph = load.graph();
+            let numbers = graph.numbers();
             bench_run(&format!("run, {}", load.name), &numbers);
-            bench_decoded("the same, reference with a decoded graph", &numbers, &load.graph);
+            bench_decoded("the same, reference with a decoded graph", &numbers, &graph);
         }
-        bench_run("run, printed case", &PRINTED);
     }
 
     fn bench_run(name: &str, numbers: &[u32]) {
@@ -205,7 +204,7 @@ mod judgements {
     use super::{best_of_both, compare};
     use compare::{library, own_starts, RunBuffers};
     use peer::generate::PRINTED;
-    use peer::loads::loads;
+    use peer::loads::LOADS;
     use peer::reference::judge_by_rules::judge_by_rules;
     use peer::reference::starts::{self, Starts};
     use peer::{reference, Refusal};
@@ -220,10 +219,9 @@ mod judgements {
         bench_share("judge beside the run, 1,000 modules", bundle);
         bench_share("judge beside the run, printed case", &PRINTED);
         println!("{:<44} {:>8} {:>12} {:>12} {:>7}", "starts beside the run", "lines", "starts ns", "run ns", "share");
-        for load in loads() {
-            bench_starts_share(load.name, &load.graph.numbers());
+        for load in &LOADS {
+            bench_starts_share(load.name, &load.graph().numbers());
         }
-        bench_starts_share("printed case", &PRINTED);
     }
 
     fn bench_judge(name: &str, numbers: &[u32]) {

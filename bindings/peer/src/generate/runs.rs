@@ -79,7 +79,7 @@ fn link_dynamically(random: &mut Random, graph: &mut Graph, importer: u32, modul
 }
 
 /// Makes dynamic entries of modules that are imported, related to those imports.
-fn relate_entries(random: &mut Random, graph: &mut Graph) {
+pub(super) fn relate_entries(random: &mut Random, graph: &mut Graph) {
     let modules = graph.modules.len() as u32;
     for index in 0..graph.entries.len() {
         if random.chance(30) {
