@@ -1,5 +1,5 @@
 -- A loop of additions: what is left, from the lines that stand, is the whole.
-use Prim.Native.Nat.{ℕ, _≤_}
+use Prim.Native.Nat.{ℕ, _+_, _-_, _<_, _≤_}
 use mathlib.Core.Path.{_≡_, refl, ap, _∙_, sym}
 use mathlib.Core.List.{List, [], _∷_, _++_}
 use native.Mathlib.Omega.{arith}
@@ -69,3 +69,13 @@ module _ (g : Graph) (base : ℕ) (lines xs ys : List Line) where
   pub both-added : (marks row : List ℕ) (d : ℕ) (marks′ row′ : List ℕ) (r : Added) → Grown g base (adds g base lines xs) marks row (Lines d) → Grown g base (adds g base (linesOf d row) ys) marks′ row′ r
       → Grown g base (adds g base lines (xs ++ ys)) marks′ row′ r
   both-added marks row d marks′ row′ r w v = rw (w .held d refl .0, ← adds-append g base lines xs ys) at v
+
+-- a line before, a candidate within and the turns left of a loop
+pub before-more : (k n m : ℕ) → k < n → n ≤ m → k < m
+before-more k n m l h = omega (arith, l, h)
+
+pub below-same : (c n m : ℕ) → c < n → n ≡ m → c < m
+below-same c n m l e = omega (arith, l, e)
+
+pub turn-less : (n c : ℕ) → c < n → n - (c + 1) < n - c
+turn-less n c l = omega (arith, l)

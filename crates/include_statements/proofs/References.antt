@@ -14,6 +14,7 @@ use Rattle.graph_access.specs.References.{referenceWidth, ReferenceAt, Referenc
 use Rattle.include_statement.specs.Here.{Here}
 use Rattle.keep_rules.specs.Rules.{Segment, referenceSegment}
 use Rattle.keep_record.specs.declared.Line.{Line}
+use Rattle.keep_record.specs.declared.Added.{Added}
 use Rattle.keep_record.specs.declared.Added.the-variants.{Lines, Full}
 use Rattle.keep_record.specs.Lines.{adds}
 use Rattle.keep_record.specs.Held.{linesOf, Grown}
@@ -46,12 +47,12 @@ module _ (g : Graph) (base k x : ℕ) (rows : List (List ℕ)) (out : List Line)
     opened : Going g base out (linesBy k (referenceSegment g x (getD rows j []) ∷ map (referenceSegment g x) (drop (suc j) rows))) count marks row t
     opened = let b : j < length rows = omega (arith, size, l) in rw (drop-cons rows j [] b) at go
 
-    pub references-next : (d : ℕ) → Grown g base (adds g base (linesOf t row) (linesBy k (referenceSegment g x (getD rows j []) ∷ []))) marks′ row′ (Lines d)
+    pub references-next : (d : ℕ) (r : Added) → r ≡ Lines d → Grown g base (adds g base (linesOf t row) (linesBy k (referenceSegment g x (getD rows j []) ∷ []))) marks′ row′ r
         → Going g base out (linesBy k (map (referenceSegment g x) (drop (j + 1) rows))) count marks′ row′ d
-    references-next d w = rw (add-one j) (segments-next g base k _ _ out count marks row t opened marks′ row′ d w)
+    references-next d r told w = rw (add-one j) (segments-next g base k _ _ out count marks row t opened marks′ row′ d r told w)
 
-    pub references-full : Grown g base (adds g base (linesOf t row) (linesBy k (referenceSegment g x (getD rows j []) ∷ []))) marks′ row′ Full → Grown g base out marks′ row′ Full
-    references-full w = segments-full g base k _ _ out count marks row t opened marks′ row′ w
+    pub references-full : (r : Added) → r ≡ Full → Grown g base (adds g base (linesOf t row) (linesBy k (referenceSegment g x (getD rows j []) ∷ []))) marks′ row′ r → Grown g base out marks′ row′ Full
+    references-full r told w = segments-full g base k _ _ out count marks row t opened marks′ row′ r told w
 
   pub references-done : n ≤ j → Grown g base out marks row (Lines t)
   references-done l = let b : length rows ≤ j = omega (arith, size, l) in go-done g base out count marks row t (rw (drop-of-length-le rows b, no-lines k) at go)

@@ -22,7 +22,7 @@ use Rattle.include_statements.specs.Following.{lineBy, candidateLines, l
 use lib.ListN.{length}
 use Rattle.keep_record.proofs.Rows.{lines-length}
 use Rattle.keep_record.proofs.Adding.{adds-longer, adds-append}
-use Rattle.include_statements.proofs.Going.{Going, go-start, go-done, grown-longer, full-more}
+use Rattle.include_statements.proofs.Going.{Going, go-start, go-done, grown-longer, full-more, both-full, both-added}
 
 -- the lines of a segment from candidate c on
 unfoldable pub linesFrom : ℕ → Segment → ℕ → List Line
@@ -75,9 +75,10 @@ module _ (g : Graph) (base : ℕ) (out xs ys : List Line) (count : ℕ) (marks r
       (omega (arith, ap length (sym (adds-append g base (linesOf t row) xs ys) ∙ go .on), adds-longer g base (adds g base (linesOf t row) xs) ys)) w
 
 -- what stands behind additions
-pub grown-on : (g : Graph) (base : ℕ) (xs : List Line) (t : ℕ) (row marks′ row′ : List ℕ) (d : ℕ) → Grown g base (adds g base (linesOf t row) xs) marks′ row′ (Lines d) → Held g base marks′ row′ d × (t ≤ d)
-grown-on g base xs t row marks′ row′ d w =
-    (w .held d refl .1, omega (arith, grown-longer g base _ marks′ row′ d w, adds-longer g base (linesOf t row) xs, lines-length t row))
+pub grown-on : (g : Graph) (base : ℕ) (xs : List Line) (t : ℕ) (row marks′ row′ : List ℕ) (d : ℕ) (r : Added) → r ≡ Lines d → Grown g base (adds g base (linesOf t row) xs) marks′ row′ r → (k : ℕ) → k < t → Held g base marks′ row′ d × (k < d)
+grown-on g base xs t row marks′ row′ d r told w k l =
+    let v : Grown g base (adds g base (linesOf t row) xs) marks′ row′ (Lines d) = rw told at w in
+    (v .held d refl .1, omega (arith, l, grown-longer g base _ marks′ row′ d v, adds-longer g base (linesOf t row) xs, lines-length t row))
 
 -- the turns of a loop over a segment's candidates
 pub segment-start : (g : Graph) (base k : ℕ) (s : Segment) (marks row : List ℕ) (t : ℕ) → Held g base marks row t
@@ -86,11 +87,11 @@ segment-start g base k s marks row t h = rw (sym (lines-alone k s)) (go-start g 
 
 module _ (g : Graph) (base k : ℕ) (s : Segment) (out : List Line) (count : ℕ) (marks row : List ℕ) (t c n : ℕ) (go : Going g base out (linesFrom k s c) count marks row t) (many : n ≡ s .count) where
   module _ (l : c < n) (p : Candidate) (e : p ≡ s .candidate c) (marks′ row′ : List ℕ) where
-    pub segment-step : (d : ℕ) → Grown g base (adds g base (linesOf t row) (candidateLines k (s .rule) p)) marks′ row′ (Lines d) → Going g base out (linesFrom k s (c + 1)) count marks′ row′ d
-    segment-step d w = go-part g base out _ _ count marks row t (rw (lines-next k s c n many l) at go) marks′ row′ d (rw e at w)
+    pub segment-step : (d : ℕ) (r : Added) → r ≡ Lines d → Grown g base (adds g base (linesOf t row) (candidateLines k (s .rule) p)) marks′ row′ r → Going g base out (linesFrom k s (c + 1)) count marks′ row′ d
+    segment-step d r told w = go-part g base out _ _ count marks row t (rw (lines-next k s c n many l) at go) marks′ row′ d (rw (told, e) at w)
 
-    pub segment-full : Grown g base (adds g base (linesOf t row) (candidateLines k (s .rule) p)) marks′ row′ Full → Grown g base out marks′ row′ Full
-    segment-full w = go-part-full g base out _ (linesFrom k s (c + 1)) count marks row t (rw (lines-next k s c n many l) at go) marks′ row′ (rw e at w)
+    pub segment-full : (r : Added) → r ≡ Full → Grown g base (adds g base (linesOf t row) (candidateLines k (s .rule) p)) marks′ row′ r → Grown g base out marks′ row′ Full
+    segment-full r told w = go-part-full g base out _ (linesFrom k s (c + 1)) count marks row t (rw (lines-next k s c n many l) at go) marks′ row′ (rw (told, e) at w)
 
   pub segment-done : n ≤ c → Grown g base out marks row (Lines t)
   segment-done l = go-done g base out count marks row t (rw (lines-over k s c n many l) at go)
@@ -106,15 +107,11 @@ one-candidate k s e =
 
 module _ (g : Graph) (base k : ℕ) (s : Segment) (ss : List Segment) (out : List Line) (count : ℕ) (marks row : List ℕ) (t : ℕ) (go : Going g base out (linesBy k (s ∷ ss)) count marks row t)
     (marks′ row′ : List ℕ) where
-  pub segments-next : (d : ℕ) → Grown g base (adds g base (linesOf t row) (linesBy k (s ∷ []))) marks′ row′ (Lines d) → Going g base out (linesBy k ss) count marks′ row′ d
-  segments-next d w = go-part g base out _ _ count marks row t (rw (lines-first k s ss) at go) marks′ row′ d (rw (lines-alone k s) at w)
+  pub segments-next : (d : ℕ) (r : Added) → r ≡ Lines d → Grown g base (adds g base (linesOf t row) (linesBy k (s ∷ []))) marks′ row′ r → Going g base out (linesBy k ss) count marks′ row′ d
+  segments-next d r told w = go-part g base out _ _ count marks row t (rw (lines-first k s ss) at go) marks′ row′ d (rw (told, lines-alone k s) at w)
 
-  pub segments-full : Grown g base (adds g base (linesOf t row) (linesBy k (s ∷ []))) marks′ row′ Full → Grown g base out marks′ row′ Full
-  segments-full w = go-part-full g base out _ (linesBy k ss) count marks row t (rw (lines-first k s ss) at go) marks′ row′ (rw (lines-alone k s) at w)
-
-pub segments-last : (g : Graph) (base k : ℕ) (ss : List Segment) (out : List Line) (count : ℕ) (marks row : List ℕ) (t : ℕ) → Going g base out (linesBy k ss) count marks row t
-    → (marks′ row′ : List ℕ) (r : Added) → Grown g base (adds g base (linesOf t row) (linesBy k ss)) marks′ row′ r → Grown g base out marks′ row′ r
-segments-last g base k ss out count marks row t go marks′ row′ r w = rw (go .on) at w
+  pub segments-full : (r : Added) → r ≡ Full → Grown g base (adds g base (linesOf t row) (linesBy k (s ∷ []))) marks′ row′ r → Grown g base out marks′ row′ Full
+  segments-full r told w = go-part-full g base out _ (linesBy k ss) count marks row t (rw (lines-first k s ss) at go) marks′ row′ (rw (told, lines-alone k s) at w)
 
 pub segments-none : (g : Graph) (base k : ℕ) (marks row : List ℕ) (t : ℕ) → Held g base marks row t → Grown g base (adds g base (linesOf t row) (linesBy k [])) marks row (Lines t)
 unfolding linesBy givenBy
@@ -131,27 +128,14 @@ unfolding candidateLines lineBy adds
 give-one g base k rule lines f marks row r p e w = rw (e, adds) w
 
 -- the same segments under another name
-pub segments-as : (g : Graph) (base k : ℕ) (ss ss′ : List Segment) (out : List Line) (count : ℕ) (marks row : List ℕ) (t : ℕ) → ss ≡ ss′ → Going g base out (linesBy k ss) count marks row t
-    → Going g base out (linesBy k ss′) count marks row t
-segments-as g base k ss ss′ out count marks row t e go = rw e at go
+pub segments-as : (g : Graph) (base k : ℕ) (lines : List Line) (ss ss′ : List Segment) (marks row : List ℕ) (r : Added) → ss ≡ ss′ → Grown g base (adds g base lines (linesBy k ss′)) marks row r
+    → Grown g base (adds g base lines (linesBy k ss)) marks row r
+segments-as g base k lines ss ss′ marks row r e w = rw e w
 
 -- a segment of one candidate
-module _ (g : Graph) (base k : ℕ) (s : Segment) (ss : List Segment) (out : List Line) (count : ℕ) (marks row : List ℕ) (t : ℕ) (go : Going g base out (linesBy k (s ∷ ss)) count marks row t)
-    (one : s .count ≡ 1) (p : Candidate) (e : p ≡ s .candidate 0) (marks′ row′ : List ℕ) where
-  alone : (r : Added) → Grown g base (adds g base (linesOf t row) (candidateLines k (s .rule) p)) marks′ row′ r → Grown g base (adds g base (linesOf t row) (linesBy k (s ∷ []))) marks′ row′ r
-  alone r w = rw (one-candidate k s one, ← e) w
-
-  pub given-next : (d : ℕ) → Grown g base (adds g base (linesOf t row) (candidateLines k (s .rule) p)) marks′ row′ (Lines d) → Going g base out (linesBy k ss) count marks′ row′ d
-  given-next d w = segments-next g base k s ss out count marks row t go marks′ row′ d (alone (Lines d) w)
-
-  pub given-full : Grown g base (adds g base (linesOf t row) (candidateLines k (s .rule) p)) marks′ row′ Full → Grown g base out marks′ row′ Full
-  given-full w = segments-full g base k s ss out count marks row t go marks′ row′ (alone Full w)
-
-pub given-last : (g : Graph) (base k : ℕ) (s : Segment) (out : List Line) (count : ℕ) (marks row : List ℕ) (t : ℕ) → Going g base out (linesBy k (s ∷ [])) count marks row t
-    → s .count ≡ 1 → (p : Candidate) → p ≡ s .candidate 0 → (marks′ row′ : List ℕ) (r : Added)
-    → Grown g base (adds g base (linesOf t row) (candidateLines k (s .rule) p)) marks′ row′ r → Grown g base out marks′ row′ r
-given-last g base k s out count marks row t go one p e marks′ row′ r w =
-    segments-last g base k (s ∷ []) out count marks row t go marks′ row′ r (alone g base k s [] out count marks row t go one p e marks′ row′ r w)
+pub given-alone : (g : Graph) (base k : ℕ) (lines : List Line) (s : Segment) → s .count ≡ 1 → (p : Candidate) → p ≡ s .candidate 0 → (marks row : List ℕ) (r : Added)
+    → Grown g base (adds g base lines (candidateLines k (s .rule) p)) marks row r → Grown g base (adds g base lines (linesBy k (s ∷ []))) marks row r
+given-alone g base k lines s one p e marks row r w = rw (one-candidate k s one, ← e) w
 
 -- which segments a module and a use have
 pub module-quiet : (g : Graph) (v : List ℕ) (m : ModuleIdx) → quietRuntime g v (m .0) ≡ true → segmentsOf g v (Module m) ≡ []
@@ -173,3 +157,13 @@ use-segments g v s x e = rw (e, segmentsOf)
 pub no-lines : (k : ℕ) → linesBy k [] ≡ []
 unfolding linesBy givenBy
 no-lines k = refl
+
+-- segments of calls one behind another: the first one's call was full, or a call for the others followed it
+module _ (g : Graph) (base k : ℕ) (lines : List Line) (s : Segment) (ss : List Segment) (marks row : List ℕ) where
+  pub segments-stop : (r : Added) → r ≡ Full → Grown g base (adds g base lines (linesBy k (s ∷ []))) marks row r → Grown g base (adds g base lines (linesBy k (s ∷ ss))) marks row Full
+  segments-stop r told w = rw (lines-first k s ss) (both-full g base lines (linesFrom k s 0) (linesBy k ss) marks row (rw (told, lines-alone k s) at w))
+
+  pub segments-both : (d : ℕ) (r : Added) → r ≡ Lines d → Grown g base (adds g base lines (linesBy k (s ∷ []))) marks row r → (marks′ row′ : List ℕ) (r′ : Added)
+      → Grown g base (adds g base (linesOf d row) (linesBy k ss)) marks′ row′ r′ → Grown g base (adds g base lines (linesBy k (s ∷ ss))) marks′ row′ r′
+  segments-both d r told w marks′ row′ r′ v =
+      rw (lines-first k s ss) (both-added g base lines (linesFrom k s 0) (linesBy k ss) marks row d marks′ row′ r′ (rw (told, lines-alone k s) at w) v)

@@ -2,15 +2,14 @@ use Rattle.include_statements.proofs.Segments.{give-none, give-one}
 use Rattle.keep_record.proofs.Counting.{held-few, marks-few}
 use native.Mathlib.Omega.{arith}
 use mathlib.Core.Path.{refl}
-use borrow.Author.Needs.{needs}
 use Rattle.include_statements.proofs.give.Statement.{statement}
 use Rattle.include_statements.proofs.give.Tie as tie
 
 enum-told : tie.Need-enum-told
-enum-told c = search needs
+enum-told c = c .match .keys1
 
 enum-known-candidate : tie.Need-enum-known-candidate
-enum-known-candidate c = search needs
+enum-known-candidate c = c .match .keys2
 
 add-t15 : tie.Need-add-t15
 add-t15 c = let s = c .before .before .before .before .before .before .before .before .before in record { fits = omega (arith, s .pre .1 .1 .2, held-few (s .pre .0 .loaded) _ _ _ _ (s .pre .1 .0), s .pre .1 .0 .base-few, marks-few (s .pre .0 .loaded)) }
@@ -25,10 +24,10 @@ returns : tie.Need-returns
 returns c = let s = c .before .before .before .before .before .before in give-none _ _ _ _ _ _ _ _ (c .enum-told .given .1) (s .pre .1 .0)
 
 same-length : tie.Need-same-length
-same-length c = search needs
+same-length c = c .before .before .before .before .add .kept .1 .1 .0
 
 same-length-2 : tie.Need-same-length-2
-same-length-2 c = search needs
+same-length-2 c = c .before .before .before .before .add .kept .1 .1 .1 .0
 
 returns-2 : tie.Need-returns-2
 returns-2 c = give-one _ _ _ _ _ _ _ _ _ _ (c .before .before .before .before .before .before .before .before .candidate .given .1) (c .before .before .before .before .add .ensures)

@@ -1,6 +1,6 @@
 use Rattle.include_statements.proofs.References.{stands-here, width-inside, stand-next, references-next, references-full, references-done}
 use Rattle.include_statements.proofs.Segments.{segments-start}
-use Rattle.include_statements.proofs.Going.{Going}
+use Rattle.include_statements.proofs.Going.{Going, before-more, turn-less}
 use Rattle.include_statements.specs.Following.{linesBy}
 use Rattle.graph_access.specs.Names.{references}
 use Rattle.graph_access.specs.Words.{statementOf}
@@ -14,7 +14,6 @@ use Prim.Native.Nat.{_-_}
 use mathlib.Core.Path.{_≡_, refl, _∙_}
 use mathlib.Core.List.{map}
 use native.Mathlib.Omega.{arith}
-use borrow.Author.Needs.{needs}
 use Rattle.include_statements.proofs.include_references.Statement.{statement}
 use Rattle.include_statements.proofs.include_references.Tie as tie
 
@@ -34,22 +33,22 @@ loop-holds : tie.Need-loop-holds Inv-loop μ-loop
 loop-holds c = let s = c .before .before .before .before .before .before in (refl, refl, c .first-reference .ensures, segments-start _ _ _ _ _ _ _ (s .pre .1 .0))
 
 include-reference-requires : tie.Need-include-reference-requires Inv-loop μ-loop
-include-reference-requires c κs = let s = c .before .before .before .before .before .before .before .before .before .before in let v = c .before .before .before .loop .inv in (s .pre .0, (v .3 .held, (stands-here _ _ _ _ _ _ (c .before .before .before .before .before .reference-count .ensures .0) (c .before .before .loop-test .taken) (v .2) (s .pre .1 .1 .0) (s .pre .1 .1 .1), omega (arith, s .pre .1 .1 .2, v .3 .more))))
+include-reference-requires c κs = let s = c .before .before .before .before .before .before .before .before .before .before in let v = c .before .before .before .loop .inv in (s .pre .0, (v .3 .held, (stands-here _ _ _ _ _ _ (c .before .before .before .before .before .reference-count .ensures .0) (c .before .before .loop-test .taken) (v .2) (s .pre .1 .1 .0) (s .pre .1 .1 .1), before-more _ _ _ (s .pre .1 .1 .2) (v .3 .more))))
 
 enum-known-n : tie.Need-enum-known-n Inv-loop μ-loop
-enum-known-n c = search needs
+enum-known-n c = c .match .keys1
 
 enum-told : tie.Need-enum-told Inv-loop μ-loop
-enum-told c = search needs
+enum-told c = c .match .keys2
 
 same-length : tie.Need-same-length Inv-loop μ-loop
-same-length c = search needs
+same-length c = c .before .before .before .before .before .before .include-reference .kept .1 .1 .0 ∙ c .before .before .before .before .before .before .before .before .before .before .loop .inv .0
 
 same-length-2 : tie.Need-same-length-2 Inv-loop μ-loop
-same-length-2 c = search needs
+same-length-2 c = c .before .before .before .before .before .before .include-reference .kept .1 .1 .1 .0 ∙ c .before .before .before .before .before .before .before .before .before .before .loop .inv .1
 
 returns : tie.Need-returns Inv-loop μ-loop
-returns c = references-full _ _ _ _ _ _ _ _ _ _ _ _ (c .before .before .before .before .before .before .before .before .before .before .before .before .reference-count .ensures .0) (c .before .before .before .before .before .before .before .before .before .before .loop .inv .3) (c .before .before .before .before .before .before .before .before .before .loop-test .taken) _ _ (rw (c .enum-told .given .1) at (c .before .before .before .before .before .before .include-reference .ensures))
+returns c = references-full _ _ _ _ _ _ _ _ _ _ _ _ (c .before .before .before .before .before .before .before .before .before .before .before .before .reference-count .ensures .0) (c .before .before .before .before .before .before .before .before .before .before .loop .inv .3) (c .before .before .before .before .before .before .before .before .before .loop-test .taken) _ _ _ (c .enum-told .given .1) (c .before .before .before .before .before .before .include-reference .ensures)
 
 reference-width-requires : tie.Need-reference-width-requires Inv-loop μ-loop
 reference-width-requires c κs = width-inside _ _ _ _ _ _ (c .before .before .before .before .before .before .before .before .before .before .before .before .before .reference-count .ensures .0) (c .before .before .before .before .before .before .before .before .before .before .loop-test .taken) (c .before .before .before .before .before .before .before .before .before .before .before .loop .inv .2)
@@ -58,19 +57,19 @@ add-place : tie.Need-add-place Inv-loop μ-loop
 add-place c = record { fits = omega (arith, c .reference-width .ensures, width-inside _ _ _ _ _ _ (c .before .before .before .before .before .before .before .before .before .before .before .before .before .before .reference-count .ensures .0) (c .before .before .before .before .before .before .before .before .before .before .before .loop-test .taken) (c .before .before .before .before .before .before .before .before .before .before .before .before .loop .inv .2)) }
 
 add-r : tie.Need-add-r Inv-loop μ-loop
-add-r c = search needs
+add-r c = record { fits = omega (arith, c .before .before .before .before .before .before .before .before .before .before .before .loop-test .taken) }
 
 loop-less : tie.Need-loop-less Inv-loop μ-loop
-loop-less c = omega (arith, c .before .before .before .before .before .before .before .before .before .before .before .loop-test .taken)
+loop-less c = turn-less _ _ (c .before .before .before .before .before .before .before .before .before .before .before .loop-test .taken)
 
 loop-again : tie.Need-loop-again Inv-loop μ-loop
-loop-again c = let v = c .before .before .before .before .before .before .before .before .before .before .before .before .loop .inv in let a = c .before .before .before .before .before .before .before .before .include-reference in (a .kept .1 .1 .0 ∙ v .0, a .kept .1 .1 .1 .0 ∙ v .1, stand-next _ _ _ _ _ _ (c .before .before .before .before .before .before .before .before .before .before .before .before .before .before .reference-count .ensures .0) (c .before .before .before .before .before .before .before .before .before .before .before .loop-test .taken) (v .2) _ (c .reference-width .ensures), references-next _ _ _ _ _ _ _ _ _ _ _ _ (c .before .before .before .before .before .before .before .before .before .before .before .before .before .before .reference-count .ensures .0) (v .3) (c .before .before .before .before .before .before .before .before .before .before .before .loop-test .taken) _ _ _ (rw (c .before .before .n .given .1) at (a .ensures)))
+loop-again c = let v = c .before .before .before .before .before .before .before .before .before .before .before .before .loop .inv in let a = c .before .before .before .before .before .before .before .before .include-reference in (a .kept .1 .1 .0 ∙ v .0, a .kept .1 .1 .1 .0 ∙ v .1, stand-next _ _ _ _ _ _ (c .before .before .before .before .before .before .before .before .before .before .before .before .before .before .reference-count .ensures .0) (c .before .before .before .before .before .before .before .before .before .before .before .loop-test .taken) (v .2) _ (c .reference-width .ensures), references-next _ _ _ _ _ _ _ _ _ _ _ _ (c .before .before .before .before .before .before .before .before .before .before .before .before .before .before .reference-count .ensures .0) (v .3) (c .before .before .before .before .before .before .before .before .before .before .before .loop-test .taken) _ _ _ _ (c .before .before .n .given .1) (a .ensures))
 
 same-length-3 : tie.Need-same-length-3 Inv-loop μ-loop
-same-length-3 c = search needs
+same-length-3 c = c .before .loop .inv .0
 
 same-length-4 : tie.Need-same-length-4 Inv-loop μ-loop
-same-length-4 c = search needs
+same-length-4 c = c .before .loop .inv .1
 
 returns-2 : tie.Need-returns-2 Inv-loop μ-loop
 returns-2 c = references-done _ _ _ _ _ _ _ _ _ _ _ _ (c .before .before .before .reference-count .ensures .0) (c .before .loop .inv .3) (c .loop-test .left)
