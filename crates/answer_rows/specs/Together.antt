@@ -14,6 +14,7 @@ use Rattle.answer_rows.specs.declared.Lengths.{Lengths}
 use Rattle.answer_rows.specs.declared.Row.the-variants.{Modules, Statements, Used, External, Json, NamespaceReason}
 use Rattle.answer_rows.specs.Shown.{shows, shown, shownRow}
 
+-- the rows of docs/RULES.md, "What the rows show"
 pub record SixRows : Type 0 where
   pub modules : List ℕ
   pub statements : List ℕ
@@ -37,14 +38,15 @@ lengthsOf r =
       reason = length (r .reason);
     }
 
--- A row shows what a fact shows in it, where the condition holds, and what it showed before; the same of lines.
+-- A row shows what a fact shows in it, where the condition holds, and what it showed before; the same of lines (docs/RULES.md, "What the rows
+-- show": each bit is set by a line and cleared by none).
 unfoldable pub Shows : Graph → Row → Bool → Fact → List ℕ → List ℕ → Type 0
 Shows g row b f before after = (j : ℕ) → bitAt after j ≡ ((b && elem j (shows g row f)) || bitAt before j)
 
 unfoldable pub ShowsLines : Graph → Row → Bool → List Line → List ℕ → List ℕ → Type 0
 ShowsLines g row b lines before after = (j : ℕ) → bitAt after j ≡ ((b && shown g row lines j) || bitAt before j)
 
--- the rows behind a fact, of the main part or not
+-- the rows behind a fact, of the main part or not (docs/RULES.md, "What the rows show" and Step 6)
 pub record FactShown (g : Graph) (main : Bool) (f : Fact) (before after : SixRows) : Type 0 where
   pub modules-shown : Shows g Modules true f (before .modules) (after .modules)
   pub statements-shown : Shows g Statements true f (before .statements) (after .statements)
@@ -53,7 +55,7 @@ pub record FactShown (g : Graph) (main : Bool) (f : Fact) (before after : SixRow
   pub json-shown : Shows g Json main f (before .json) (after .json)
   pub reason-shown : Shows g NamespaceReason main f (before .reason) (after .reason)
 
--- the rows behind lines, of the main part or not
+-- the rows behind lines, of the main part or not (docs/RULES.md, "What the rows show" and Step 6)
 pub record LinesShown (g : Graph) (main : Bool) (lines : List Line) (before after : SixRows) : Type 0 where
   pub modules-shown : ShowsLines g Modules true lines (before .modules) (after .modules)
   pub statements-shown : ShowsLines g Statements true lines (before .statements) (after .statements)

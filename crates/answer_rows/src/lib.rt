@@ -1,20 +1,18 @@
 // The answer rows of a drain: the bits that the facts of its lines show.
 ghost use mathlib.Core.Path.{_≡_};
 ghost use Prim.Native.Nat.{ℕ, _+_, _*_, _-_, _<_, _≤_};
-ghost use mathlib.Core.Bool.{Bool, true, false, _||_, not};
-ghost use mathlib.Core.List.{List, [], _∷_, _++_};
-ghost use lib.Dec.{eqb};
-ghost use lib.ListN.{length, getD, drop};
+ghost use mathlib.Core.Bool.{true, false, _||_, not};
+ghost use mathlib.Core.List.{[]};
+ghost use lib.ListN.{length, drop};
 ghost use Rattle.bit_row.specs.Row.{bitAt};
 ghost use Rattle.graph_tables.specs.Tables.{headerIn};
 ghost use Rattle.graph.specs.Check.{graphIn};
-ghost use Rattle.determine_side_effects.specs.Effects.{lastVerdicts};
 ghost use Rattle.graph_access.specs.Words.{normal};
 ghost use Rattle.facts.specs.Facts.{Good};
 ghost use Rattle.graph.specs.Loaded.{Loaded};
 ghost use Rattle.keep_rules.specs.Prepared.{Prepared};
 ghost use Rattle.keep_record.specs.Lines.{elem};
-ghost use Rattle.keep_record.specs.Held.{lineAt, linesOf, Held};
+ghost use Rattle.keep_record.specs.Held.{lineAt, linesOf};
 ghost use Rattle.answer_rows.specs.Shown.{bytesBefore, usedBy, externalBy, jsonBy, reasonBy, rowBytes, onlyIf, rowsEnough};
 ghost use Rattle.answer_rows.specs.Together.{sixRows, lengthsOf, Shows, FactShown, LinesShown, RowsShown};
 ghost use Rattle.answer_rows.specs.Tabled.{FirstByteTable, FirstBytes};

@@ -125,7 +125,6 @@ module _ {g : Graph} {M cap fuel root m : ℕ} {visited : List ℕ} {whole : Ord
           upto-stored = λ i x y n o. let z : d ≡ n = cc in rw (sym z) (w .walk-stored from t d q);
           upto-below = λ i x y n o. let a : from ≡ x = cc in let b : t ≡ y = cc in let u = w .walk-below from t d q in let z = eqb-false fuel 0 (left-false (eqb fuel 0) _ f) in
               rw (sym a, sym b) (u .0, u .1, omega (arith, z), right-false (eqb fuel 0) _ f);
-          upto-few = λ i x y n p. let z : k + 1 ≡ i = cc in omega (arith, z, h);
           upto-is = λ i x y n p. let z : k + 1 ≡ i = cc in let a : from ≡ x = cc in let b : t ≡ y = cc in let o : d ≡ n = cc in rw (sym z, sym a, sym b, sym o) (e ∙ sym before);
           all-stored = λ n q. clash (cc);
           all-is = λ n q. clash (cc);
@@ -141,7 +140,6 @@ module _ {g : Graph} {M cap fuel root m k₀ : ℕ} {visited nodes₀ : List ℕ
       record {
         upto-stored = λ i x y n q. clash (cc);
         upto-below = λ i x y n q. clash (cc);
-        upto-few = λ i x y n q. clash (cc);
         upto-is = λ i x y n q. clash (cc);
         all-stored = λ n q. let z : c ≡ n = cc in rw (sym z) (i .stored);
         all-is = λ n q. let z : c ≡ n = cc in rw (sym z) (sym (i .on) ∙ rw (drop-of-length-le (recordsOf g m) h));
@@ -154,7 +152,6 @@ module _ {g : Graph} {M cap fuel root m k₀ : ℕ} {visited nodes₀ : List ℕ
       record {
         upto-stored = λ i x y n q. clash (cc);
         upto-below = λ i x y n q. clash (cc);
-        upto-few = λ i x y n q. clash (cc);
         upto-is = λ i x y n q. clash (cc);
         all-stored = λ n q. clash (cc);
         all-is = λ n q. clash (cc);

@@ -69,11 +69,10 @@ pub record Takes (modules cap root : ℕ) (i : Import) (nodes₀ : List ℕ) (n�
   pub too-many : r ≡ Overfull → cap < modules
 
 -- What taking the records of module m from record k on leaves, where a walk may go `fuel` levels deep: the records from i on, and before them a walk from a
--- module that is not visited; or none.
+-- module that is not visited; or none (003:130-165, docs/RULES.md, Step 2).
 pub record TakesRecords (g : Graph) (modules cap fuel root m k : ℕ) (visited nodes₀ : List ℕ) (n₀ : ℕ) (outs₀ succs₀ nodes outs succs edges : List ℕ) (r : Taken) : Type 0 where
   pub upto-stored : (i : ℕ) (from t : ModuleIdx) (n : ℕ) → r ≡ UpTo i from t n → Stored modules cap nodes n outs succs edges
   pub upto-below : (i : ℕ) (from t : ModuleIdx) (n : ℕ) → r ≡ UpTo i from t n → (from .0 < modules) × (t .0 < modules) × (0 < fuel) × (bitAt visited (t .0) ≡ false)
-  pub upto-few : (i : ℕ) (from t : ModuleIdx) (n : ℕ) → r ≡ UpTo i from t n → i ≤ length (recordsOf g m)
   pub upto-is : (i : ℕ) (from t : ModuleIdx) (n : ℕ) → r ≡ UpTo i from t n
       → allRecords (λ x y q. construct g fuel x y q) root (drop k (recordsOf g m)) (orderingIn modules cap visited nodes₀ n₀ outs₀ succs₀)
       ≡ allRecords (λ x y q. construct g fuel x y q) root (drop i (recordsOf g m)) (construct g fuel (from .0) (t .0) (orderingIn modules cap visited nodes n outs succs))
