@@ -118,6 +118,30 @@ fn most_stack_of_each_function() {
     }
 }
 
+/// The most modules of a size, and the most stack of a call on such a graph where nothing is kept.
+const SIZES: [(u32, usize); 3] = [(16, 12 << 10), (128, 96 << 10), (1_024, 352 << 10)];
+
+/// A call clears the tables of the graph's size, all in its frame, and no count of instructions shows it. So none may grow, and
+/// the frame of a larger size may not be merged into that of a caller.
+#[test]
+fn stack_by_size() {
+    let mut from = 1;
+    for (modules, bytes) in SIZES {
+        for modules in [from, modules] {
+            let most = with_stack(|| {
+                let mut most = Most::default();
+                most.take_all(&format!("{modules} modules"), &loads::unkept(modules));
+                most
+            });
+            for (function, (used, graph)) in &most.0 {
+                println!("{function:<12} {used:>9} {graph}");
+                assert!(*used <= bytes, "{function}: {used} bytes of stack on {graph}");
+            }
+        }
+        from = modules + 1;
+    }
+}
+
 /// What the measure itself gives for a function whose frame is known.
 #[test]
 fn a_known_frame() {

@@ -17,7 +17,7 @@ pub struct Load {
 }
 
 /// All loads of runs, the main ones first.
-pub const LOADS: [Load; 8] = [
+pub const LOADS: [Load; 11] = [
     load("bundle1000", "1,000 modules, 16,000 statements", || bundle(1_000)),
     load("bundle100", "100 modules, 1,600 statements", || bundle(100)),
     load("drawn1024", "1,024 modules, drawn from seed 0", || drawn(0, 1_024)),
@@ -26,6 +26,10 @@ pub const LOADS: [Load; 8] = [
     load("printed", "printed case", || decode(&PRINTED)),
     load("wide1023", "1,023 dynamic entries of 1,024 modules", || wide(1_023)),
     load("deep1023", "1,023 dynamic entries in one chain", || deep(1_023)),
+    // The smallest graphs of a size: what is cleared for it counts most there.
+    load("unkept17", "17 modules, nothing kept", || unkept(17)),
+    load("drawn17", "17 modules, drawn from seed 0", || drawn(0, 17)),
+    load("unkept129", "129 modules, nothing kept", || unkept(129)),
 ];
 
 /// The main loads: there is a share of the Rust's time that is asked on each, and a count of instructions.

@@ -14,7 +14,7 @@ use graph::Checked;
 use leb128::Answer;
 use rows::Walk;
 use run_parts::Ran;
-use tables::LARGE_PLACES;
+use tables::LARGEST_PLACES;
 
 // The listing of a run's answer, with the verdicts of the graph.
 fn listed(
@@ -121,7 +121,7 @@ fn checked(numbers: &[u32], skip: usize, out: &mut [u8]) -> usize
         Walk::Fault(n, _) => listing::refuse(n, skip, out),
         Walk::At(_) => {
             let h = graph::header_of(numbers);
-            let mut tables = [0usize; LARGE_PLACES];
+            let mut tables = [0usize; LARGEST_PLACES];
             match graph::load(numbers, h, &mut tables) {
                 Checked::Refused(n, _) => listing::refuse(n, skip, out),
                 Checked::Accepted => ran(numbers, &tables, skip, out),

@@ -5,7 +5,7 @@ ghost use mathlib.Core.List.{List, [], _∷_, _++_};
 ghost use mathlib.Core.Bool.{Bool, true, false};
 ghost use lib.ListN.{length, getD, drop};
 ghost use Rattle.tables.specs.Layout.{startOf, Laid, Kept, verdictsIn, FitsSize, atVerdicts, atOnDemand};
-ghost use Rattle.tables.specs.declared.Size.the-variants.{Small, Middle, Large};
+ghost use Rattle.tables.specs.declared.Size.the-variants.{Small, Middle, Large, Largest};
 ghost use Rattle.graph_tables.specs.Tables.{headerIn};
 ghost use Rattle.graph.specs.Check.{graphIn, checkOf, answerOf, OnceAccepted, HeaderRead};
 ghost use Rattle.graph.specs.Loaded.{Loaded};
@@ -27,6 +27,7 @@ use index::ModuleIdx;
 use index::StmtIdx;
 use rows::Walk;
 use tables::LARGE;
+use tables::LARGEST;
 use tables::MIDDLE;
 use tables::SMALL;
 use tables::Size;
@@ -308,30 +309,48 @@ fn effects_small(numbers: &[u32], h: Header, row: &mut [u32]) -> Checked
     effects_in(numbers, h, &mut tables, row)
 }
 
-// The operation with tables for a graph of middle size. `again` is 0 (`frames::apart`).
-fn effects_middle(numbers: &[u32], h: Header, row: &mut [u32], again: usize) -> Checked
+// The operation with tables for a graph of middle size.
+fn effects_middle(numbers: &[u32], h: Header, row: &mut [u32]) -> Checked
     requires { ⌜ HeaderRead (now numbers) h × FitsSize h Middle ⌝ }
     ensures { λ r. ⌜ (r ≡ effectsAnswer (now (numbers .entry)) (length (now (row .entry)))) × (now (row .exit) ≡ effectsRow (now (numbers .entry)) (now (row .entry))) ⌝ }
 {
     let mut tables = [0usize; MIDDLE];
-    let answer = effects_in(numbers, h, &mut tables, row);
-    if again > 0 {
-        return effects_middle(numbers, h, row, again - 1);
-    }
-    answer
+    effects_in(numbers, h, &mut tables, row)
 }
 
-// The operation with tables for the largest graph. `again` is 0 (`frames::apart`).
-fn effects_large(numbers: &[u32], h: Header, row: &mut [u32], again: usize) -> Checked
+// The operation with tables for a graph of large size.
+fn effects_large(numbers: &[u32], h: Header, row: &mut [u32]) -> Checked
     requires { ⌜ HeaderRead (now numbers) h × FitsSize h Large ⌝ }
     ensures { λ r. ⌜ (r ≡ effectsAnswer (now (numbers .entry)) (length (now (row .entry)))) × (now (row .exit) ≡ effectsRow (now (numbers .entry)) (now (row .entry))) ⌝ }
 {
     let mut tables = [0usize; LARGE];
-    let answer = effects_in(numbers, h, &mut tables, row);
+    effects_in(numbers, h, &mut tables, row)
+}
+
+// The operation with tables for the largest graph.
+fn effects_largest(numbers: &[u32], h: Header, row: &mut [u32]) -> Checked
+    requires { ⌜ HeaderRead (now numbers) h × FitsSize h Largest ⌝ }
+    ensures { λ r. ⌜ (r ≡ effectsAnswer (now (numbers .entry)) (length (now (row .entry)))) × (now (row .exit) ≡ effectsRow (now (numbers .entry)) (now (row .entry))) ⌝ }
+{
+    let mut tables = [0usize; LARGEST];
+    effects_in(numbers, h, &mut tables, row)
+}
+
+// The operation with tables for a larger graph, by its size. `again` is 0 (`frames::apart`).
+fn effects_larger(numbers: &[u32], h: Header, row: &mut [u32], again: usize) -> Checked
+    requires { ⌜ HeaderRead (now numbers) h ⌝ }
+    ensures { λ r. ⌜ (r ≡ effectsAnswer (now (numbers .entry)) (length (now (row .entry)))) × (now (row .exit) ≡ effectsRow (now (numbers .entry)) (now (row .entry))) ⌝ }
+{
     if again > 0 {
-        return effects_large(numbers, h, row, again - 1);
+        return effects_larger(numbers, h, row, again - 1);
     }
-    answer
+    if tables::fits(h, Size::Middle) {
+        return effects_middle(numbers, h, row);
+    }
+    if tables::fits(h, Size::Large) {
+        return effects_large(numbers, h, row);
+    }
+    effects_largest(numbers, h, row)
 }
 
 // The verdicts of the modules of a graph, in a lent row.
@@ -342,12 +361,10 @@ pub fn effects(numbers: &[u32], row: &mut [u32]) -> Checked
         Walk::Fault(n, p) => Checked::Refused(n, p),
         Walk::At(_) => {
             let h = graph::header_of(numbers);
-            let size = graph::size_for(numbers, h);
-            match size {
-                Size::Small => effects_small(numbers, h, row),
-                Size::Middle => effects_middle(numbers, h, row, frames::apart(numbers)),
-                Size::Large => effects_large(numbers, h, row, frames::apart(numbers)),
+            if tables::fits(h, Size::Small) {
+                return effects_small(numbers, h, row);
             }
+            effects_larger(numbers, h, row, frames::apart(numbers))
         }
     }
 }

@@ -26,9 +26,8 @@ pub fn drain(
         Walk::Fault(n, p) => Drained::Refused(n, p),
         Walk::At(_) => {
             let h = graph::header_of(numbers);
-            let size = graph::size_for(numbers, h);
-            match size {
-                Size::Small => drain_sizes::drain_small(
+            if tables::fits(h, Size::Small) {
+                return drain_sizes::drain_small(
                     numbers,
                     starts,
                     h,
@@ -40,36 +39,22 @@ pub fn drain(
                     external,
                     json,
                     reason,
-                ),
-                Size::Middle => drain_sizes::drain_middle(
-                    numbers,
-                    starts,
-                    h,
-                    marks,
-                    lines,
-                    modules_row,
-                    statements_row,
-                    used,
-                    external,
-                    json,
-                    reason,
-                    frames::apart(numbers),
-                ),
-                Size::Large => drain_sizes::drain_large(
-                    numbers,
-                    starts,
-                    h,
-                    marks,
-                    lines,
-                    modules_row,
-                    statements_row,
-                    used,
-                    external,
-                    json,
-                    reason,
-                    frames::apart(numbers),
-                ),
+                );
             }
+            drain_sizes::drain_larger(
+                numbers,
+                starts,
+                h,
+                marks,
+                lines,
+                modules_row,
+                statements_row,
+                used,
+                external,
+                json,
+                reason,
+                frames::apart(numbers),
+            )
         }
     }
 }

@@ -1,3 +1,3 @@
 pub mod Splitting
 pub mod Tiers
-pub mod Again
+pub mod Outcome

@@ -17,11 +17,9 @@ use Rattle.entry_order.specs.Plan.{cycledAt, planSize, Untouched}
 use Rattle.entry_graph.specs.Ordering.{noOrdering, fromEntries, entryGraph}
 use Rattle.cycles.specs.Search.{each, finished}
 use Rattle.cycles.specs.Cycles.{groups, cycled}
-use Rattle.dynamic_entries.specs.declared.Ordered.{Ordered}
-use Rattle.dynamic_entries.specs.declared.Ordered.the-variants.{Done, Full}
 use Rattle.dynamic_entries.specs.Sorted.{onCycle, byCompletion, completion, sortedEntries}
 use Rattle.dynamic_entries.specs.Tries.{Planned, Unlived}
-use Rattle.dynamic_entries.specs.Parts.{Cleared, Parted, Orders}
+use Rattle.dynamic_entries.specs.Parts.{Cleared, Parted}
 use Rattle.dynamic_entries.proofs.Parting.{dynamic-count}
 
 -- ---- the entries are parted
@@ -104,14 +102,3 @@ all-users numbers plan users p h is e =
     let d = dynamic-count (graphIn numbers) plan users (p .0) in
     let q : users ≡ headerIn numbers .entries = e ∙ ap (λ (x : Header). x .entries) is in
     none-planned (graphIn numbers) (no-length (dynamicEntries (graphIn numbers)) (omega (arith, d, q))) plan users (p .0) (p .1)
-
--- ---- rows with room for every module are never too small
-
-never-full : (g : Graph) (users : ℕ) (plan₀ plan : List ℕ) (r : Ordered) → g .header .modules ≤ 1024 → Orders g 1024 users plan₀ plan r → Planned g plan users × Unlived g plan
-never-full g users plan₀ plan Done h o = o .done refl
-never-full g users plan₀ plan Full h o = let w = o .full refl .0 in absurd (omega (arith, h, w))
-
-pub full-done : (numbers : List ℕ) (users : ℕ) (plan₀ plan : List ℕ) (r : Ordered) → headerIn numbers .modules ≤ 1024 → Orders (graphIn numbers) 1024 users plan₀ plan r
-    → Planned (graphIn numbers) plan users × Unlived (graphIn numbers) plan
-unfolding graphIn
-full-done numbers users plan₀ plan r h o = never-full (graphIn numbers) users plan₀ plan r h o

@@ -48,14 +48,8 @@ fn order_small(numbers: &[u32], tables: &[usize], users: usize, plan: &mut [usiz
     )
 }
 
-// The same with rows for a graph of middle size, and room for every module as a successor of each. `again` is 0 (`frames::apart`).
-fn order_middle(
-    numbers: &[u32],
-    tables: &[usize],
-    users: usize,
-    plan: &mut [usize],
-    again: usize,
-) -> Ordered
+// The same with rows for a graph of middle size, and room for every module as a successor of each.
+fn order_middle(numbers: &[u32], tables: &[usize], users: usize, plan: &mut [usize]) -> Ordered
     requires { ⌜ Loaded (now numbers) (now tables) ⌝ }
     requires { ⌜ (headerIn (now numbers) .modules ≤ 128) × (headerIn (now numbers) .entries ≤ 128) ⌝ }
     requires { ⌜ Parted (graphIn (now numbers)) (now plan) users × Cleared (graphIn (now numbers)) (now plan) ⌝ }
@@ -69,7 +63,7 @@ fn order_middle(
     let mut order = [0usize; 128];
     let mut chain = [0usize; 256];
     let mut list = [0u32; 128];
-    let answer = order_in(
+    order_in(
         numbers,
         tables,
         users,
@@ -83,26 +77,11 @@ fn order_middle(
         &mut chain,
         &mut list,
         plan,
-    );
-    match answer {
-        Ordered::Done => Ordered::Done,
-        Ordered::Full => {
-            if again > 0 {
-                return order_middle(numbers, tables, users, plan, again - 1);
-            }
-            Ordered::Full
-        }
-    }
+    )
 }
 
-// The same with rows for the largest graph. `again` is 0 (`frames::apart`).
-fn order_large(
-    numbers: &[u32],
-    tables: &[usize],
-    users: usize,
-    plan: &mut [usize],
-    again: usize,
-) -> Ordered
+// The same with rows for the largest graph.
+fn order_large(numbers: &[u32], tables: &[usize], users: usize, plan: &mut [usize]) -> Ordered
     requires { ⌜ Loaded (now numbers) (now tables) ⌝ }
     requires { ⌜ Parted (graphIn (now numbers)) (now plan) users × Cleared (graphIn (now numbers)) (now plan) ⌝ }
     ensures { λ r. ⌜ Orders (graphIn (now (numbers .entry))) 16 users (now (plan .entry)) (now (plan .exit)) r ⌝ }
@@ -115,7 +94,7 @@ fn order_large(
     let mut order = [0usize; 1024];
     let mut chain = [0usize; 2048];
     let mut list = [0u32; 1024];
-    let answer = order_in(
+    order_in(
         numbers,
         tables,
         users,
@@ -129,26 +108,11 @@ fn order_large(
         &mut chain,
         &mut list,
         plan,
-    );
-    match answer {
-        Ordered::Done => Ordered::Done,
-        Ordered::Full => {
-            if again > 0 {
-                return order_large(numbers, tables, users, plan, again - 1);
-            }
-            Ordered::Full
-        }
-    }
+    )
 }
 
-// The same with room for every module as a successor of each. `again` is 0 (`frames::apart`).
-fn order_full(
-    numbers: &[u32],
-    tables: &[usize],
-    users: usize,
-    plan: &mut [usize],
-    again: usize,
-) -> Ordered
+// The same with room for every module as a successor of each.
+fn order_full(numbers: &[u32], tables: &[usize], users: usize, plan: &mut [usize]) -> Ordered
     requires { ⌜ Loaded (now numbers) (now tables) ⌝ }
     requires { ⌜ Parted (graphIn (now numbers)) (now plan) users × Cleared (graphIn (now numbers)) (now plan) ⌝ }
     ensures { λ r. ⌜ Orders (graphIn (now (numbers .entry))) 1024 users (now (plan .entry)) (now (plan .exit)) r ⌝ }
@@ -161,7 +125,7 @@ fn order_full(
     let mut order = [0usize; 1024];
     let mut chain = [0usize; 2048];
     let mut list = [0u32; 1024];
-    let answer = order_in(
+    order_in(
         numbers,
         tables,
         users,
@@ -175,16 +139,7 @@ fn order_full(
         &mut chain,
         &mut list,
         plan,
-    );
-    match answer {
-        Ordered::Done => Ordered::Done,
-        Ordered::Full => {
-            if again > 0 {
-                return order_full(numbers, tables, users, plan, again - 1);
-            }
-            Ordered::Full
-        }
-    }
+    )
 }
 
 // Parts the entries with rows for a small graph.
@@ -199,19 +154,15 @@ fn split_small(numbers: &[u32], tables: &[usize], plan: &mut [usize]) -> usize
     entry_order::split_entries(numbers, tables, &mut chain, &mut list, plan)
 }
 
-// The same with rows for the largest graph. `again` is 0 (`frames::apart`).
-fn split_large(numbers: &[u32], tables: &[usize], plan: &mut [usize], again: usize) -> usize
+// The same with rows for the largest graph.
+fn split_large(numbers: &[u32], tables: &[usize], plan: &mut [usize]) -> usize
     requires { ⌜ Loaded (now numbers) (now tables) ⌝ }
     requires { ⌜ Cleared (graphIn (now numbers)) (now plan) ⌝ }
     ensures { λ r. ⌜ Parted (graphIn (now (numbers .entry))) (now (plan .exit)) r × Cleared (graphIn (now (numbers .entry))) (now (plan .exit)) ⌝ }
 {
     let mut chain = [0usize; 2048];
     let mut list = [0u32; 1024];
-    let users = entry_order::split_entries(numbers, tables, &mut chain, &mut list, plan);
-    if again > 0 {
-        return split_large(numbers, tables, plan, again - 1);
-    }
-    users
+    entry_order::split_entries(numbers, tables, &mut chain, &mut list, plan)
 }
 
 // Whether a graph has at most `limit` modules and as many entries.
@@ -224,38 +175,51 @@ fn is_within(h: Header, limit: usize) -> bool
     h.entries <= limit
 }
 
-// Parts the entries into user-defined and dynamic ones. Gives how many user-defined ones there are.
-fn split(numbers: &[u32], tables: &[usize], h: Header, plan: &mut [usize]) -> usize
+// Puts the entries of a small graph into the plan. Gives how many user-defined ones there are.
+fn order_few(numbers: &[u32], tables: &[usize], h: Header, plan: &mut [usize]) -> usize
     requires { ⌜ Loaded (now numbers) (now tables) ⌝ }
-    requires { ⌜ (h ≡ headerIn (now numbers)) × Cleared (graphIn (now numbers)) (now plan) ⌝ }
-    ensures { λ r. ⌜ Parted (graphIn (now (numbers .entry))) (now (plan .exit)) r × Cleared (graphIn (now (numbers .entry))) (now (plan .exit)) ⌝ }
+    requires { ⌜ (h ≡ headerIn (now numbers)) × (headerIn (now numbers) .modules ≤ 16) × (headerIn (now numbers) .entries ≤ 16) ⌝ }
+    requires { ⌜ Cleared (graphIn (now numbers)) (now plan) ⌝ }
+    ensures { λ r. ⌜ Planned (graphIn (now (numbers .entry))) (now (plan .exit)) r × Unlived (graphIn (now (numbers .entry))) (now (plan .exit)) ⌝ }
 {
-    if is_within(h, 16) {
-        return split_small(numbers, tables, plan);
+    let users = split_small(numbers, tables, plan);
+    if users == h.entries {
+        return users;
     }
-    split_large(numbers, tables, plan, frames::apart(numbers))
+    order_small(numbers, tables, users, plan);
+    users
 }
 
-// Sorts the dynamic entries with rows by the graph's size, with room for at least 16 successors of each module.
-fn order_by_size(
+// The same for a larger graph, with rows by its size. `again` is 0 (`frames::apart`).
+fn order_larger(
     numbers: &[u32],
     tables: &[usize],
     h: Header,
-    users: usize,
     plan: &mut [usize],
-) -> Ordered
+    again: usize,
+) -> usize
     requires { ⌜ Loaded (now numbers) (now tables) ⌝ }
-    requires { ⌜ h ≡ headerIn (now numbers) ⌝ }
-    requires { ⌜ Parted (graphIn (now numbers)) (now plan) users × Cleared (graphIn (now numbers)) (now plan) ⌝ }
-    ensures { λ r. ⌜ Orders (graphIn (now (numbers .entry))) 16 users (now (plan .entry)) (now (plan .exit)) r ⌝ }
+    requires { ⌜ (h ≡ headerIn (now numbers)) × Cleared (graphIn (now numbers)) (now plan) ⌝ }
+    ensures { λ r. ⌜ Planned (graphIn (now (numbers .entry))) (now (plan .exit)) r × Unlived (graphIn (now (numbers .entry))) (now (plan .exit)) ⌝ }
 {
-    if is_within(h, 16) {
-        return order_small(numbers, tables, users, plan);
+    if again > 0 {
+        return order_larger(numbers, tables, h, plan, again - 1);
+    }
+    let users = split_large(numbers, tables, plan);
+    if users == h.entries {
+        return users;
     }
     if is_within(h, 128) {
-        return order_middle(numbers, tables, users, plan, frames::apart(numbers));
+        order_middle(numbers, tables, users, plan);
+        return users;
     }
-    order_large(numbers, tables, users, plan, frames::apart(numbers))
+    match order_large(numbers, tables, users, plan) {
+        Ordered::Done => users,
+        Ordered::Full => {
+            order_full(numbers, tables, users, plan);
+            users
+        }
+    }
 }
 
 // Puts the entries into the plan in the order in which they are taken, and says which modules are on a cycle. The plan is cleared. Gives how
@@ -266,15 +230,8 @@ pub fn order_entries(numbers: &[u32], tables: &[usize], plan: &mut [usize]) -> u
     ensures { λ r. ⌜ Planned (graphIn (now (numbers .entry))) (now (plan .exit)) r × Unlived (graphIn (now (numbers .entry))) (now (plan .exit)) ⌝ }
 {
     let h = graph::header_of(numbers);
-    let users = split(numbers, tables, h, plan);
-    if users == h.entries {
-        return users;
+    if is_within(h, 16) {
+        return order_few(numbers, tables, h, plan);
     }
-    match order_by_size(numbers, tables, h, users, plan) {
-        Ordered::Done => users,
-        Ordered::Full => {
-            order_full(numbers, tables, users, plan, frames::apart(numbers));
-            users
-        }
-    }
+    order_larger(numbers, tables, h, plan, frames::apart(numbers))
 }

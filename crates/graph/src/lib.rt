@@ -11,10 +11,11 @@ ghost use Rattle.graph_tables.specs.Places.{ModuleTable, SymbolTable, Statement
 ghost use Rattle.graph.specs.Check.{graphAt, tailWalk, bodyWalk, graphIn, each, runtimeNormal, ownsNamespace, rootIsRoot, laterRules, checkOf, answerOf, OnceRead, OnceAccepted, HeaderRead};
 ghost use Rattle.graph.specs.Loaded.{Places, Loaded};
 ghost use Rattle.tables.specs.Layout.{startOf, Laid, Kept, modulePlaces, symbolPlaces, firstStatements, statementPlaces, entryPlaces, FitsSize, atModules, atSymbols, atFirstStatements, atVerdicts};
-ghost use Rattle.tables.specs.declared.Size.the-variants.{Small, Middle, Large};
+ghost use Rattle.tables.specs.declared.Size.the-variants.{Small, Middle, Large, Largest};
 use graph_format::Header;
 use rows::Walk;
 use tables::LARGE_PLACES;
+use tables::LARGEST_PLACES;
 use tables::MIDDLE_PLACES;
 use tables::MODULES;
 use tables::SMALL_PLACES;
@@ -225,14 +226,6 @@ pub fn load(numbers: &[u32], h: Header, tables: &mut [usize]) -> Checked
     }
 }
 
-// Which tables hold a graph whose header is read.
-pub fn size_for(numbers: &[u32], h: Header) -> Size
-    requires { ⌜ HeaderRead (now numbers) h ⌝ }
-    ensures { λ r. ⌜ FitsSize h r ⌝ }
-{
-    tables::size_for(h)
-}
-
 // The check with tables for a small graph.
 fn check_small(numbers: &[u32], h: Header) -> Checked
     requires { ⌜ HeaderRead (now numbers) h × FitsSize h Small ⌝ }
@@ -242,30 +235,48 @@ fn check_small(numbers: &[u32], h: Header) -> Checked
     load(numbers, h, &mut tables)
 }
 
-// The check with tables for a graph of middle size. `again` is 0 (`frames::apart`).
-fn check_middle(numbers: &[u32], h: Header, again: usize) -> Checked
+// The check with tables for a graph of middle size.
+fn check_middle(numbers: &[u32], h: Header) -> Checked
     requires { ⌜ HeaderRead (now numbers) h × FitsSize h Middle ⌝ }
     ensures { λ r. ⌜ r ≡ answerOf (checkOf (now (numbers .entry))) ⌝ }
 {
     let mut tables = [0usize; MIDDLE_PLACES];
-    let answer = load(numbers, h, &mut tables);
-    if again > 0 {
-        return check_middle(numbers, h, again - 1);
-    }
-    answer
+    load(numbers, h, &mut tables)
 }
 
-// The check with tables for the largest graph. `again` is 0 (`frames::apart`).
-fn check_large(numbers: &[u32], h: Header, again: usize) -> Checked
+// The check with tables for a graph of large size.
+fn check_large(numbers: &[u32], h: Header) -> Checked
     requires { ⌜ HeaderRead (now numbers) h × FitsSize h Large ⌝ }
     ensures { λ r. ⌜ r ≡ answerOf (checkOf (now (numbers .entry))) ⌝ }
 {
     let mut tables = [0usize; LARGE_PLACES];
-    let answer = load(numbers, h, &mut tables);
+    load(numbers, h, &mut tables)
+}
+
+// The check with tables for the largest graph.
+fn check_largest(numbers: &[u32], h: Header) -> Checked
+    requires { ⌜ HeaderRead (now numbers) h × FitsSize h Largest ⌝ }
+    ensures { λ r. ⌜ r ≡ answerOf (checkOf (now (numbers .entry))) ⌝ }
+{
+    let mut tables = [0usize; LARGEST_PLACES];
+    load(numbers, h, &mut tables)
+}
+
+// The check with tables for a larger graph, by its size. `again` is 0 (`frames::apart`).
+fn check_larger(numbers: &[u32], h: Header, again: usize) -> Checked
+    requires { ⌜ HeaderRead (now numbers) h ⌝ }
+    ensures { λ r. ⌜ r ≡ answerOf (checkOf (now (numbers .entry))) ⌝ }
+{
     if again > 0 {
-        return check_large(numbers, h, again - 1);
+        return check_larger(numbers, h, again - 1);
     }
-    answer
+    if tables::fits(h, Size::Middle) {
+        return check_middle(numbers, h);
+    }
+    if tables::fits(h, Size::Large) {
+        return check_large(numbers, h);
+    }
+    check_largest(numbers, h)
 }
 
 // Whether the numbers are a graph, or the first fault.
@@ -276,12 +287,10 @@ pub fn check(numbers: &[u32]) -> Checked
         Walk::Fault(n, p) => Checked::Refused(n, p),
         Walk::At(_) => {
             let h = header_of(numbers);
-            let size = size_for(numbers, h);
-            match size {
-                Size::Small => check_small(numbers, h),
-                Size::Middle => check_middle(numbers, h, frames::apart(numbers)),
-                Size::Large => check_large(numbers, h, frames::apart(numbers)),
+            if tables::fits(h, Size::Small) {
+                return check_small(numbers, h);
             }
+            check_larger(numbers, h, frames::apart(numbers))
         }
     }
 }

@@ -1,13 +1,14 @@
 // The judge of a keep record: a graph, starts and a record in; passed, or the first refusal. Here is which tables it takes.
 ghost use mathlib.Core.Path.{_≡_};
 ghost use Rattle.tables.specs.Layout.{FitsSize};
-ghost use Rattle.tables.specs.declared.Size.the-variants.{Small, Middle, Large};
+ghost use Rattle.tables.specs.declared.Size.the-variants.{Small, Middle, Large, Largest};
 ghost use Rattle.graph.specs.Check.{HeaderRead};
 ghost use Rattle.judge_parts.specs.Operation.{judgeOf};
 use graph_format::Header;
 use judge_parts::Judged;
 use rows::Walk;
 use tables::LARGE;
+use tables::LARGEST;
 use tables::MIDDLE;
 use tables::SMALL;
 use tables::Size;
@@ -31,15 +32,15 @@ fn judge_small(numbers: &[u32], starts: &[u32], lines: &[u32], h: Header) -> Jud
     )
 }
 
-// The judge with tables for a graph of middle size. `again` is 0 (`frames::apart`).
-fn judge_middle(numbers: &[u32], starts: &[u32], lines: &[u32], h: Header, again: usize) -> Judged
+// The judge with tables for a graph of middle size.
+fn judge_middle(numbers: &[u32], starts: &[u32], lines: &[u32], h: Header) -> Judged
     requires { ⌜ HeaderRead (now numbers) h × FitsSize h Middle ⌝ }
     ensures { λ r. ⌜ r ≡ judgeOf (now (numbers .entry)) (now (starts .entry)) (now (lines .entry)) ⌝ }
 {
     let mut tables = [0usize; MIDDLE];
-    let mut begun = [0u8; 33024];
-    let mut marks = [0u8; 33024];
-    let answer = judge_parts::judge_in(
+    let mut begun = [0u8; 8224];
+    let mut marks = [0u8; 8224];
+    judge_parts::judge_in(
         numbers,
         starts,
         lines,
@@ -47,22 +48,18 @@ fn judge_middle(numbers: &[u32], starts: &[u32], lines: &[u32], h: Header, again
         &mut tables,
         &mut begun,
         &mut marks,
-    );
-    if again > 0 {
-        return judge_middle(numbers, starts, lines, h, again - 1);
-    }
-    answer
+    )
 }
 
-// The judge with tables for the largest graph. `again` is 0 (`frames::apart`).
-fn judge_large(numbers: &[u32], starts: &[u32], lines: &[u32], h: Header, again: usize) -> Judged
+// The judge with tables for a graph of large size.
+fn judge_large(numbers: &[u32], starts: &[u32], lines: &[u32], h: Header) -> Judged
     requires { ⌜ HeaderRead (now numbers) h × FitsSize h Large ⌝ }
     ensures { λ r. ⌜ r ≡ judgeOf (now (numbers .entry)) (now (starts .entry)) (now (lines .entry)) ⌝ }
 {
     let mut tables = [0usize; LARGE];
-    let mut begun = [0u8; 131328];
-    let mut marks = [0u8; 131328];
-    let answer = judge_parts::judge_in(
+    let mut begun = [0u8; 33024];
+    let mut marks = [0u8; 33024];
+    judge_parts::judge_in(
         numbers,
         starts,
         lines,
@@ -70,11 +67,43 @@ fn judge_large(numbers: &[u32], starts: &[u32], lines: &[u32], h: Header, again:
         &mut tables,
         &mut begun,
         &mut marks,
-    );
+    )
+}
+
+// The judge with tables for the largest graph.
+fn judge_largest(numbers: &[u32], starts: &[u32], lines: &[u32], h: Header) -> Judged
+    requires { ⌜ HeaderRead (now numbers) h × FitsSize h Largest ⌝ }
+    ensures { λ r. ⌜ r ≡ judgeOf (now (numbers .entry)) (now (starts .entry)) (now (lines .entry)) ⌝ }
+{
+    let mut tables = [0usize; LARGEST];
+    let mut begun = [0u8; 131328];
+    let mut marks = [0u8; 131328];
+    judge_parts::judge_in(
+        numbers,
+        starts,
+        lines,
+        h,
+        &mut tables,
+        &mut begun,
+        &mut marks,
+    )
+}
+
+// The judge with tables for a larger graph, by its size. `again` is 0 (`frames::apart`).
+fn judge_larger(numbers: &[u32], starts: &[u32], lines: &[u32], h: Header, again: usize) -> Judged
+    requires { ⌜ HeaderRead (now numbers) h ⌝ }
+    ensures { λ r. ⌜ r ≡ judgeOf (now (numbers .entry)) (now (starts .entry)) (now (lines .entry)) ⌝ }
+{
     if again > 0 {
-        return judge_large(numbers, starts, lines, h, again - 1);
+        return judge_larger(numbers, starts, lines, h, again - 1);
     }
-    answer
+    if tables::fits(h, Size::Middle) {
+        return judge_middle(numbers, starts, lines, h);
+    }
+    if tables::fits(h, Size::Large) {
+        return judge_large(numbers, starts, lines, h);
+    }
+    judge_largest(numbers, starts, lines, h)
 }
 
 // Judges a record beside a graph and starts.
@@ -85,12 +114,10 @@ pub fn judge(numbers: &[u32], starts: &[u32], lines: &[u32]) -> Judged
         Walk::Fault(n, p) => Judged::Refused(n, p),
         Walk::At(_) => {
             let h = graph::header_of(numbers);
-            let size = graph::size_for(numbers, h);
-            match size {
-                Size::Small => judge_small(numbers, starts, lines, h),
-                Size::Middle => judge_middle(numbers, starts, lines, h, frames::apart(numbers)),
-                Size::Large => judge_large(numbers, starts, lines, h, frames::apart(numbers)),
+            if tables::fits(h, Size::Small) {
+                return judge_small(numbers, starts, lines, h);
             }
+            judge_larger(numbers, starts, lines, h, frames::apart(numbers))
         }
     }
 }

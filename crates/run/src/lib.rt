@@ -73,9 +73,8 @@ pub fn run(
         Walk::Fault(n, p) => Ran::Refused(n, p),
         Walk::At(_) => {
             let h = graph::header_of(numbers);
-            let size = graph::size_for(numbers, h);
-            match size {
-                Size::Small => run_small(
+            if tables::fits(h, Size::Small) {
+                return run_small(
                     numbers,
                     h,
                     marks,
@@ -89,40 +88,24 @@ pub fn run(
                     dead,
                     helpers,
                     entries,
-                ),
-                Size::Middle => run_sizes::run_middle(
-                    numbers,
-                    h,
-                    marks,
-                    lines,
-                    modules_row,
-                    statements_row,
-                    used,
-                    external,
-                    json,
-                    reason,
-                    dead,
-                    helpers,
-                    entries,
-                    frames::apart(numbers),
-                ),
-                Size::Large => run_sizes::run_large(
-                    numbers,
-                    h,
-                    marks,
-                    lines,
-                    modules_row,
-                    statements_row,
-                    used,
-                    external,
-                    json,
-                    reason,
-                    dead,
-                    helpers,
-                    entries,
-                    frames::apart(numbers),
-                ),
+                );
             }
+            run_sizes::run_larger(
+                numbers,
+                h,
+                marks,
+                lines,
+                modules_row,
+                statements_row,
+                used,
+                external,
+                json,
+                reason,
+                dead,
+                helpers,
+                entries,
+                frames::apart(numbers),
+            )
         }
     }
 }

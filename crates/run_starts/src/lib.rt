@@ -6,7 +6,7 @@ ghost use mathlib.Core.Bool.{false};
 ghost use lib.ListN.{length, getD};
 ghost use Rattle.bit_row.specs.Row.{bytesFor, bitAt};
 ghost use Rattle.tables.specs.Layout.{startOf, FitsSize, allSections};
-ghost use Rattle.tables.specs.declared.Size.the-variants.{Small, Middle, Large};
+ghost use Rattle.tables.specs.declared.Size.the-variants.{Small, Middle, Large, Largest};
 ghost use Rattle.graph_tables.specs.Tables.{headerIn};
 ghost use Rattle.graph.specs.Check.{graphIn, HeaderRead};
 ghost use Rattle.facts.specs.Facts.{markCount};
@@ -20,6 +20,7 @@ use graph_format::Header;
 use rows::Walk;
 use run_parts::Part;
 use tables::LARGE;
+use tables::LARGEST;
 use tables::MIDDLE;
 use tables::SMALL;
 use tables::Size;
@@ -146,23 +147,22 @@ fn starts_small(
     )
 }
 
-// The starts with tables for a graph of middle size. `again` is 0 (`frames::apart`): if it were not, the answer would be that of the first call.
+// The starts with tables for a graph of middle size.
 fn starts_middle(
     numbers: &[u32],
     h: Header,
     marks: &mut [u8],
     lines: &mut [u32],
     out: &mut [u32],
-    again: usize,
 ) -> StartsRead
     requires { ⌜ HeaderRead (now numbers) h × FitsSize h Middle ⌝ }
     ensures { λ r. ⌜ ReadsStarts (now (numbers .entry)) r (rowsOf (now (marks .entry)) (now (lines .entry)) (now (out .entry))) (rowsOf (now (marks .exit)) (now (lines .exit)) (now (out .exit))) ⌝ }
 {
     let mut tables = [0usize; MIDDLE];
-    let mut partners = [0usize; 7168];
-    let mut plan = [0usize; 5120];
-    let mut seen = [0u8; 33024];
-    let answer = starts_in(
+    let mut partners = [0usize; 1408];
+    let mut plan = [0usize; 640];
+    let mut seen = [0u8; 8224];
+    starts_in(
         numbers,
         h,
         &mut tables,
@@ -172,25 +172,67 @@ fn starts_middle(
         marks,
         lines,
         out,
-    );
-    if again > 0 {
-        let mut no_marks = [0u8; 1];
-        let mut no_lines = [0u32; 1];
-        let mut no_starts = [0u32; 1];
-        starts_middle(
-            numbers,
-            h,
-            &mut no_marks,
-            &mut no_lines,
-            &mut no_starts,
-            again - 1,
-        );
-    }
-    answer
+    )
+}
+
+// The starts with tables for a graph of large size.
+fn starts_large(
+    numbers: &[u32],
+    h: Header,
+    marks: &mut [u8],
+    lines: &mut [u32],
+    out: &mut [u32],
+) -> StartsRead
+    requires { ⌜ HeaderRead (now numbers) h × FitsSize h Large ⌝ }
+    ensures { λ r. ⌜ ReadsStarts (now (numbers .entry)) r (rowsOf (now (marks .entry)) (now (lines .entry)) (now (out .entry))) (rowsOf (now (marks .exit)) (now (lines .exit)) (now (out .exit))) ⌝ }
+{
+    let mut tables = [0usize; LARGE];
+    let mut partners = [0usize; 7168];
+    let mut plan = [0usize; 5120];
+    let mut seen = [0u8; 33024];
+    starts_in(
+        numbers,
+        h,
+        &mut tables,
+        &mut partners,
+        &mut plan,
+        &mut seen,
+        marks,
+        lines,
+        out,
+    )
 }
 
 // The starts with tables for the largest graph. `again` is 0.
-fn starts_large(
+fn starts_largest(
+    numbers: &[u32],
+    h: Header,
+    marks: &mut [u8],
+    lines: &mut [u32],
+    out: &mut [u32],
+) -> StartsRead
+    requires { ⌜ HeaderRead (now numbers) h × FitsSize h Largest ⌝ }
+    ensures { λ r. ⌜ ReadsStarts (now (numbers .entry)) r (rowsOf (now (marks .entry)) (now (lines .entry)) (now (out .entry))) (rowsOf (now (marks .exit)) (now (lines .exit)) (now (out .exit))) ⌝ }
+{
+    let mut tables = [0usize; LARGEST];
+    let mut partners = [0usize; 19456];
+    let mut plan = [0usize; 5120];
+    let mut seen = [0u8; 131328];
+    starts_in(
+        numbers,
+        h,
+        &mut tables,
+        &mut partners,
+        &mut plan,
+        &mut seen,
+        marks,
+        lines,
+        out,
+    )
+}
+
+// The starts with tables for a larger graph, by its size. `again` is 0 (`frames::apart`).
+fn starts_larger(
     numbers: &[u32],
     h: Header,
     marks: &mut [u8],
@@ -198,38 +240,19 @@ fn starts_large(
     out: &mut [u32],
     again: usize,
 ) -> StartsRead
-    requires { ⌜ HeaderRead (now numbers) h × FitsSize h Large ⌝ }
+    requires { ⌜ HeaderRead (now numbers) h ⌝ }
     ensures { λ r. ⌜ ReadsStarts (now (numbers .entry)) r (rowsOf (now (marks .entry)) (now (lines .entry)) (now (out .entry))) (rowsOf (now (marks .exit)) (now (lines .exit)) (now (out .exit))) ⌝ }
 {
-    let mut tables = [0usize; LARGE];
-    let mut partners = [0usize; 19456];
-    let mut plan = [0usize; 5120];
-    let mut seen = [0u8; 131328];
-    let answer = starts_in(
-        numbers,
-        h,
-        &mut tables,
-        &mut partners,
-        &mut plan,
-        &mut seen,
-        marks,
-        lines,
-        out,
-    );
     if again > 0 {
-        let mut no_marks = [0u8; 1];
-        let mut no_lines = [0u32; 1];
-        let mut no_starts = [0u32; 1];
-        starts_large(
-            numbers,
-            h,
-            &mut no_marks,
-            &mut no_lines,
-            &mut no_starts,
-            again - 1,
-        );
+        return starts_larger(numbers, h, marks, lines, out, again - 1);
     }
-    answer
+    if tables::fits(h, Size::Middle) {
+        return starts_middle(numbers, h, marks, lines, out);
+    }
+    if tables::fits(h, Size::Large) {
+        return starts_large(numbers, h, marks, lines, out);
+    }
+    starts_largest(numbers, h, marks, lines, out)
 }
 
 // Gives a run's own starts, with tables of the smallest size that holds the graph.
@@ -240,19 +263,10 @@ pub fn starts(numbers: &[u32], marks: &mut [u8], lines: &mut [u32], out: &mut [u
         Walk::Fault(n, p) => StartsRead::Refused(n, p),
         Walk::At(_) => {
             let h = graph::header_of(numbers);
-            let size = graph::size_for(numbers, h);
-            match size {
-                Size::Small => starts_small(numbers, h, marks, lines, out),
-                Size::Middle => starts_middle(
-                    numbers,
-                    h,
-                    marks,
-                    lines,
-                    out,
-                    frames::apart(numbers),
-                ),
-                Size::Large => starts_large(numbers, h, marks, lines, out, frames::apart(numbers)),
+            if tables::fits(h, Size::Small) {
+                return starts_small(numbers, h, marks, lines, out);
             }
+            starts_larger(numbers, h, marks, lines, out, frames::apart(numbers))
         }
     }
 }

@@ -9,7 +9,7 @@ use lib.ListN.{length, getD, set, take, drop, length-set, length-drop, take-appe
 use lib.Seq.{getD-take, getD-drop, length-take-le, take-append-le, drop-append-le, take-set-le, take-take}
 use Rattle.graph_format.specs.declared.Header.{Header}
 use Rattle.tables.specs.declared.Size.{Size}
-use Rattle.tables.specs.declared.Size.the-variants.{Small, Middle, Large}
+use Rattle.tables.specs.declared.Size.the-variants.{Small, Middle, Large, Largest}
 use Rattle.tables.specs.Layout.{sizes, startFrom, startOf, section, Laid, Inside, Kept, FitsSize, atVerdicts, allSections}
 
 -- where sections begin
@@ -58,24 +58,28 @@ module _ (h : Header) where
 -- the words of the tables of a size: those of the places, and all
 abbrev pub placesIn : Size → ℕ
 placesIn Small = 187
-placesIn Middle = 11275
-placesIn Large = 35851
+placesIn Middle = 2443
+placesIn Large = 11275
+placesIn Largest = 35851
 
 abbrev pub wordsIn : Size → ℕ
 wordsIn Small = 363
-wordsIn Middle = 22539
-wordsIn Large = 71691
+wordsIn Middle = 4875
+wordsIn Large = 22539
+wordsIn Largest = 71691
 
 module _ (h : Header) where
   pub fits-places : (size : Size) → FitsSize h size → startOf h atVerdicts ≤ placesIn size
   fits-places Small f = omega (arith, start-five h, f)
   fits-places Middle f = omega (arith, start-five h, f)
   fits-places Large f = omega (arith, start-five h, f)
+  fits-places Largest f = omega (arith, start-five h, f)
 
   pub fits-all : (size : Size) → FitsSize h size → startOf h allSections ≤ wordsIn size
   fits-all Small f = omega (arith, start-five h, start-ten h, f)
   fits-all Middle f = omega (arith, start-five h, start-ten h, f)
   fits-all Large f = omega (arith, start-five h, start-ten h, f)
+  fits-all Largest f = omega (arith, start-five h, start-ten h, f)
 
 -- a part of a list
 pub part-has : (from to : ℕ) (xs : List ℕ) (i : ℕ) → i < to - from → getD (take (to - from) (drop from xs)) i 0 ≡ getD xs (from + i) 0

@@ -6,7 +6,7 @@ use mathlib.Core.List.{List, [], _∷_}
 use lib.ListN.{length, getD, take, drop}
 use Rattle.graph_format.specs.declared.Header.{Header}
 use Rattle.tables.specs.declared.Size.{Size}
-use Rattle.tables.specs.declared.Size.the-variants.{Small, Middle, Large}
+use Rattle.tables.specs.declared.Size.the-variants.{Small, Middle, Large, Largest}
 
 -- how many words each section has, for a graph of these counts
 unfoldable pub sizes : Header → List ℕ
@@ -121,5 +121,6 @@ Counts h modules symbols statements entries = (h .modules ≤ modules) × (h .sy
 
 abbrev pub FitsSize : Header → Size → Type 0
 FitsSize h Small = Counts h 16 64 64 16
-FitsSize h Middle = Counts h 1024 4096 4096 1024
-FitsSize h Large = Counts h 1024 16384 16384 1024
+FitsSize h Middle = Counts h 128 1024 1024 128
+FitsSize h Large = Counts h 1024 4096 4096 1024
+FitsSize h Largest = Counts h 1024 16384 16384 1024

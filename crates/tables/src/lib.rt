@@ -31,38 +31,41 @@ pub const NAMESPACES: usize = 8;
 pub const FIRST_BYTE_OF: usize = 9;
 
 // Words of the slice for the first five sections and for all ten: of a small graph (16 modules, 64 symbols, 64 statements, 16
-// entries), of one of middle size (1,024, 4,096, 4,096, 1,024), and of the largest.
+// entries), of one of middle size (128, 1,024, 1,024, 128), of a large one (1,024, 4,096, 4,096, 1,024), and of the largest.
 pub const SMALL_PLACES: usize = 187;
 
 pub const SMALL: usize = 363;
 
-pub const MIDDLE_PLACES: usize = 11275;
+pub const MIDDLE_PLACES: usize = 2443;
 
-pub const MIDDLE: usize = 22539;
+pub const MIDDLE: usize = 4875;
 
-pub const LARGE_PLACES: usize = 35851;
+pub const LARGE_PLACES: usize = 11275;
 
-pub const LARGE: usize = 71691;
+pub const LARGE: usize = 22539;
+
+pub const LARGEST_PLACES: usize = 35851;
+
+pub const LARGEST: usize = 71691;
 
 // Which tables hold a graph.
 pub enum Size {
     Small,
     Middle,
     Large,
+    Largest,
 }
 
-// The smallest tables that hold a graph of these counts.
-pub fn size_for(h: Header) -> Size
-    requires { ⌜ Counts h 1024 16384 16384 1024 ⌝ }
-    ensures { λ r. ⌜ FitsSize h r ⌝ }
+// Whether the tables of a size hold a graph of these counts.
+pub fn fits(h: Header, size: Size) -> bool
+    ensures { λ r. ⌜ (r ≡ true → FitsSize h size) ⌝ }
 {
-    if holds(h, 16, 64) {
-        return Size::Small;
+    match size {
+        Size::Small => holds(h, 16, 64),
+        Size::Middle => holds(h, 128, 1024),
+        Size::Large => holds(h, 1024, 4096),
+        Size::Largest => holds(h, 1024, 16384),
     }
-    if holds(h, 1024, 4096) {
-        return Size::Middle;
-    }
-    Size::Large
 }
 
 // Whether a graph has at most so many modules and entries, and so many symbols and statements.

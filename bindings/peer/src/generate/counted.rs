@@ -8,8 +8,7 @@ use crate::reference::graph::{ENTRIES, MODULES};
 /// How many modules, symbols, statements and entries there are, in the order of a file's header.
 pub type Counts = [u32; 4];
 
-/// The largest counts for which tables of a size are taken: small, then two middle ones, of which one or the other is in
-/// use.
+/// The largest counts for which tables of a size are taken: small, middle, large.
 const EDGES: [Counts; 3] = [[16, 64, 64, 16], [128, 1_024, 1_024, 128], [1_024, 4_096, 4_096, 1_024]];
 
 /// Counts that are below all edges.

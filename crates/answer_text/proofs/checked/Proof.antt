@@ -3,7 +3,7 @@ use mathlib.Core.Path.{_∙_, sym}
 use native.Mathlib.Omega.{arith}
 use lib.ListN.{length-replicate}
 use Rattle.rows.proofs.Walks.{at-got}
-use Rattle.tables.specs.declared.Size.the-variants.{Large}
+use Rattle.tables.specs.declared.Size.the-variants.{Largest}
 use Rattle.tables.proofs.Sections.{fits-places}
 use Rattle.graph.specs.Check.{HeaderRead}
 use Rattle.graph.proofs.Checking.{seven, bounded, check-stop-header}
@@ -36,7 +36,7 @@ slice-aggregate-load : tie.Need-slice-aggregate-load
 slice-aggregate-load c = search needs
 
 load-requires : tie.Need-load-requires
-load-requires c κs = (begun (c .before), rw (length-replicate {A = ℕ} 35851 0) (fits-places _ Large (bounded _ _ (begun (c .before))), omega arith))
+load-requires c κs = (begun (c .before), rw (length-replicate {A = ℕ} 35851 0) (fits-places _ Largest (bounded _ _ (begun (c .before))), omega arith))
 
 enum-known-n-2 : tie.Need-enum-known-n-2
 enum-known-n-2 c = search needs

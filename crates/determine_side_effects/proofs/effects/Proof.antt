@@ -23,55 +23,34 @@ enum-told c = search needs
 header-of-requires : tie.Need-header-of-requires
 header-of-requires c κs = seven _ (at-got _ _ (sym (c .before .before .header .ensures) ∙ c .enum-told .given .1) .1)
 
-size-for-requires : tie.Need-size-for-requires
-size-for-requires c κs = begun c
-
-enum-told-2 : tie.Need-enum-told-2
-enum-told-2 c = search needs
+fits-requires : tie.Need-fits-requires
+fits-requires c κs = _
 
 effects-small-requires : tie.Need-effects-small-requires
-effects-small-requires c κs = (begun (c .before .before .before .before), rw (c .before .enum-told2 .given .1) at (c .before .before .before .size-for .ensures))
-
-enum-told-3 : tie.Need-enum-told-3
-enum-told-3 c = search needs
-
-apart-requires : tie.Need-apart-requires
-apart-requires c κs = search needs
-
-effects-middle-requires : tie.Need-effects-middle-requires
-effects-middle-requires c κs = (begun (c .before .before .before .before .before), rw (c .before .before .enum-told3 .given .1) at (c .before .before .before .before .size-for .ensures))
-
-enum-told-4 : tie.Need-enum-told-4
-enum-told-4 c = search needs
-
-apart-requires-2 : tie.Need-apart-requires-2
-apart-requires-2 c κs = search needs
-
-effects-large-requires : tie.Need-effects-large-requires
-effects-large-requires c κs = (begun (c .before .before .before .before .before), rw (c .before .before .enum-told4 .given .1) at (c .before .before .before .before .size-for .ensures))
-
-returns : tie.Need-returns
-returns c =
-    let a = check-stop-header _ (sym (c .before .before .before .header .ensures) ∙ c .before .n .given .1) in
-    (refused-answer _ a _, refused-row _ a _)
+effects-small-requires c κs = (begun (c .before .before .before), c .before .before .fits2 .ensures (c .before .if1 .taken))
 
 same-length : tie.Need-same-length
 same-length c = c .before .before .effects-small .kept .1 .1 .0
 
+returns : tie.Need-returns
+returns c = c .before .before .effects-small .ensures
+
+apart-requires : tie.Need-apart-requires
+apart-requires c κs = _
+
+effects-larger-requires : tie.Need-effects-larger-requires
+effects-larger-requires c κs = begun (c .before .before .before .before)
+
 returns-2 : tie.Need-returns-2
-returns-2 c = c .before .before .effects-small .ensures
+returns-2 c =
+    let a = check-stop-header _ (sym (c .before .before .before .header .ensures) ∙ c .before .n .given .1) in
+    (refused-answer _ a _, refused-row _ a _)
 
 same-length-2 : tie.Need-same-length-2
-same-length-2 c = c .before .before .effects-middle .kept .1 .1 .0
+same-length-2 c = c .before .before .effects-larger .kept .1 .1 .0
 
 returns-3 : tie.Need-returns-3
-returns-3 c = c .before .before .effects-middle .ensures
-
-same-length-3 : tie.Need-same-length-3
-same-length-3 c = c .before .before .effects-large .kept .1 .1 .0
-
-returns-4 : tie.Need-returns-4
-returns-4 c = c .before .before .effects-large .ensures
+returns-3 c = c .before .before .effects-larger .ensures
 
 pub effects-spec : {M : Type 1} → statement M
 effects-spec =
@@ -81,19 +60,12 @@ effects-spec =
     enum-known-n
     enum-told
     header-of-requires
-    size-for-requires
-    enum-told-2
+    fits-requires
     effects-small-requires
-    enum-told-3
-    apart-requires
-    effects-middle-requires
-    enum-told-4
-    apart-requires-2
-    effects-large-requires
-    returns
     same-length
+    returns
+    apart-requires
+    effects-larger-requires
     returns-2
     same-length-2
-    returns-3
-    same-length-3
-    returns-4)
+    returns-3)

@@ -22,35 +22,11 @@ enum-told c = c .match .keys2
 header-of-requires : tie.Need-header-of-requires
 header-of-requires c κs = seven _ (at-got _ _ (sym (c .before .before .header .ensures) ∙ c .enum-told .given .1) .1)
 
-size-for-requires : tie.Need-size-for-requires
-size-for-requires c κs = begun c
-
-enum-told-2 : tie.Need-enum-told-2
-enum-told-2 c = c .match2 .keys1
+fits-requires : tie.Need-fits-requires
+fits-requires c κs = _
 
 drain-small-requires : tie.Need-drain-small-requires
-drain-small-requires c κs = (begun (c .before .before .before .before .before .before .before .before .before .before .before), rw (c .before .before .before .before .before .before .before .before .enum-told2 .given .1) at (c .before .before .before .before .before .before .before .before .before .before .size-for .ensures))
-
-enum-told-3 : tie.Need-enum-told-3
-enum-told-3 c = c .match2 .keys2
-
-apart-requires : tie.Need-apart-requires
-apart-requires c κs = _
-
-drain-middle-requires : tie.Need-drain-middle-requires
-drain-middle-requires c κs = (begun (c .before .before .before .before .before .before .before .before .before .before .before .before), rw (c .before .before .before .before .before .before .before .before .before .enum-told3 .given .1) at (c .before .before .before .before .before .before .before .before .before .before .before .size-for .ensures))
-
-enum-told-4 : tie.Need-enum-told-4
-enum-told-4 c = c .match2 .keys3
-
-apart-requires-2 : tie.Need-apart-requires-2
-apart-requires-2 c κs = _
-
-drain-large-requires : tie.Need-drain-large-requires
-drain-large-requires c κs = (begun (c .before .before .before .before .before .before .before .before .before .before .before .before), rw (c .before .before .before .before .before .before .before .before .before .enum-told4 .given .1) at (c .before .before .before .before .before .before .before .before .before .before .before .size-for .ensures))
-
-returns : tie.Need-returns
-returns c = ends-before _ _ _ _ (outcome-refused _ _ _ (check-stop-header _ (sym (c .before .before .before .header .ensures) ∙ c .before .n .given .1)))
+drain-small-requires c κs = (begun (c .before .before .before .before .before .before .before .before .before .before), c .before .before .before .before .before .before .before .before .before .fits2 .ensures (c .before .before .before .before .before .before .before .before .if1 .taken))
 
 same-length : tie.Need-same-length
 same-length c = c .before .before .before .before .before .before .before .before .before .before .before .before .before .before .before .before .drain-small .kept .1 .1 .1 .0
@@ -76,62 +52,44 @@ same-length-7 c = c .before .before .before .before .before .before .before .bef
 same-length-8 : tie.Need-same-length-8
 same-length-8 c = c .before .before .before .before .before .before .before .before .before .before .before .before .before .before .before .before .drain-small .kept .1 .1 .1 .1 .1 .1 .1 .1 .1 .1 .0
 
+returns : tie.Need-returns
+returns c = c .before .before .before .before .before .before .before .before .before .before .before .before .before .before .before .before .drain-small .ensures
+
+apart-requires : tie.Need-apart-requires
+apart-requires c κs = _
+
+drain-larger-requires : tie.Need-drain-larger-requires
+drain-larger-requires c κs = begun (c .before .before .before .before .before .before .before .before .before .before .before)
+
 returns-2 : tie.Need-returns-2
-returns-2 c = c .before .before .before .before .before .before .before .before .before .before .before .before .before .before .before .before .drain-small .ensures
+returns-2 c = ends-before _ _ _ _ (outcome-refused _ _ _ (check-stop-header _ (sym (c .before .before .before .header .ensures) ∙ c .before .n .given .1)))
 
 same-length-9 : tie.Need-same-length-9
-same-length-9 c = c .before .before .before .before .before .before .before .before .before .before .before .before .before .before .before .before .drain-middle .kept .1 .1 .1 .0
+same-length-9 c = c .before .before .before .before .before .before .before .before .before .before .before .before .before .before .before .before .drain-larger .kept .1 .1 .1 .0
 
 same-length-10 : tie.Need-same-length-10
-same-length-10 c = c .before .before .before .before .before .before .before .before .before .before .before .before .before .before .before .before .drain-middle .kept .1 .1 .1 .1 .0
+same-length-10 c = c .before .before .before .before .before .before .before .before .before .before .before .before .before .before .before .before .drain-larger .kept .1 .1 .1 .1 .0
 
 same-length-11 : tie.Need-same-length-11
-same-length-11 c = c .before .before .before .before .before .before .before .before .before .before .before .before .before .before .before .before .drain-middle .kept .1 .1 .1 .1 .1 .0
+same-length-11 c = c .before .before .before .before .before .before .before .before .before .before .before .before .before .before .before .before .drain-larger .kept .1 .1 .1 .1 .1 .0
 
 same-length-12 : tie.Need-same-length-12
-same-length-12 c = c .before .before .before .before .before .before .before .before .before .before .before .before .before .before .before .before .drain-middle .kept .1 .1 .1 .1 .1 .1 .0
+same-length-12 c = c .before .before .before .before .before .before .before .before .before .before .before .before .before .before .before .before .drain-larger .kept .1 .1 .1 .1 .1 .1 .0
 
 same-length-13 : tie.Need-same-length-13
-same-length-13 c = c .before .before .before .before .before .before .before .before .before .before .before .before .before .before .before .before .drain-middle .kept .1 .1 .1 .1 .1 .1 .1 .0
+same-length-13 c = c .before .before .before .before .before .before .before .before .before .before .before .before .before .before .before .before .drain-larger .kept .1 .1 .1 .1 .1 .1 .1 .0
 
 same-length-14 : tie.Need-same-length-14
-same-length-14 c = c .before .before .before .before .before .before .before .before .before .before .before .before .before .before .before .before .drain-middle .kept .1 .1 .1 .1 .1 .1 .1 .1 .0
+same-length-14 c = c .before .before .before .before .before .before .before .before .before .before .before .before .before .before .before .before .drain-larger .kept .1 .1 .1 .1 .1 .1 .1 .1 .0
 
 same-length-15 : tie.Need-same-length-15
-same-length-15 c = c .before .before .before .before .before .before .before .before .before .before .before .before .before .before .before .before .drain-middle .kept .1 .1 .1 .1 .1 .1 .1 .1 .1 .0
+same-length-15 c = c .before .before .before .before .before .before .before .before .before .before .before .before .before .before .before .before .drain-larger .kept .1 .1 .1 .1 .1 .1 .1 .1 .1 .0
 
 same-length-16 : tie.Need-same-length-16
-same-length-16 c = c .before .before .before .before .before .before .before .before .before .before .before .before .before .before .before .before .drain-middle .kept .1 .1 .1 .1 .1 .1 .1 .1 .1 .1 .0
+same-length-16 c = c .before .before .before .before .before .before .before .before .before .before .before .before .before .before .before .before .drain-larger .kept .1 .1 .1 .1 .1 .1 .1 .1 .1 .1 .0
 
 returns-3 : tie.Need-returns-3
-returns-3 c = c .before .before .before .before .before .before .before .before .before .before .before .before .before .before .before .before .drain-middle .ensures
-
-same-length-17 : tie.Need-same-length-17
-same-length-17 c = c .before .before .before .before .before .before .before .before .before .before .before .before .before .before .before .before .drain-large .kept .1 .1 .1 .0
-
-same-length-18 : tie.Need-same-length-18
-same-length-18 c = c .before .before .before .before .before .before .before .before .before .before .before .before .before .before .before .before .drain-large .kept .1 .1 .1 .1 .0
-
-same-length-19 : tie.Need-same-length-19
-same-length-19 c = c .before .before .before .before .before .before .before .before .before .before .before .before .before .before .before .before .drain-large .kept .1 .1 .1 .1 .1 .0
-
-same-length-20 : tie.Need-same-length-20
-same-length-20 c = c .before .before .before .before .before .before .before .before .before .before .before .before .before .before .before .before .drain-large .kept .1 .1 .1 .1 .1 .1 .0
-
-same-length-21 : tie.Need-same-length-21
-same-length-21 c = c .before .before .before .before .before .before .before .before .before .before .before .before .before .before .before .before .drain-large .kept .1 .1 .1 .1 .1 .1 .1 .0
-
-same-length-22 : tie.Need-same-length-22
-same-length-22 c = c .before .before .before .before .before .before .before .before .before .before .before .before .before .before .before .before .drain-large .kept .1 .1 .1 .1 .1 .1 .1 .1 .0
-
-same-length-23 : tie.Need-same-length-23
-same-length-23 c = c .before .before .before .before .before .before .before .before .before .before .before .before .before .before .before .before .drain-large .kept .1 .1 .1 .1 .1 .1 .1 .1 .1 .0
-
-same-length-24 : tie.Need-same-length-24
-same-length-24 c = c .before .before .before .before .before .before .before .before .before .before .before .before .before .before .before .before .drain-large .kept .1 .1 .1 .1 .1 .1 .1 .1 .1 .1 .0
-
-returns-4 : tie.Need-returns-4
-returns-4 c = c .before .before .before .before .before .before .before .before .before .before .before .before .before .before .before .before .drain-large .ensures
+returns-3 c = c .before .before .before .before .before .before .before .before .before .before .before .before .before .before .before .before .drain-larger .ensures
 
 pub drain-spec : {M : Type 1} → statement M
 drain-spec =
@@ -141,16 +99,8 @@ drain-spec =
     enum-known-n
     enum-told
     header-of-requires
-    size-for-requires
-    enum-told-2
+    fits-requires
     drain-small-requires
-    enum-told-3
-    apart-requires
-    drain-middle-requires
-    enum-told-4
-    apart-requires-2
-    drain-large-requires
-    returns
     same-length
     same-length-2
     same-length-3
@@ -159,6 +109,9 @@ drain-spec =
     same-length-6
     same-length-7
     same-length-8
+    returns
+    apart-requires
+    drain-larger-requires
     returns-2
     same-length-9
     same-length-10
@@ -168,13 +121,4 @@ drain-spec =
     same-length-14
     same-length-15
     same-length-16
-    returns-3
-    same-length-17
-    same-length-18
-    same-length-19
-    same-length-20
-    same-length-21
-    same-length-22
-    same-length-23
-    same-length-24
-    returns-4)
+    returns-3)

@@ -22,44 +22,26 @@ enum-told c = c .match .keys2
 header-of-requires : tie.Need-header-of-requires
 header-of-requires c κs = seven _ (at-got _ _ (sym (c .before .before .header .ensures) ∙ c .enum-told .given .1) .1)
 
-size-for-requires : tie.Need-size-for-requires
-size-for-requires c κs = begun c
-
-enum-told-2 : tie.Need-enum-told-2
-enum-told-2 c = c .match2 .keys1
+fits-requires : tie.Need-fits-requires
+fits-requires c κs = _
 
 judge-small-requires : tie.Need-judge-small-requires
-judge-small-requires c κs = (begun (c .before .before .before), rw (c .enum-told2 .given .1) at (c .before .before .size-for .ensures))
+judge-small-requires c κs = (begun (c .before .before), c .before .fits2 .ensures (c .if1 .taken))
 
-enum-told-3 : tie.Need-enum-told-3
-enum-told-3 c = c .match2 .keys2
+returns : tie.Need-returns
+returns c = c .judge-small .ensures
 
 apart-requires : tie.Need-apart-requires
 apart-requires c κs = _
 
-judge-middle-requires : tie.Need-judge-middle-requires
-judge-middle-requires c κs = (begun (c .before .before .before .before), rw (c .before .enum-told3 .given .1) at (c .before .before .before .size-for .ensures))
-
-enum-told-4 : tie.Need-enum-told-4
-enum-told-4 c = c .match2 .keys3
-
-apart-requires-2 : tie.Need-apart-requires-2
-apart-requires-2 c κs = _
-
-judge-large-requires : tie.Need-judge-large-requires
-judge-large-requires c κs = (begun (c .before .before .before .before), rw (c .before .enum-told4 .given .1) at (c .before .before .before .size-for .ensures))
-
-returns : tie.Need-returns
-returns c = sym (judge-rejected _ _ _ (check-stop-header _ (sym (c .before .before .before .header .ensures) ∙ c .before .n .given .1)))
+judge-larger-requires : tie.Need-judge-larger-requires
+judge-larger-requires c κs = begun (c .before .before .before)
 
 returns-2 : tie.Need-returns-2
-returns-2 c = c .judge-small .ensures
+returns-2 c = sym (judge-rejected _ _ _ (check-stop-header _ (sym (c .before .before .before .header .ensures) ∙ c .before .n .given .1)))
 
 returns-3 : tie.Need-returns-3
-returns-3 c = c .judge-middle .ensures
-
-returns-4 : tie.Need-returns-4
-returns-4 c = c .judge-large .ensures
+returns-3 c = c .judge-larger .ensures
 
 pub judge-spec : {M : Type 1} → statement M
 judge-spec =
@@ -69,16 +51,10 @@ judge-spec =
     enum-known-n
     enum-told
     header-of-requires
-    size-for-requires
-    enum-told-2
+    fits-requires
     judge-small-requires
-    enum-told-3
-    apart-requires
-    judge-middle-requires
-    enum-told-4
-    apart-requires-2
-    judge-large-requires
     returns
+    apart-requires
+    judge-larger-requires
     returns-2
-    returns-3
-    returns-4)
+    returns-3)

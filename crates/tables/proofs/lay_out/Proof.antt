@@ -3,7 +3,7 @@ use mathlib.Core.Path.{_∙_}
 use native.Mathlib.Omega.{arith}
 use lib.ListN.{getD, length-set}
 use borrow.Author.Needs.{needs}
-use Rattle.tables.specs.declared.Size.the-variants.{Large}
+use Rattle.tables.specs.declared.Size.the-variants.{Largest}
 use Rattle.tables.specs.Layout.{sizes, startOf}
 use Rattle.tables.proofs.Sections.{start-next, start-mono, fits-all}
 use Rattle.tables.proofs.Laying.{Laying, laying-start, laying-step, laying-end}
@@ -22,7 +22,7 @@ unfolding startOf sizes
 small c =
     let h = c .before .before .args .h in
     let k = c .before .loop .k in
-    omega (arith, c .before .loop .inv .sum, start-next h k, start-mono h (k + 1) 10 (omega (arith, c .loop-test .taken)), fits-all h Large (c .before .before .pre .1))
+    omega (arith, c .before .loop .inv .sum, start-next h k, start-mono h (k + 1) 10 (omega (arith, c .loop-test .taken)), fits-all h Largest (c .before .before .pre .1))
 
 loop-holds : tie.Need-loop-holds Inv-loop μ-loop
 loop-holds c = laying-start _ _
