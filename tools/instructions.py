@@ -81,8 +81,9 @@ def table_of(text):
 
 def table_text(counts):
     """A table of counts."""
+    long = max(len(load) for load, _ in counts)
     width = max(len(str(count)) for count in counts.values())
-    return TITLE + "".join(f"{load:<10} {operation:<6} {count:>{width}}\n" for (load, operation), count in counts.items())
+    return TITLE + "".join(f"{load:<{long}} {operation:<6} {count:>{width}}\n" for (load, operation), count in counts.items())
 
 
 def compared(table, counts):

@@ -37,7 +37,7 @@ GROUPS = [
     ("Drain", 4, 20, 200, "code", "drain_parts drain_sizes drain"),
     (
         "Dynamic entries", 4, 240, 320, "code",
-        "entry_order entry_starts entry_graph cycles dynamic_entries entry_sizes entry_liveness",
+        "entry_order entry_starts entry_graph cycles dynamic_entries entry_sizes entry_liveness dead_records",
     ),
     ("Worked cases", 4, 580, 120, "tests", "worked_facts vectors"),
     ("Judge", 4, 720, 160, "code", "record_form justification completeness line_judgement judge_parts judge"),

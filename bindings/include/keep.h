@@ -117,7 +117,10 @@ enum keep_option {
     KEEP_OPTION_COMMONJS = 4,                          /* treeshake.commonjs */
     KEEP_OPTION_PROPERTY_WRITE_SIDE_EFFECTS_FALSE = 8, /* treeshake.propertyWriteSideEffects: false */
     KEEP_OPTION_DEV_MODE = 16,
-    KEEP_OPTION_CODE_SPLITTING_DISABLED = 32
+    KEEP_OPTION_CODE_SPLITTING_DISABLED = 32,
+    /* The row `dead` is worked out after the last round. If not, it has all that some round marked, also where the
+       entry came alive in a later one. */
+    KEEP_OPTION_DEAD_IMPORTS_AT_END = 64
 };
 
 /* The kind of a module. */
@@ -557,7 +560,9 @@ struct keep_run_rows {
     size_t json_length;
     uint8_t *reason; /* a byte for each module: enum keep_namespace_reason */
     size_t reason_length;
-    uint8_t *dead; /* a bit for each import record, those of all modules in one row: a dead dynamic import */
+    /* A bit for each import record, those of all modules in one row: a dead dynamic import
+       (KEEP_OPTION_DEAD_IMPORTS_AT_END). */
+    uint8_t *dead;
     size_t dead_length;
     uint32_t *helpers; /* a number for each module: bit h if it needs runtime helper h */
     size_t helpers_length;

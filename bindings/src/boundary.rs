@@ -183,7 +183,8 @@ pub struct RunRows<'a> {
     pub json: &'a mut [u8],
     /// A byte for each module: why its namespace is kept, before the runtime stage.
     pub reason: &'a mut [u8],
-    /// A bit for each import record, those of all modules in one row: a dynamic import that is dead.
+    /// A bit for each import record, those of all modules in one row: a dynamic import that is dead, by the rounds or,
+    /// with options bit 6, at their end.
     pub dead: &'a mut [u8],
     /// A number for each module: bit h for each runtime helper h that it needs.
     pub helpers: &'a mut [u32],

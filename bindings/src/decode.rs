@@ -66,6 +66,7 @@ impl Options {
             property_write_side_effects: !bit(bits, 3),
             dev_mode: bit(bits, 4),
             code_splitting: !bit(bits, 5),
+            dead_imports_at_end: bit(bits, 6),
         }
     }
 }

@@ -40,7 +40,8 @@ impl Options {
     pub(crate) fn bits(self) -> u32 {
         let writes = !self.property_write_side_effects;
         let whole = !self.code_splitting;
-        bits([self.treeshake, self.inline_const_smart, self.commonjs, writes, self.dev_mode, whole])
+        let at_end = self.dead_imports_at_end;
+        bits([self.treeshake, self.inline_const_smart, self.commonjs, writes, self.dev_mode, whole, at_end])
     }
 }
 

@@ -157,6 +157,10 @@ pub struct Options {
     pub dev_mode: bool,
     /// Dynamic entries get files of their own.
     pub code_splitting: bool,
+    /// Dead imports are worked out after the last round, by what is live and kept then. If not, they are all that some
+    /// round marked, also where the entry came alive in a later one. Nothing else depends on it
+    /// ([`Kept::is_dead`](crate::Kept::is_dead)).
+    pub dead_imports_at_end: bool,
 }
 
 impl Default for Options {
@@ -168,6 +172,7 @@ impl Default for Options {
             property_write_side_effects: true,
             dev_mode: false,
             code_splitting: true,
+            dead_imports_at_end: false,
         }
     }
 }

@@ -312,6 +312,10 @@ impl<'g> Kept<'g> {
     /// Whether an import record is a dynamic import that was found dead: the bundler may drop it. A try of its entry
     /// marked it, and the mark stays even if a later try finds the entry live.
     ///
+    /// With [`dead_imports_at_end`](crate::Options::dead_imports_at_end) no mark of a round counts. An import is dead
+    /// if a try after the last round would mark it, and no live entry has it in a kept statement where it is reached.
+    /// What the runtime stage keeps comes later and does not count.
+    ///
     /// ```
     /// let mut graph = lizdakk::Graph::new();
     /// let (main, lazy) = (graph.module("main.js"), graph.module("lazy.js"));
@@ -331,7 +335,26 @@ impl<'g> Kept<'g> {
     /// The dynamic imports that were found dead, module by module.
     ///
     /// ```
-    /// assert_eq!(lizdakk::decide(&lizdakk::Graph::new())?.dead_imports().count(), 0);
+    /// // main.js:     export let ready = (import('./breaker.js'), true);
+    /// //              const preview = await import('./preview.js');
+    /// // preview.js:  export { ready } from './main.js';
+    /// let mut graph = lizdakk::Graph::new();
+    /// let [main, breaker, preview] = ["main.js", "breaker.js", "preview.js"].map(|name| graph.module(name));
+    /// let (ready, declare, load) = (graph.symbol(main, "ready"), graph.statement(main), graph.statement(main));
+    /// graph.declare(declare, ready);
+    /// graph[load].has_side_effect = true;
+    /// let import = graph.dynamic_import(declare, breaker);
+    /// graph[import.record].is_top_level_pure = true;
+    /// graph.dynamic_import(load, preview);
+    /// graph[preview].entry_references.push(ready);
+    /// graph.entry(main);
+    ///
+    /// // Round 1 tries breaker.js before preview.js, which asks for ready: dead then, live in round 2.
+    /// let kept = lizdakk::decide(&graph)?;
+    /// assert!(kept.is_live(import.entry));
+    /// assert_eq!(kept.dead_imports().collect::<Vec<_>>(), [import.record]);
+    /// graph.options.dead_imports_at_end = true;
+    /// assert_eq!(lizdakk::decide(&graph)?.dead_imports().count(), 0);
     /// # Ok::<(), lizdakk::Refused>(())
     /// ```
     pub fn dead_imports(&self) -> impl Iterator<Item = ImportRecordId> + '_ {

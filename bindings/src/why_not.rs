@@ -22,7 +22,8 @@ pub enum Lacks {
     /// the top level, no `import()` of the module looks at an export, and the module has no side effects.
     Notice,
     /// It lacks nothing now, but the statement became kept after the last try of the entry. Rounds end with one that
-    /// keeps no further module.
+    /// keeps no further module. With [`dead_imports_at_end`](crate::Options::dead_imports_at_end) such an entry makes
+    /// no import dead, unless the runtime stage alone keeps the statement.
     Time,
 }
 
@@ -50,6 +51,8 @@ pub struct WhyNot<'g> {
     graph: &'g Graph,
     entry: EntryId,
     related: Vec<(RelatedStatement, Lacks)>,
+    /// By related statement whether to say that its import is not dead: so only at the end of a run.
+    not_dead: Vec<bool>,
 }
 
 impl WhyNot<'_> {
@@ -86,7 +89,8 @@ impl WhyNot<'_> {
 }
 
 impl<'g> Kept<'g> {
-    /// Why a dynamic entry is dead; none if it is live, user-defined or not of the graph, or if starts were given.
+    /// Why a dynamic entry is dead; none if it is live, user-defined or not of the graph, or if starts were given. This
+    /// is about the entry: whether its imports are dead too is said by [`is_dead`](Kept::is_dead).
     ///
     /// ```
     /// let mut graph = lizdakk::Graph::new();
@@ -102,7 +106,10 @@ impl<'g> Kept<'g> {
             return None;
         }
         let lacks = |related: &RelatedStatement| (*related, self.lacks(entry, related).unwrap_or(Lacks::Time));
-        Some(WhyNot { graph: self.graph, entry, related: known.related.iter().map(lacks).collect() })
+        let not_dead =
+            |related: &RelatedStatement| self.graph.options.dead_imports_at_end && !self.is_dead(related.record);
+        let (related, not_dead) = known.related.iter().map(|related| (lacks(related), not_dead(related))).unzip();
+        Some(WhyNot { graph: self.graph, entry, related, not_dead })
     }
 
     /// What a related statement lacks; none if, as things stand at the end, it lets its entry live (003,
@@ -157,7 +164,10 @@ impl fmt::Display for WhyNot<'_> {
                         None => f.write_str("and it leads nowhere")?,
                     }
                 }
-                Lacks::Time => write!(f, "{statement} became kept after the last try")?,
+                Lacks::Time => {
+                    write!(f, "{statement} became kept after the last try")?;
+                    f.write_str(if self.not_dead[place] { ", and its import() is not dead" } else { "" })?;
+                }
             }
         }
         f.write_str(".")

@@ -177,6 +177,25 @@ impl<'a> RunBuffers<'a> {
         &self.record[..LINE * self.answer.lines as usize]
     }
 
+    /// The names of what two runs answered differently, over graphs that need rows of the same lengths.
+    pub fn differences(&self, other: &RunBuffers) -> Vec<&'static str> {
+        let mut differ = Vec::new();
+        let mut compare = |name, same: bool| (!same).then(|| differ.push(name));
+        compare("answer", self.answer == other.answer);
+        compare("marks", self.marks == other.marks);
+        compare("record", self.record == other.record);
+        compare("modules", self.modules == other.modules);
+        compare("statements", self.statements == other.statements);
+        compare("used", self.used == other.used);
+        compare("external", self.external == other.external);
+        compare("json", self.json == other.json);
+        compare("reason", self.reason == other.reason);
+        compare("dead", self.dead == other.dead);
+        compare("helpers", self.helpers == other.helpers);
+        compare("entries", self.entries == other.entries);
+        differ
+    }
+
     fn all_lines(&self) -> impl Iterator<Item = [u32; LINE]> + '_ {
         self.record.chunks_exact(LINE).map(|line| line.try_into().expect("a line has six numbers"))
     }

@@ -5,7 +5,8 @@
 mod seeds;
 
 use compare::library;
-use lizdakk::{Graph, Part, Refused};
+use lizdakk::{with_stack, Graph, Part, Refused};
+use peer::generate::late::late_graph;
 use peer::generate::runs::{run_graph, small_run_graph};
 use peer::generate::{self, Random, Size};
 use peer::model::Encoded;
@@ -138,18 +139,38 @@ fn graphs(seed: u64) -> Vec<Encoded> {
 }
 
 /// A file that is read and written again is the same, and the peer reads the same numbers from it.
+fn comes_back(numbers: &[u32], seed: u64) {
+    let file = file(numbers);
+    let graph = Graph::read_here(&file).unwrap_or_else(|refused| panic!("seed {seed}: {refused}"));
+    assert_eq!(graph.numbers(), numbers, "seed {seed}");
+    assert_eq!(graph.write(), file, "seed {seed}");
+    let mut read = vec![0; file.len()];
+    assert_eq!(leb128::read(&graph.write(), &mut read).count, numbers.len() as u64);
+}
+
 #[test]
 fn files_come_back() {
     for_seeds("files", seeds::cases(CASES), |seed| {
-        for Encoded { numbers, .. } in graphs(seed) {
-            let file = file(&numbers);
-            let graph = Graph::read_here(&file).unwrap_or_else(|refused| panic!("seed {seed}: {refused}"));
-            assert_eq!(graph.numbers(), numbers, "seed {seed}");
-            assert_eq!(graph.write(), file, "seed {seed}");
-            let mut read = vec![0; file.len()];
-            assert_eq!(leb128::read(&graph.write(), &mut read).count, numbers.len() as u64);
-        }
+        graphs(seed).iter().for_each(|Encoded { numbers, .. }| comes_back(numbers, seed));
         3
+    });
+}
+
+/// Each set of options is the crate's, and comes back.
+#[test]
+fn options_come_back() {
+    with_stack(|| {
+        let mut graph = late_graph(&mut Random::new(1));
+        for options in 0..128 {
+            graph.options = options;
+            comes_back(&graph.numbers(), 1);
+            let read = Graph::read_here(&file(&graph.numbers())).expect("it came back").options;
+            let bits = [read.treeshake, !read.code_splitting, read.dead_imports_at_end];
+            assert_eq!(bits, [1, 32, 64].map(|bit| options & bit != 0), "options {options}");
+        }
+        graph.options = 128;
+        let refused = Graph::read_here(&file(&graph.numbers())).unwrap_err();
+        assert_eq!(refused.to_string(), "refused 3 at number 0: the graph: `options` has to be bits 0 to 6");
     });
 }
 

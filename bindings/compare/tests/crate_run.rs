@@ -9,6 +9,7 @@ use lizdakk::{
     decide_from_here, decide_here, judge_here, own_starts_here, Cause, Fact, Graph, Kept, Origin, Reason, Record,
     Refused,
 };
+use peer::generate::late::late_graph;
 use peer::generate::runs::{import_graph, run_graph, small_run_graph};
 use peer::generate::{self, Random, Size};
 use peer::listing::{first_records, first_statement_bytes, is_set};
@@ -19,7 +20,15 @@ use seeds::for_seeds;
 
 const CASES: u64 = 20_000;
 
-/// A graph of the crate and of the peer.
+/// The crate's graph of the peer's.
+fn read(graph: peer::model::Graph, seed: u64) -> (Graph, peer::model::Graph) {
+    let numbers = graph.numbers().into_iter();
+    let file = numbers.flat_map(|number| generate::padded(number.into(), generate::shortest_width(number.into())));
+    let read = Graph::read_here(&file.collect::<Vec<u8>>());
+    (read.unwrap_or_else(|refused| panic!("seed {seed}: {refused}")), graph)
+}
+
+/// Graphs of the crate and of the peer.
 fn both(seed: u64) -> Vec<(Graph, peer::model::Graph)> {
     let mut random = Random::new(seed);
     let size = Size::small(&mut random);
@@ -29,13 +38,7 @@ fn both(seed: u64) -> Vec<(Graph, peer::model::Graph)> {
         small_run_graph(&mut random),
         import_graph(&mut random),
     ];
-    let read = |graph: peer::model::Graph| {
-        let numbers = graph.numbers().into_iter();
-        let file = numbers.flat_map(|number| generate::padded(number.into(), generate::shortest_width(number.into())));
-        let read = Graph::read_here(&file.collect::<Vec<u8>>());
-        (read.unwrap_or_else(|refused| panic!("seed {seed}: {refused}")), graph)
-    };
-    graphs.map(read).into()
+    graphs.map(|graph| read(graph, seed)).into()
 }
 
 fn indexes<T>(row: impl Iterator<Item = T>, index: impl Fn(T) -> u32) -> Vec<usize> {
@@ -83,30 +86,41 @@ fn compare_live(graph: &Graph, kept: &Kept, run: &Run, model: &peer::model::Grap
 }
 
 /// Everything that is kept, the record of both stages, and the run's own starts are the peer's; the judge passes them.
+fn decided(graph: &Graph, model: &peer::model::Graph, seed: u64) {
+    let (kept, run) = (decide_here(graph).expect("it was accepted"), Run::of(model));
+    assert_eq!(kept.rounds(), u64::from(run.rounds), "seed {seed}");
+    let entries: Vec<u32> = kept.final_entries().iter().map(|entry| entry.index()).collect();
+    assert_eq!(entries, run.entries, "seed {seed}");
+    compare_modules(graph, &kept, &run, model);
+    compare_symbols(&kept, &run, model.symbols.len());
+    compare_live(graph, &kept, &run, model);
+    let lines = |lines: &[lizdakk::Line]| lines.iter().map(|line| line.numbers()).collect::<Vec<_>>();
+    let expected = |lines: &[peer::reference::drain::Line]| lines.iter().map(|line| line.numbers()).collect::<Vec<_>>();
+    assert_eq!(lines(&kept.lines()[..run.lines.len()]), expected(&run.lines), "seed {seed}");
+    assert_eq!(lines(kept.runtime_lines()), expected(&run.runtime_lines), "seed {seed}");
+    let starts = own_starts_here(graph).expect("it was accepted");
+    assert_eq!(
+        starts.iter().map(|start| start.numbers()).collect::<Vec<_>>(),
+        Starts::of(model).facts.iter().map(|start| start.parts()).collect::<Vec<_>>()
+    );
+    assert_eq!(judge_here(graph, &starts, &kept.record()), Ok(()), "seed {seed}");
+}
+
 #[test]
 fn decided_alike() {
     for_seeds("runs", seeds::cases(CASES), |seed| {
-        for (graph, model) in both(seed) {
-            let (kept, run) = (decide_here(&graph).expect("it was accepted"), Run::of(&model));
-            assert_eq!(kept.rounds(), u64::from(run.rounds), "seed {seed}");
-            let entries: Vec<u32> = kept.final_entries().iter().map(|entry| entry.index()).collect();
-            assert_eq!(entries, run.entries, "seed {seed}");
-            compare_modules(&graph, &kept, &run, &model);
-            compare_symbols(&kept, &run, model.symbols.len());
-            compare_live(&graph, &kept, &run, &model);
-            let lines = |lines: &[lizdakk::Line]| lines.iter().map(|line| line.numbers()).collect::<Vec<_>>();
-            let expected =
-                |lines: &[peer::reference::drain::Line]| lines.iter().map(|line| line.numbers()).collect::<Vec<_>>();
-            assert_eq!(lines(&kept.lines()[..run.lines.len()]), expected(&run.lines), "seed {seed}");
-            assert_eq!(lines(kept.runtime_lines()), expected(&run.runtime_lines), "seed {seed}");
-            let starts = own_starts_here(&graph).expect("it was accepted");
-            assert_eq!(
-                starts.iter().map(|start| start.numbers()).collect::<Vec<_>>(),
-                Starts::of(&model).facts.iter().map(|start| start.parts()).collect::<Vec<_>>()
-            );
-            assert_eq!(judge_here(&graph, &starts, &kept.record()), Ok(()), "seed {seed}");
-        }
+        both(seed).iter().for_each(|(graph, model)| decided(graph, model, seed));
         4
+    });
+}
+
+#[test]
+fn decided_alike_with_dead_imports_at_the_end() {
+    for_seeds("runs with dead imports at their end", seeds::cases(CASES) / 4, |seed| {
+        let (graph, model) = read(late_graph(&mut Random::new(seed)), seed);
+        assert!(graph.options.dead_imports_at_end);
+        decided(&graph, &model, seed);
+        1
     });
 }
 

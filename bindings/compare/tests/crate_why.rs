@@ -9,6 +9,7 @@ use lizdakk::{
     decide_here, Asked, Cause, Fact, Graph, HelperUse, ImportKind, Kept, Lacks, Line, Origin, Rule, Statement, Step,
     Why,
 };
+use peer::generate::late::late_graph;
 use peer::generate::runs::{import_graph, run_graph, small_run_graph};
 use peer::generate::{self, Random};
 use peer::reference::entries::{entry_starts, user_defined_starts};
@@ -16,6 +17,7 @@ use peer::reference::rules::Rules;
 use peer::reference::run::Run;
 use seeds::for_seeds;
 use std::collections::HashMap;
+use std::sync::Mutex;
 
 const CASES: u64 = 20_000;
 
@@ -174,13 +176,19 @@ impl<'g> Case<'g> {
             };
             assert!(self.is_dynamic(entry) && !self.kept.is_live(entry));
             let unused = self.graph[self.graph[entry].module].dynamic_imports_use_no_export;
+            let at_end = self.graph.options.dead_imports_at_end;
             for (related, lacks) in why_not.related() {
                 let kept = self.kept.is_statement_kept(related.statement);
                 match lacks {
                     Lacks::Reach => assert!(related.is_unreachable),
                     Lacks::Inclusion => assert!(!kept),
-                    Lacks::Notice => assert!(kept && unused && self.kept.is_dead(related.record)),
-                    Lacks::Time => assert!(kept && !related.is_unreachable),
+                    // At the end, a live entry may have the import too, or a try would now find this one live.
+                    Lacks::Notice => assert!(kept && unused && (at_end || self.kept.is_dead(related.record))),
+                    Lacks::Time => {
+                        assert!(kept && !related.is_unreachable);
+                        let told = why_not.to_string().contains(", and its import() is not dead");
+                        assert!(if at_end { told || self.kept.is_dead(related.record) } else { !told });
+                    }
                     other => panic!("{other:?}"),
                 }
                 lacking[*lacks as usize] += 1;
@@ -191,6 +199,12 @@ impl<'g> Case<'g> {
     }
 }
 
+fn read(model: &peer::model::Graph) -> Graph {
+    let numbers = model.numbers().into_iter();
+    let bytes = numbers.flat_map(|number| generate::padded(number.into(), generate::shortest_width(number.into())));
+    Graph::read_here(&bytes.collect::<Vec<u8>>()).expect("a good graph")
+}
+
 /// All chains of a run are sound, and all dead entries are explained.
 #[test]
 fn explained() {
@@ -198,10 +212,7 @@ fn explained() {
         let mut random = Random::new(seed);
         let models = [run_graph(&mut random), small_run_graph(&mut random), import_graph(&mut random)];
         for model in models {
-            let numbers = model.numbers().into_iter();
-            let bytes =
-                numbers.flat_map(|number| generate::padded(number.into(), generate::shortest_width(number.into())));
-            let graph = Graph::read_here(&bytes.collect::<Vec<u8>>()).expect("a good graph");
+            let graph = read(&model);
             let case = Case::new(&graph, &model);
             assert_eq!(case.model.modules.len(), graph.modules().count());
             case.ask_all();
@@ -209,6 +220,25 @@ fn explained() {
         }
         3
     });
+}
+
+/// So are they with dead imports at the end, where those of entries that came too late are not dead.
+#[test]
+fn explained_with_dead_imports_at_the_end() {
+    let lacking = Mutex::new([0; 4]);
+    let cases = seeds::cases(CASES) / 4;
+    for_seeds("explained runs with dead imports at their end", cases, |seed| {
+        let model = late_graph(&mut Random::new(seed));
+        let graph = read(&model);
+        let case = Case::new(&graph, &model);
+        case.ask_all();
+        let found = case.ask_why_not();
+        lacking.lock().expect("no test has failed").iter_mut().zip(found).for_each(|(all, count)| *all += count);
+        1
+    });
+    let lacking = lacking.into_inner().expect("no test has failed");
+    println!("lacks {lacking:?}");
+    assert!(cases < 1_000 || lacking.iter().all(|&count| count > 0), "{lacking:?}");
 }
 
 /// The generated runs have every origin and every lack, so that the checks above are not empty.
@@ -219,10 +249,7 @@ fn every_origin_and_lack_occurs() {
         for seed in 1..=6_000 {
             let mut random = Random::new(seed);
             let model = if seed % 2 == 0 { run_graph(&mut random) } else { small_run_graph(&mut random) };
-            let numbers = model.numbers().into_iter();
-            let bytes =
-                numbers.flat_map(|number| generate::padded(number.into(), generate::shortest_width(number.into())));
-            let graph = Graph::read_here(&bytes.collect::<Vec<u8>>()).expect("a good graph");
+            let graph = read(&model);
             let case = Case::new(&graph, &model);
             case.ask_why_not().into_iter().zip(&mut lacking).for_each(|(count, all)| *all += count);
             for line in case.kept.lines().iter().filter(|line| line.rule == Rule::Start) {

@@ -1,9 +1,11 @@
 //! The reference of the run by itself: its lines, order and rows against sets and definitions, how often each step occurs
 //! in the generated graphs, and cases made by hand.
 
+use peer::generate::late::late_graph;
 use peer::generate::runs::{import_graph, run_graph, small_run_graph};
 use peer::generate::{self, Random, Size, PRINTED};
-use peer::happenings::{happenings, ALL};
+use peer::happenings::at_end::{at_end, AT_END};
+use peer::happenings::{happenings, Happenings, ALL};
 use peer::listing::{first_records, is_set};
 use peer::model::{Entry, Graph, Module, Record, Reference, Statement, Symbol};
 use peer::reference::check;
@@ -13,6 +15,7 @@ use peer::reference::dynamic_entries::{sorted, OrderingGraph};
 use peer::reference::entries::parted;
 use peer::reference::leb128;
 use peer::reference::rows::{Answer, MarkLayout};
+use peer::reference::rules::option::DEAD_IMPORTS_AT_END;
 use peer::reference::rules::{Fact, Rules};
 use peer::reference::run::{self, Run};
 use peer::reference::run_by_sets::{order, run_by_sets, Decided};
@@ -38,7 +41,7 @@ fn printed_case() {
 fn generated_graphs_are_accepted() {
     for seed in 1..=CASES {
         let mut random = Random::new(seed);
-        for graph in [run_graph(&mut random), small_run_graph(&mut random)] {
+        for graph in [run_graph(&mut random), small_run_graph(&mut random), late_graph(&mut random)] {
             assert_eq!(check(&graph.numbers()), Ok(()), "seed {seed}, {graph:?}");
         }
     }
@@ -47,12 +50,29 @@ fn generated_graphs_are_accepted() {
 /// Every step of a run occurs in the generated graphs.
 #[test]
 fn every_step_is_generated() {
+    every_name_occurs(&ALL, |seed| {
+        let graph = run_graph(&mut Random::new(seed));
+        happenings(&graph, &Run::of(&graph))
+    });
+}
+
+/// So does all that tells dead imports at the end of a run from those of its rounds.
+#[test]
+fn every_step_at_the_end_is_generated() {
+    every_name_occurs(&AT_END, |seed| {
+        let late = late_graph(&mut Random::new(seed));
+        let graph = Graph { options: late.options & !DEAD_IMPORTS_AT_END, ..late.clone() };
+        at_end(&late, &Run::of(&graph), &Run::of(&late))
+    });
+}
+
+/// Each of the names happens often enough.
+fn every_name_occurs(names: &[&'static str], happen: impl Fn(u64) -> Happenings) {
     /// Of a thousand runs, at least so many.
     const LEAST: u64 = 5;
-    let mut counts: BTreeMap<&str, u64> = ALL.iter().map(|&name| (name, 0)).collect();
+    let mut counts: BTreeMap<&str, u64> = names.iter().map(|&name| (name, 0)).collect();
     for seed in 1..=CASES {
-        let graph = run_graph(&mut Random::new(seed));
-        for name in happenings(&graph, &Run::of(&graph)) {
+        for name in happen(seed) {
             *counts.entry(name).or_default() += 1;
         }
     }
@@ -144,16 +164,27 @@ fn runs_decide_what_sets_decide() {
     for seed in 1..=CASES {
         let mut random = Random::new(seed);
         let graph = if seed % 2 == 0 { small_run_graph(&mut random) } else { run_graph(&mut random) };
-        if graph.numbers().len() > 600 {
-            continue;
-        }
-        let run = Run::of(&graph);
-        let expected = run_by_sets(&graph);
-        assert_eq!(decided(&graph, &run), expected, "seed {seed}, {graph:?}");
-        check_rows(&graph, &run, &expected);
-        assert_eq!(run.lines, drain::lines(&Rules::new(&graph), &run.starts), "seed {seed}, {graph:?}");
-        check_starts(&graph, &expected);
+        decides_what_sets_decide(&graph, seed);
     }
+}
+
+#[test]
+fn runs_with_dead_imports_at_their_end_decide_what_sets_decide() {
+    for seed in 1..=CASES {
+        decides_what_sets_decide(&late_graph(&mut Random::new(seed)), seed);
+    }
+}
+
+fn decides_what_sets_decide(graph: &Graph, seed: u64) {
+    if graph.numbers().len() > 600 {
+        return;
+    }
+    let run = Run::of(graph);
+    let expected = run_by_sets(graph);
+    assert_eq!(decided(graph, &run), expected, "seed {seed}, {graph:?}");
+    check_rows(graph, &run, &expected);
+    assert_eq!(run.lines, drain::lines(&Rules::new(graph), &run.starts), "seed {seed}, {graph:?}");
+    check_starts(graph, &expected);
 }
 
 /// What is started, as lists: by user-defined entry, by taken bailout, by live module.
@@ -889,7 +920,7 @@ fn no_entry_no_fact() {
 #[test]
 fn listings_that_are_refused() {
     assert_eq!(run::listing(&[]), "refused 4\n");
-    assert_eq!(run::listing(&[64]), "refused 3\n");
+    assert_eq!(run::listing(&[128]), "refused 3\n");
     let mut graph = modules(1);
     graph.modules[0].statements = vec![Statement { bits: 1, ..Statement::default() }; 1_023];
     user_defined(&mut graph, 0);

@@ -8,10 +8,11 @@ mod seeds;
 use compare::{library, RunBuffers};
 use lizdakk::with_stack;
 use peer::generate::counted::{at_edges, graph_of};
+use peer::generate::late::late_graph;
 use peer::generate::runs::{import_graph, run_graph, small_run_graph, sparse};
 use peer::generate::{self, Random, Size, PRINTED};
 use peer::listing::is_set;
-use peer::loads::{self, LOADS};
+use peer::loads::{self, LOADS, LOADS_AT_END};
 use peer::model::Graph;
 use peer::reference::drain::LINE;
 use peer::reference::run::{self, Run};
@@ -168,6 +169,17 @@ fn random_graphs() {
     });
 }
 
+/// Dead imports at the end of a run.
+#[test]
+fn late_graphs() {
+    for_seeds("late graphs", cases() / 5, |seed| {
+        let mut random = Random::new(seed);
+        let graph = late_graph(&mut random);
+        Case::new(graph.numbers(), "late", seed).compare_rooms(&mut random, seed as usize % ROWS);
+        1
+    });
+}
+
 /// Graphs as the tests of the drain have them, with more rules than entries.
 #[test]
 fn graphs_of_many_rules() {
@@ -305,7 +317,7 @@ fn edges_of_sizes() {
 fn loads_of_the_benchmark() {
     with_stack(|| {
         let mut random = Random::new(1);
-        for load in &LOADS {
+        for load in LOADS.iter().chain(&LOADS_AT_END) {
             Case::new(load.graph().numbers(), load.name, 0).compare_rooms(&mut random, RECORD);
         }
         let most_rounds = loads::rounds(1_024);

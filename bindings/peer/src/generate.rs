@@ -1,6 +1,7 @@
 //! Random graphs that are accepted, random damage to them, and random files of numbers. All follows from a seed.
 
 pub mod counted;
+pub mod late;
 pub mod records;
 pub mod runs;
 
@@ -600,7 +601,7 @@ fn same_field(random: &mut Random, graph: &Encoded, place: usize) -> u32 {
 
 /// Numbers that look like a graph for a while: a good header, then small numbers.
 pub fn noise(random: &mut Random) -> Vec<u32> {
-    let mut numbers = vec![random.below(64), random.below(2)];
+    let mut numbers = vec![random.below(128), random.below(2)];
     numbers.extend((0..3).map(|_| random.between(1, 3)));
     numbers.extend([random.below(3), 0]);
     let largest = random.between(1, 3);

@@ -1,5 +1,7 @@
 //! What happens in a run, by name: so that tests can count how often each step occurs, and cases can show all of them.
 
+pub mod at_end;
+
 use crate::listing::{first_records, is_set};
 use crate::model::{Entry, Graph, Module};
 use crate::reference::drain::Line;
@@ -101,6 +103,12 @@ struct Found<'a> {
     graph: &'a Graph,
     run: &'a Run,
     names: RefCell<Happenings>,
+}
+
+/// Whether the import of a related statement is pure and its module has no effects.
+fn is_pure(rules: &Rules, row: &[u32; 4]) -> bool {
+    let record = &rules.module(row[0]).records[row[2] as usize];
+    record.bits & 2 != 0 && !rules.effectful(record.target - 1)
 }
 
 fn facts(lines: &[Line]) -> HashSet<Fact> {
@@ -254,16 +262,12 @@ impl<'a> Found<'a> {
     fn related(&self, rules: &Rules) {
         let kept = facts(&self.run.lines);
         let is_kept = |row: &[u32; 4]| kept.contains(&Fact::Statement(row[0], row[1]));
-        let is_pure = |row: &[u32; 4]| {
-            let record = &rules.module(row[0]).records[row[2] as usize];
-            record.bits & 2 != 0 && !rules.effectful(record.target - 1)
-        };
         let some = |entry: &Entry, is: &dyn Fn(&[u32; 4]) -> bool| entry.related.iter().any(is);
         let of_dead =
             |is: &dyn Fn(&[u32; 4]) -> bool| self.dynamic().any(|(_, entry)| !self.is_live(entry) && some(entry, is));
         let unreachable = of_dead(&|row| row[3] == 1 && is_kept(row));
         self.note("a related statement that is unreachable though kept", unreachable);
-        let unused = of_dead(&|row| row[3] == 0 && is_kept(row) && is_pure(row));
+        let unused = of_dead(&|row| row[3] == 0 && is_kept(row) && is_pure(rules, row));
         self.note("a related statement that is kept but of a pure import with no export used", unused);
         let cycled = self.dynamic().any(|(_, entry)| {
             self.run.course.on_cycle[entry.module as usize] && !some(entry, &|row| row[3] == 0 && is_kept(row))

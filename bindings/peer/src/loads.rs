@@ -5,6 +5,7 @@ mod drawn;
 use crate::generate::{shuffle, Random, PRINTED};
 use crate::model::{Entry, Graph, Module, Record, Reference, Statement, Symbol};
 use crate::reference::decode::decode;
+use crate::reference::rules::option::DEAD_IMPORTS_AT_END;
 pub use drawn::{drawn, Draws};
 
 const DYNAMIC_IMPORT: u32 = 2;
@@ -31,6 +32,18 @@ pub const LOADS: [Load; 11] = [
     load("drawn17", "17 modules, drawn from seed 0", || drawn(0, 17)),
     load("unkept129", "129 modules, nothing kept", || unkept(129)),
 ];
+
+/// Main loads with dynamic entries once more, with the dead imports at the end of the run: what that costs. The Rust
+/// has no such option.
+pub const LOADS_AT_END: [Load; 3] = [
+    load("bundle1000_at_end", "1,000 modules, dead imports at the end", || at_end(bundle(1_000))),
+    load("bundle100_at_end", "100 modules, dead imports at the end", || at_end(bundle(100))),
+    load("rounds300_at_end", "300 rounds, dead imports at the end", || at_end(rounds(300))),
+];
+
+fn at_end(graph: Graph) -> Graph {
+    Graph { options: graph.options | DEAD_IMPORTS_AT_END, ..graph }
+}
 
 /// The main loads: there is a share of the Rust's time that is asked on each, and a count of instructions.
 pub fn main_loads() -> &'static [Load] {

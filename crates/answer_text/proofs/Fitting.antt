@@ -14,7 +14,8 @@ use Rattle.answer_rows.specs.declared.Row.the-variants.{Modules, Statements, Us
 use Rattle.answer_rows.specs.Shown.{rowBytes}
 use Rattle.answer_rows.proofs.Fitting.{fits as six-fit}
 use Rattle.tree_shaking.specs.Rounds.{finalEntries}
-use Rattle.run_rows.specs.Run.{Run, runOf, recordCount, entriesRow}
+use Rattle.dead_records.specs.Dead.{recordCount}
+use Rattle.run_rows.specs.Run.{Run, runOf, entriesRow}
 use Rattle.run_parts.specs.Operation.{Rows, roomsOf, enough, Outcome, done, rowAfter, deadAfter, helpersAfter, entriesAfter}
 use Rattle.run_parts.proofs.Ending.{fits}
 use Rattle.listing.specs.Listing.{shown, Fits, listingOf}

@@ -27,7 +27,8 @@ use Rattle.answer_rows.specs.Shown.{bytesOf}
 use Rattle.drain_parts.specs.Operation as drain
 use Rattle.passes.specs.Helpers.{helperWord}
 use Rattle.tree_shaking.specs.Rounds.{finalEntries}
-use Rattle.run_rows.specs.Run.{runOf, recordCount, isDeadRecord, deadRow, helpersRow, entriesRow}
+use Rattle.dead_records.specs.Dead.{recordCount, deadRecord, deadRow}
+use Rattle.run_rows.specs.Run.{runOf, helpersRow, entriesRow}
 use Rattle.run_parts.specs.Operation as run
 use Rattle.judge_parts.specs.declared.Judged.the-variants.{Passed}
 use Rattle.judge_parts.specs.Operation.{judgeOf}
@@ -36,6 +37,7 @@ use Rattle.closed_choices.specs.Choice.{HasLine}
 use Rattle.closed_choices.specs.Operation.{DrainShows}
 use Rattle.closed_choices.proofs.Showing.{bytes-long, rows-show}
 use Rattle.closed_choices.proofs.OfOperation.{drain-shows}
+use Rattle.run_choices.proofs.OfDead.{every-dead-at-end}
 use Rattle.run_choices.proofs.OfRuns.{run-spares}
 use Rattle.rust_effects.proofs.SameVerdicts.{rust-effects}
 use Rattle.rust_run.proofs.Boundary.{run-shows-rust}
@@ -51,7 +53,7 @@ use Rattle.answers.specs.declared.DrainAnswer.{DrainAnswer}
 use Rattle.answers.specs.declared.ReadAnswer.{ReadAnswer}
 use Rattle.answers.specs.declared.Refusal.{Refusal}
 use Rattle.answers.specs.Answers.{readAnswerOf, judgeAnswerOf}
-use Rattle.host_answers.specs.Answered.{rowOfRun, rowOfDrain, DrainAnswers, EveryRead, EveryCheck, EveryEffects, EveryRun, EveryRunReturns, EveryRunSpare, EveryJudge, EveryDrainJudged, EveryRunJudged, EveryStartsJudged, EveryDrain}
+use Rattle.host_answers.specs.Answered.{rowOfRun, rowOfDrain, DrainAnswers, EveryRead, EveryCheck, EveryEffects, EveryRun, EveryRunReturns, EveryRunDeadAtEnd, EveryRunSpare, EveryJudge, EveryDrainJudged, EveryRunJudged, EveryStartsJudged, EveryDrain}
 use Rattle.host_answers.proofs.GraphFaults.{check-faults}
 use Rattle.host_answers.proofs.Refusals.{reads-of, effects-in, judges-of}
 use Rattle.host_answers.proofs.NotRefused.{read-whole, accepted-exactly, effects-passed, passed-exactly}
@@ -121,6 +123,13 @@ run-call-returns numbers a lent after k z n ch =
     let r = returns-and-agrees numbers (run-kept numbers a lent after k z .accepted) n ch in
     (r .0, r .1, r .2, run-call numbers a lent after k z (r .0) (r .1))
 
+pub run-call-dead-at-end : EveryRunDeadAtEnd
+run-call-dead-at-end numbers a lent after k z on =
+    let g = graphIn numbers in
+    let w = run-kept numbers a lent after k z in
+    let e = subst (λ (o : run.Outcome). run.Ends o (run.answered (run.outcomeOf numbers (run.roomsOf lent))) lent after) (w .is-done) (k .leaves) in
+    rw (e .dead-are) (every-dead-at-end numbers (run.roomsOf lent) g (runOf g) (w .is-done) on (lent .dead))
+
 -- Records --------------------------------------------------------------------------------------------------------------------------------
 
 -- the number 0 from a record that is passed
@@ -185,9 +194,10 @@ starts-judged numbers a lent after k z b lent′ after′ j y =
 -- Rows -----------------------------------------------------------------------------------------------------------------------------------
 
 -- the rows of a run that are no rows of bits by fact
-behind-dead : (g : Graph) (dead : ℕ → Bool) (lent : List ℕ) → drop (bytesFor (recordCount g)) (deadRow g dead lent) ≡ drop (bytesFor (recordCount g)) lent
+behind-dead : (g : Graph) (main : List Line) (live dead : ℕ → Bool) (lent : List ℕ) → drop (bytesFor (recordCount g)) (deadRow g main live dead lent) ≡ drop (bytesFor (recordCount g)) lent
 unfolding deadRow
-behind-dead g dead lent = drop-at (bytesOf (isDeadRecord g dead) (bytesFor (recordCount g))) _ (bytesFor (recordCount g)) (bytes-long (isDeadRecord g dead) (bytesFor (recordCount g)))
+behind-dead g main live dead lent =
+    drop-at (bytesOf (deadRecord g main live dead) (bytesFor (recordCount g))) _ (bytesFor (recordCount g)) (bytes-long (deadRecord g main live dead) (bytesFor (recordCount g)))
 
 behind-helpers : (g : Graph) (main : List Line) (lent : List ℕ) → drop (g .header .modules) (helpersRow g main lent) ≡ drop (g .header .modules) lent
 unfolding helpersRow
@@ -209,7 +219,7 @@ run-call-spare numbers a lent after k z =
       spare-dead = λ j l h. rw (e .dead-are) (s .spare-dead (lent .dead) j l h);
       spare-marks = λ j l. rw (e .marks-are) (s .spare-marks (lent .marks) j l);
       behind = λ row. rw (row-of-run e row) (rows-show g row (run.linesFor row (runOf g)) (rowOfRun row lent) .behind);
-      behind-dead = rw (e .dead-are) (behind-dead g (runOf g .dead) (lent .dead));
+      behind-dead = rw (e .dead-are) (behind-dead g (runOf g .main) (runOf g .live) (runOf g .dead) (lent .dead));
       behind-helpers = rw (e .helpers-are) (behind-helpers g (runOf g .main) (lent .helpers));
       behind-entries = rw (e .entries-are) (behind-entries g (runOf g .live) (lent .entries) (a .entries) (w .entries-are));
     }

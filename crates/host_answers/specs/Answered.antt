@@ -3,7 +3,7 @@
 use Prim.Native.Nat.{ℕ, _*_, _<_, _≤_}
 use mathlib.Core.Path.{_≡_}
 use mathlib.Core.Logic.{_↔_}
-use mathlib.Core.Bool.{false}
+use mathlib.Core.Bool.{true, false}
 use mathlib.Core.List.{List}
 use lib.ListN.{length, take, drop}
 use Rattle.bit_row.specs.Row.{bitAt, bytesFor}
@@ -18,7 +18,10 @@ use Rattle.answer_rows.specs.declared.Row.{Row}
 use Rattle.answer_rows.specs.declared.Row.the-variants.{Modules, Statements, Used, External, Json, NamespaceReason}
 use Rattle.answer_rows.specs.Shown.{rowBytes}
 use Rattle.drain_parts.specs.Operation.{Rows}
-use Rattle.run_rows.specs.Run.{recordCount}
+use Rattle.graph_access.specs.Words.{option}
+use Rattle.dead_records.specs.Dead.{recordCount}
+use Rattle.run_rows.specs.Run.{runOf}
+use Rattle.run_choices.specs.DeadAtEnd.{DeadAtEnd}
 use Rattle.run_parts.specs.Operation.{Rows as RunRows}
 use Rattle.judge_parts.specs.Operation.{judgeOf}
 use Rattle.run_starts.specs.Operation.{Rows as StartsRows}
@@ -72,6 +75,13 @@ EveryRunReturns =
     (numbers : List ℕ) (a : RunAnswer) (lent after : RunRows) → KeepRun numbers a lent after → a .number ≡ 0
     → (Circle (graphIn numbers) → ⊥) → (ch : Choosing (graphIn numbers))
     → (o : Outcome) × (r : Returns (graphIn numbers) o) × Follows (graphIn numbers) ch o r × RowsAgree (graphIn numbers) o (a .rounds) (a .entries) after
+
+-- With options bit 6 the dead bits that `keep_run` gives are those of the end, so that no import of an entry that comes alive is dropped; without it they
+-- are the Rust's, above.
+abbrev pub EveryRunDeadAtEnd : Type 0
+EveryRunDeadAtEnd =
+    (numbers : List ℕ) (a : RunAnswer) (lent after : RunRows) → KeepRun numbers a lent after → a .number ≡ 0
+    → option (graphIn numbers) 6 ≡ true → DeadAtEnd (graphIn numbers) (runOf (graphIn numbers)) (after .dead)
 
 -- In the rows of a run nothing else is set: a bit that stands for nothing is 0, and behind its answer a row is as lent.
 abbrev pub rowOfRun : Row → RunRows → List ℕ

@@ -7,4 +7,7 @@ pub mod ByKind
 pub mod Settled
 pub mod Done
 pub mod Sparing
+pub mod Sorted
+pub mod EachTried
+pub mod OfDead
 pub mod OfRuns

@@ -1,7 +1,7 @@
 -- What a run's rows leave 0: the facts of its lines are good, so they show no spare bit, and a record that is found dead is one of the graph's.
 use Prim.Native.Nat.{ℕ, _+_, _*_, _/_, _%_, _<_, _≤_}
 use mathlib.Core.Path.{_≡_, refl, ap, _∙_, sym, subst}
-use mathlib.Core.Bool.{Bool, true, false, _&&_, false≢true, not-eq-not}
+use mathlib.Core.Bool.{Bool, true, false, not, _&&_, false≢true, not-eq-not}
 use mathlib.Core.Logic.{_⊎_, inl, inr}
 use mathlib.Core.List.{List, [], _∷_, _++_}
 use native.Mathlib.Omega.{arith}
@@ -16,7 +16,7 @@ use Rattle.graph_tables.specs.Tables.{headerIn}
 use Rattle.graph.specs.Check.{Graph, graphIn, checkOf, answerOf}
 use Rattle.graph.specs.Loaded.{Loaded}
 use Rattle.graph_access.specs.Names.{related, relatedModule, relatedImportRecord, unreachable}
-use Rattle.graph_access.specs.Words.{entryOf, tabulate}
+use Rattle.graph_access.specs.Words.{entryOf, option, tabulate}
 use Rattle.graph_access.proofs.Indexes.{related-here}
 use Rattle.facts.specs.declared.Fact.{Fact}
 use Rattle.facts.specs.Facts.{Good, markOf, markCount}
@@ -35,8 +35,9 @@ use Rattle.answer_rows.proofs.Tabulated.{length-tabulate, getD-tabulate}
 use Rattle.dynamic_entries.specs.Alive.{isPure, recordsBefore, deadOf}
 use Rattle.passes.specs.Helpers.{helperUnion, runtimeStarts}
 use Rattle.tree_shaking.specs.Rounds.{mainPart, runtimeStage}
-use Rattle.run_rows.specs.Run.{Run, withRuntime, runOf, recordCount, isDeadRecord, deadRow}
-use Rattle.run_rows.proofs.Numbering.{record-inside}
+use Rattle.dead_records.specs.Dead.{recordCount, isDeadRecord, deadNow, exempted, deadAtEnd, deadRecord, deadRow}
+use Rattle.run_rows.specs.Run.{Run, withRuntime, runOf}
+use Rattle.dead_records.proofs.Numbering.{record-inside}
 use Rattle.run_parts.specs.Operation.{done, linesFor, rowAfter, deadAfter, marksAfter}
 use Rattle.closed_choices.specs.Choice.{HasLine}
 use Rattle.closed_choices.specs.Operation.{Spare}
@@ -59,6 +60,16 @@ bit-before xs rest j l =
 
 pub bit-in-front : (p : ℕ → Bool) (n : ℕ) (rest : List ℕ) (j : ℕ) → j < 8 * n → bitAt (bytesOf p n ++ rest) j ≡ p j
 bit-in-front p n rest j l = bit-before (bytesOf p n) rest j (omega (arith, l, bytes-long p n)) ∙ bit-of-bytes p n j l
+
+-- option 6, by cases
+module _ (g : Graph) (main : List Line) (live dead : ℕ → Bool) (j : ℕ) where
+  pub with-bit : option g 6 ≡ true → deadRecord g main live dead j ≡ deadAtEnd g (has g 0 main) live j
+  unfolding deadRecord
+  with-bit o = rw (o, deadRecord)
+
+  pub without-bit : option g 6 ≡ false → deadRecord g main live dead j ≡ isDeadRecord g dead j
+  unfolding deadRecord
+  without-bit o = rw (o, deadRecord)
 
 -- what a dead try marks are records of the graph
 module _ (g : Graph) (v : List ℕ) where
@@ -111,6 +122,14 @@ module _ {numbers tables : List ℕ} (t : Loaded numbers tables) where
           let z : getD entries (p .0) 0 ≡ p .0 = omega (arith, getD-tabulate (λ (e : ℕ). e) 0 (g .header .entries) (p .0) 0 (omega (arith, p .1, n))) in
           let q = both (dead (p .0)) (elem j (deadOf g v (related (entryOf g (p .0))))) (subst (λ e. test e ≡ true) z (p .2)) in
           omega (arith, l, dead-inside g v (related (entryOf g (p .0))) (every-by (λ row. recordsBefore (g .modules) (relatedModule row) + relatedImportRecord row < recordCount g) (related (entryOf g (p .0))) [] (inside (p .0) h)) j (q .1))
+
+  no-spare-record : (main : List Line) (live dead : ℕ → Bool) (j : ℕ) → recordCount g ≤ j → deadRecord g main live dead j ≡ false
+  unfolding deadAtEnd
+  no-spare-record main live dead j l = go (option g 6) refl
+    where
+      go : (b : Bool) → option g 6 ≡ b → deadRecord g main live dead j ≡ false
+      go true o = with-bit g main live dead j o ∙ ap (λ b. b && not (exempted g (has g 0 main) live j)) (no-spare-dead (deadNow g (has g 0 main) live) j l)
+      go false o = without-bit g main live dead j o ∙ no-spare-dead dead j l
 
   targets : (s : ℕ) → s < g .header .symbols → targetOf g s < g .header .symbols
   unfolding graphIn
@@ -179,6 +198,6 @@ module _ (numbers : List ℕ) (accepted : answerOf (checkOf numbers) ≡ Accepte
   spares =
       record {
         spare-bits = λ row lent j l s. spare-zero (tables .holds) (linesFor row (runOf G)) (rows-good row) row lent j l s;
-        spare-dead = λ lent j l u. bit-in-front (isDeadRecord G (runOf G .dead)) (bytesFor (recordCount G)) _ j u ∙ no-spare-dead (tables .holds) (runOf G .dead) j l;
+        spare-dead = λ lent j l u. bit-in-front (deadRecord G (runOf G .main) (runOf G .live) (runOf G .dead)) (bytesFor (recordCount G)) _ j u ∙ no-spare-record (tables .holds) (runOf G .main) (runOf G .live) (runOf G .dead) j l;
         spare-marks = λ lent j l. marks-end (tables .holds) (runOf G .lines) all-good (length (runOf G .main)) lent j l;
       }

@@ -1,2 +1,5 @@
--- The main definitions of `Operation`: `EveryRunKeeps`, `EnoughRuns`, `EveryRunSpares`.
+-- The main definitions of each file.
+-- `Operation`: `EveryRunKeeps`, `EnoughRuns`, `EveryRunSpares`.
+-- `DeadAtEnd`: `EveryDeadAtEnd`, `DeadAsMarked`.
 pub mod Operation
+pub mod DeadAtEnd

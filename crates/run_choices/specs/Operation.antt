@@ -17,7 +17,8 @@ use Rattle.dynamic_entries.specs.Sorted.{onCycle}
 use Rattle.tree_shaking.specs.Own.{runStarts}
 use Rattle.answer_rows.specs.declared.Row.{Row}
 use Rattle.answer_rows.specs.Shown.{rowBytes}
-use Rattle.run_rows.specs.Run.{Run, recordCount}
+use Rattle.dead_records.specs.Dead.{recordCount}
+use Rattle.run_rows.specs.Run.{Run}
 use Rattle.run_parts.specs.Operation.{Rooms, done, enough, outcomeOf, marksAfter, rowAfter, deadAfter}
 use Rattle.closed_choices.specs.Choice.{Smallest, HasLine}
 use Rattle.closed_choices.specs.Operation.{Spare}

@@ -16,11 +16,11 @@ use Rattle.determine_side_effects.proofs.Lists.{both}
 use Rattle.entry_order.specs.Plan.{planSize}
 use Rattle.answer_rows.specs.Shown.{rowsEnough}
 use Rattle.answer_rows.specs.Together.{SixRows, sixRows, lengthsOf}
-use Rattle.run_rows.specs.Run.{recordCount}
+use Rattle.dead_records.specs.Dead.{recordCount}
 use Rattle.run_parts.specs.declared.Ran.{Ran}
 use Rattle.run_parts.specs.declared.Ran.the-variants.{Refused as Stopped}
 use Rattle.run_parts.specs.Operation.{Rows, roomsOf, Outcome, before, enough, answered, marksAfter, recordAfter, rowAfter, deadAfter, helpersAfter, entriesAfter, Ends}
-use Rattle.run_parts.specs.Parts.{RowsFit}
+use Rattle.run_parts.specs.Parts.{ScratchFits, RowsFit}
 
 -- the rows that a drain has too
 abbrev pub sixOf : Rows → SixRows
@@ -52,11 +52,8 @@ module _ (numbers : List ℕ) (h : Header) (e : h ≡ headerIn numbers) (n : ℕ
       let j : h .symbols ≡ headerIn numbers .symbols = ap (λ w. w .symbols) e in
       omega (arith, i, j, l)
 
-  pub chain-fits : h .modules + h .entries ≤ n → headerIn numbers .modules + headerIn numbers .entries ≤ n
-  chain-fits l =
-      let i : h .modules ≡ headerIn numbers .modules = ap (λ w. w .modules) e in
-      let j : h .entries ≡ headerIn numbers .entries = ap (λ w. w .entries) e in
-      omega (arith, i, j, l)
+  pub scratch-fits : ScratchFits h n → ScratchFits (headerIn numbers) n
+  scratch-fits s = rw e at s
 
   pub plan-fits : planSize h ≤ n → planSize (headerIn numbers) ≤ n
   plan-fits l =

@@ -16,7 +16,8 @@ use Rattle.answer_rows.specs.declared.Lengths.{Lengths as SixLengths}
 use Rattle.answer_rows.specs.Shown.{rowsEnough}
 use Rattle.answer_rows.specs.Tabled.{FirstBytes}
 use Rattle.rule_tables.proofs.Readying.{by-refusal, by-graph}
-use Rattle.run_rows.specs.Run.{runOf, recordCount}
+use Rattle.dead_records.specs.Dead.{recordCount}
+use Rattle.run_rows.specs.Run.{runOf}
 use Rattle.run_parts.specs.declared.Lengths.{Lengths}
 use Rattle.run_parts.specs.Operation.{Rooms, before, worked, enough, outcomeIn, outcomeOf}
 use Rattle.run_parts.specs.Parts.{roomFor, MayBegin}

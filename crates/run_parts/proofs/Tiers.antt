@@ -6,11 +6,14 @@ use lib.ListN.{length, getD, replicate, length-replicate}
 use Rattle.tables.proofs.Zeros.{zeros-everywhere}
 use Rattle.graph_format.specs.declared.Header.{Header}
 use Rattle.entry_order.specs.Plan.{planSize}
+use Rattle.run_parts.specs.Parts.{ScratchFits}
 
--- zeros for its partners
-pub partners-long : (h : Header) (m y n : ℕ) → 3 * m + y ≤ n → h .modules ≤ m → h .symbols ≤ y → h .entries ≤ m
-    → (3 * h .modules + h .symbols ≤ length (replicate {A = ℕ} n 0)) × (h .modules + h .entries ≤ length (replicate {A = ℕ} n 0)) × ((i : ℕ) → getD (replicate {A = ℕ} n 0) i 0 ≡ 0)
-partners-long h m y n b p q r = let l = length-replicate {A = ℕ} n 0 in (omega (arith, l, b, p, q), omega (arith, l, b, p, r), zeros-everywhere n)
+-- zeros for its partners, which are scratch words afterwards
+pub partners-long : (h : Header) (m y n : ℕ) → 3 * m + y ≤ n → h .modules ≤ m → h .symbols ≤ y → h .statements ≤ y → h .entries ≤ m
+    → (3 * h .modules + h .symbols ≤ length (replicate {A = ℕ} n 0)) × ScratchFits h (length (replicate {A = ℕ} n 0)) × ((i : ℕ) → getD (replicate {A = ℕ} n 0) i 0 ≡ 0)
+partners-long h m y n b p q t r =
+    let l = length-replicate {A = ℕ} n 0 in
+    (omega (arith, l, b, p, q), record { chain = omega (arith, l, b, p, r); kept = omega (arith, l, b, p, t) }, zeros-everywhere n)
 
 -- zeros for its plan
 pub plan-long : (h : Header) (m n : ℕ) → 5 * m ≤ n → n < 4294967296 → h .modules ≤ m → h .entries ≤ m

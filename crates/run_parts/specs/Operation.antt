@@ -19,7 +19,8 @@ use Rattle.tree_shaking.specs.Rounds.{finalEntries}
 use Rattle.run_parts.specs.declared.Totals.{Totals}
 use Rattle.run_parts.specs.declared.Ran.{Ran}
 use Rattle.run_parts.specs.declared.Ran.the-variants.{Done, Refused}
-use Rattle.run_rows.specs.Run.{Run, runOf, recordCount, deadRow, helpersRow, entriesRow}
+use Rattle.dead_records.specs.Dead.{recordCount, deadRow}
+use Rattle.run_rows.specs.Run.{Run, runOf, helpersRow, entriesRow}
 
 -- the eleven lent rows
 pub record Rows : Type 0 where
@@ -150,7 +151,7 @@ rowAfter row (done g r) lent = shownRow g row (linesFor row r) lent
 unfoldable pub deadAfter : Outcome → List ℕ → List ℕ
 deadAfter (before n p) lent = lent
 deadAfter short lent = lent
-deadAfter (done g r) lent = deadRow g (r .dead) lent
+deadAfter (done g r) lent = deadRow g (r .main) (r .live) (r .dead) lent
 
 unfoldable pub helpersAfter : Outcome → List ℕ → List ℕ
 helpersAfter (before n p) lent = lent

@@ -5,6 +5,7 @@ use mathlib.Core.Bool.{Bool, true}
 use mathlib.Core.List.{List}
 use lib.ListN.{length, getD, replicate}
 use Rattle.bit_row.specs.Row.{bytesFor}
+use Rattle.graph_format.specs.declared.Header.{Header}
 use Rattle.graph.specs.declared.Checked.{Checked}
 use Rattle.graph.specs.declared.Checked.the-variants.{Accepted, Refused}
 use Rattle.graph.specs.Check.{Graph, graphIn}
@@ -20,7 +21,8 @@ use Rattle.tree_shaking.specs.declared.Reached.{Reached}
 use Rattle.tree_shaking.specs.declared.Work.{Work}
 use Rattle.tree_shaking.specs.declared.Work.the-variants.{Done, Full}
 use Rattle.tree_shaking.specs.Rounds.{finalEntries}
-use Rattle.run_rows.specs.Run.{Run, runOf, recordCount, deadRow, helpersRow, entriesRow}
+use Rattle.dead_records.specs.Dead.{recordCount, deadRow}
+use Rattle.run_rows.specs.Run.{Run, runOf, helpersRow, entriesRow}
 use Rattle.run_parts.specs.declared.Lengths.{Lengths}
 use Rattle.run_parts.specs.declared.Part.{Part}
 use Rattle.run_parts.specs.declared.Part.the-variants.{Whole, Main}
@@ -95,10 +97,17 @@ pub record WorkEnds (g : Graph) (part : Part) (marks₀ row₀ marks row plan : 
   pub holds : (x : Reached) → r ≡ Done x → Holds g part marks row plan x
   pub too-long : r ≡ Full → (length row₀ < 6 * length (linesOfPart part (runOf g))) × (marks ≡ replicate (length marks₀) 0) × (row ≡ replicate (length row₀) 0)
 
--- what the rows that only a run has are shown from
-pub record Shows (g : Graph) (plan : List ℕ) (users : ℕ) : Type 0 where
-  pub leaves : Leaves g plan users
+-- what the rows that only a run has are shown from: marks and lines of both stages, the plan and the helper words
+pub record Shows (g : Graph) (plan marks row : List ℕ) (x : Reached) : Type 0 where
+  pub main-lines : linesOf (x .main) row ≡ runOf g .main
+  pub held : Held g (x .main) marks row (x .total)
+  pub leaves : Leaves g plan (x .users)
   pub words : HasWords g plan
+
+-- so many words of a scratch row are enough for it: one for each module and each entry, and one for each module and each statement
+pub record ScratchFits (h : Header) (scratch : ℕ) : Type 0 where
+  pub chain : h .modules + h .entries ≤ scratch
+  pub kept : h .modules + h .statements ≤ scratch
 
 -- they are long enough
 pub record RowsFit (g : Graph) (dead helpers entries : ℕ) : Type 0 where
@@ -108,7 +117,7 @@ pub record RowsFit (g : Graph) (dead helpers entries : ℕ) : Type 0 where
 
 -- they are shown, and so many entries are final
 pub record RunShown (g : Graph) (dead₀ helpers₀ entries₀ dead helpers entries : List ℕ) (r : ℕ) : Type 0 where
-  pub dead-shown : dead ≡ deadRow g (runOf g .dead) dead₀
+  pub dead-shown : dead ≡ deadRow g (runOf g .main) (runOf g .live) (runOf g .dead) dead₀
   pub helpers-shown : helpers ≡ helpersRow g (runOf g .main) helpers₀
   pub entries-shown : entries ≡ entriesRow g (runOf g .live) entries₀
   pub counted : r ≡ length (finalEntries g (runOf g .live))

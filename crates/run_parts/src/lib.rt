@@ -1,9 +1,8 @@
 // The run's parts: whether it may begin, its work, what only a run shows, and all in their order.
 // Whether it may begin is told from the lengths of the lent rows, without the rows. No answer row is written before the last refusal is excluded.
 ghost use mathlib.Core.Path.{_≡_};
-ghost use Prim.Native.Nat.{ℕ, _+_, _*_, _-_, _<_, _≤_};
-ghost use mathlib.Core.Bool.{Bool, true, false};
-ghost use lib.ListN.{length, getD, replicate};
+ghost use Prim.Native.Nat.{ℕ, _-_, _<_, _≤_};
+ghost use lib.ListN.{length, getD};
 ghost use Rattle.bit_row.specs.Row.{bytesFor};
 ghost use Rattle.tables.specs.Layout.{startOf, allSections};
 ghost use Rattle.graph_tables.specs.Tables.{headerIn};
@@ -16,7 +15,7 @@ ghost use Rattle.answer_rows.specs.Tabled.{FirstBytes};
 ghost use Rattle.entry_order.specs.Plan.{planSize};
 ghost use Rattle.entry_starts.specs.Working.{Working};
 ghost use Rattle.run_parts.specs.Operation.{rows as rowsOf, enough, Runs};
-ghost use Rattle.run_parts.specs.Parts.{roomFor, MayBegin, StagesEnd, WorkEnds, Shows, RowsFit, RunShown};
+ghost use Rattle.run_parts.specs.Parts.{roomFor, MayBegin, StagesEnd, WorkEnds, Shows, ScratchFits, RowsFit, RunShown};
 use graph::Checked;
 use graph_format::Header;
 use keep_record::Added;
@@ -77,7 +76,7 @@ fn are_enough(numbers: &[u32], tables: &[usize], l: Lengths) -> bool
     if !answer_rows::are_long_enough(numbers, tables, six) {
         return false;
     }
-    if l.dead < bit_row::bytes_for(run_rows::record_count(numbers, tables)) {
+    if l.dead < bit_row::bytes_for(dead_records::record_count(numbers, tables)) {
         return false;
     }
     if l.helpers < h.modules {
@@ -173,25 +172,37 @@ pub fn work(
 }
 
 // Writes the rows that only a run has: dead bits, helper words, final entries. The plan's order is used up, and `scratch`, which has a word for each
-// module and each entry. Gives how many final entries there are.
+// module and each entry, and for each module and each statement. Gives how many final entries there are.
 fn show_run(
     numbers: &[u32],
     tables: &[usize],
+    marks: &[u8],
+    lines: &[u32],
     plan: &mut [usize],
-    users: usize,
+    x: Reached,
     scratch: &mut [usize],
     dead: &mut [u8],
     helpers: &mut [u32],
     entries: &mut [u32],
 ) -> usize
     requires { ⌜ Prepared (now numbers) (now tables) ⌝ }
-    requires { ⌜ Shows (graphIn (now numbers)) (now plan) users ⌝ }
-    requires { ⌜ (headerIn (now numbers) .modules + headerIn (now numbers) .entries ≤ length (now scratch)) × RowsFit (graphIn (now numbers)) (length (now dead)) (length (now helpers)) (length (now entries)) ⌝ }
+    requires { ⌜ Shows (graphIn (now numbers)) (now plan) (now marks) (now lines) x ⌝ }
+    requires { ⌜ ScratchFits (headerIn (now numbers)) (length (now scratch)) × RowsFit (graphIn (now numbers)) (length (now dead)) (length (now helpers)) (length (now entries)) ⌝ }
     ensures { λ r. ⌜ RunShown (graphIn (now (numbers .entry))) (now (dead .entry)) (now (helpers .entry)) (now (entries .entry)) (now (dead .exit)) (now (helpers .exit)) (now (entries .exit)) r ⌝ }
 {
-    run_rows::show_dead(numbers, tables, plan, scratch, dead);
+    dead_records::show_dead(
+        numbers,
+        tables,
+        plan,
+        marks,
+        lines,
+        x.main,
+        x.total,
+        scratch,
+        dead,
+    );
     run_rows::show_helpers(numbers, plan, helpers);
-    run_rows::show_entries(numbers, tables, plan, users, scratch, entries)
+    run_rows::show_entries(numbers, tables, plan, x.users, scratch, entries)
 }
 
 // The run with tables, partners and a plan that hold the graph. Partners and plan are cleared.
@@ -215,7 +226,7 @@ pub fn run_in(
 ) -> Ran
     requires { ⌜ HeaderRead (now numbers) h ⌝ }
     requires { ⌜ (startOf h allSections ≤ length (now tables)) × (length (now tables) < 4294967296) ⌝ }
-    requires { ⌜ (partnersSize h ≤ length (now partners)) × (h .modules + h .entries ≤ length (now partners)) × ((i : ℕ) → getD (now partners) i 0 ≡ 0) ⌝ }
+    requires { ⌜ (partnersSize h ≤ length (now partners)) × ScratchFits h (length (now partners)) × ((i : ℕ) → getD (now partners) i 0 ≡ 0) ⌝ }
     requires { ⌜ (planSize h ≤ length (now plan)) × (length (now plan) < 4294967296) × ((i : ℕ) → getD (now plan) i 0 ≡ 0) ⌝ }
     ensures { λ r. ⌜ Runs (now (numbers .entry)) r (rowsOf (now (marks .entry)) (now (lines .entry)) (now («modules_row» .entry)) (now («statements_row» .entry)) (now (used .entry)) (now (external .entry)) (now (json .entry)) (now (reason .entry)) (now (dead .entry)) (now (helpers .entry)) (now (entries .entry))) (rowsOf (now (marks .exit)) (now (lines .exit)) (now («modules_row» .exit)) (now («statements_row» .exit)) (now (used .exit)) (now (external .exit)) (now (json .exit)) (now (reason .exit)) (now (dead .exit)) (now (helpers .exit)) (now (entries .exit))) ⌝ }
 {
@@ -260,8 +271,10 @@ pub fn run_in(
                 let count = show_run(
                     numbers,
                     tables,
+                    marks,
+                    lines,
                     plan,
-                    x.users,
+                    x,
                     partners,
                     dead,
                     helpers,

@@ -1,3 +1,2 @@
-pub mod Numbering
-pub mod Dying
+pub mod Writing
 pub mod Keeping

@@ -1,2 +1,2 @@
--- The main definitions of `Run`: `runOf`, `deadRow`, `helpersRow`, `entriesRow`.
+-- The main definitions of `Run`: `runOf`, `helpersRow`, `entriesRow`.
 pub mod Run

@@ -1,113 +1,25 @@
-// The answer rows that a run has beside those of a drain: dead import records, helper words, final entries.
+// Answer rows that a run has beside those of a drain: helper words and final entries. Dead import records have a crate of their own.
 ghost use mathlib.Core.Path.{_≡_};
-ghost use Prim.Native.Nat.{ℕ, _+_, _*_, _<_, _≤_};
+ghost use Prim.Native.Nat.{ℕ, _+_, _<_, _≤_};
 ghost use mathlib.Core.Bool.{_||_, _&&_};
 ghost use lib.Dec.{ltb};
-ghost use mathlib.Core.List.{List, [], _∷_, _++_};
+ghost use mathlib.Core.List.{_++_};
 ghost use lib.ListN.{length, getD, take, drop};
-ghost use Rattle.bit_row.specs.Row.{bitAt, bytesFor};
 ghost use Rattle.graph_tables.specs.Tables.{headerIn};
 ghost use Rattle.graph.specs.Check.{graphIn};
 ghost use Rattle.graph.specs.Loaded.{Loaded};
-ghost use Rattle.graph_access.specs.Names.{related};
-ghost use Rattle.graph_access.specs.Words.{entryOf, tabulate};
-ghost use Rattle.determine_side_effects.specs.Effects.{lastVerdicts};
-ghost use Rattle.keep_rules.specs.Prepared.{Prepared};
-ghost use Rattle.keep_record.specs.Lines.{elem};
+ghost use Rattle.graph_access.specs.Words.{tabulate};
 ghost use Rattle.entry_order.specs.Order.{grouped, moduleOfEntry};
 ghost use Rattle.entry_order.specs.Chains.{Entries};
-ghost use Rattle.entry_order.specs.Plan.{liveIn, deadIn, wordsAt, planSize};
-ghost use Rattle.dynamic_entries.specs.Alive.{recordsBefore, deadOf};
+ghost use Rattle.entry_order.specs.Plan.{liveIn, wordsAt, planSize};
 ghost use Rattle.dynamic_entries.specs.Tries.{Planned};
 ghost use Rattle.tree_shaking.specs.Rounds.{finalEntries};
-ghost use Rattle.run_rows.specs.Run.{recordCount, deadRow, entriesRow};
+ghost use Rattle.run_rows.specs.Run.{entriesRow};
 use graph_access::entries;
-use graph_access::modules;
 use index::EntryIdx;
-use index::ModuleIdx;
 
 // The bit of the options that turns splitting off.
 const SPLITTING_OFF: usize = 5;
-
-// How many import records all modules have.
-pub fn record_count(numbers: &[u32], tables: &[usize]) -> usize
-    requires { ⌜ Loaded (now numbers) (now tables) ⌝ }
-    ensures { λ r. ⌜ (r ≡ recordCount (graphIn (now (numbers .entry)))) × (r ≤ 16777216) ⌝ }
-{
-    let h = graph::header_of(numbers);
-    let mut total: usize = 0;
-    let mut m: usize = 0;
-    while m < h.modules {
-        total += modules::import_record_count(numbers, tables, ModuleIdx(m));
-        m += 1;
-    }
-    total
-}
-
-// Fills the first words of a row with the number of each module's first import record among all.
-fn fill_first_records(numbers: &[u32], tables: &[usize], firsts: &mut [usize])
-    requires { ⌜ Loaded (now numbers) (now tables) ⌝ }
-    requires { ⌜ headerIn (now numbers) .modules ≤ length (now firsts) ⌝ }
-    ensures { λ _. ⌜ ((m : ℕ) → m < headerIn (now (numbers .entry)) .modules → getD (now (firsts .exit)) m 0 ≡ recordsBefore (graphIn (now (numbers .entry)) .modules) m) ⌝ }
-{
-    let h = graph::header_of(numbers);
-    let mut total: usize = 0;
-    let mut m: usize = 0;
-    while m < h.modules {
-        firsts[m] = total;
-        total += modules::import_record_count(numbers, tables, ModuleIdx(m));
-        m += 1;
-    }
-}
-
-// Sets the bits of the import records that a try which finds entry e dead marks.
-fn show_dead_of(numbers: &[u32], tables: &[usize], firsts: &[usize], e: EntryIdx, bits: &mut [u8])
-    requires { ⌜ Prepared (now numbers) (now tables) ⌝ }
-    requires { ⌜ (e .0 < headerIn (now numbers) .entries) × (recordCount (graphIn (now numbers)) ≤ 8 * length (now bits)) ⌝ }
-    requires { ⌜ (headerIn (now numbers) .modules ≤ length (now firsts)) × ((m : ℕ) → m < headerIn (now numbers) .modules → getD (now firsts) m 0 ≡ recordsBefore (graphIn (now numbers) .modules) m) ⌝ }
-    ensures { λ _. ⌜ ((j : ℕ) → bitAt (now (bits .exit)) j ≡ (elem j (deadOf (graphIn (now (numbers .entry))) (lastVerdicts (graphIn (now (numbers .entry)))) (related (entryOf (graphIn (now (numbers .entry))) (e .0)))) || bitAt (now (bits .entry)) j)) ⌝ }
-{
-    let related = entries::related_count(numbers, tables, e);
-    let mut k: usize = 0;
-    while k < related {
-        let r = entries::related_statement(numbers, tables, e, k);
-        if r.unreachable == 0 {
-            if entry_liveness::is_pure(numbers, tables, e, k) {
-                let m = r.module;
-                let i = r.import_record;
-                let first = m.0;
-                bit_row::set(bits, firsts[first] + i.0);
-            }
-        }
-        k += 1;
-    }
-}
-
-// Writes the row of dead import records: those that the entries which were found dead mark.
-pub fn show_dead(
-    numbers: &[u32],
-    tables: &[usize],
-    plan: &[usize],
-    firsts: &mut [usize],
-    bits: &mut [u8],
-)
-    requires { ⌜ Prepared (now numbers) (now tables) ⌝ }
-    requires { ⌜ (planSize (headerIn (now numbers)) ≤ length (now plan)) × (headerIn (now numbers) .modules ≤ length (now firsts)) × (bytesFor (recordCount (graphIn (now numbers))) ≤ length (now bits)) ⌝ }
-    ensures { λ _. ⌜ now (bits .exit) ≡ deadRow (graphIn (now (numbers .entry))) (deadIn (headerIn (now (numbers .entry))) (now (plan .entry))) (now (bits .entry)) ⌝ }
-{
-    let h = graph::header_of(numbers);
-    let records = record_count(numbers, tables);
-    bit_row::clear(bits, bit_row::bytes_for(records));
-    fill_first_records(numbers, tables, firsts);
-    let dead = entry_order::dead_at(h);
-    let mut e: usize = 0;
-    while e < h.entries {
-        if plan[dead + e] == 1 {
-            show_dead_of(numbers, tables, firsts, EntryIdx(e), bits);
-        }
-        e += 1;
-    }
-}
 
 // Writes the row of helper words, from the plan.
 pub fn show_helpers(numbers: &[u32], plan: &[usize], words: &mut [u32])

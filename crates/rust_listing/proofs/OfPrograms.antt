@@ -10,20 +10,22 @@ use lib.Dec.{ltb}
 use lib.ListN.{length}
 use Rattle.leb128.specs.Read.{all, readOf}
 use Rattle.graph.specs.Check.{Graph, graphIn}
+use Rattle.graph_access.specs.Words.{option}
 use Rattle.run_rows.specs.Run.{Run, runOf}
 use Rattle.run_parts.specs.Operation.{short, done, worked, outcomeOf}
 use Rattle.run_choices.proofs.Done.{outcome-work, outcome-accepted}
 use Rattle.listing.specs.Listing.{listingOf, refusedText}
 use Rattle.answer_text.specs.Program.{programRooms, shownOf, outcomeText, decodedText, fileText}
+use Rattle.rust_values.specs.Values.{hasPair}
 use Rattle.rust_run.proofs.Level.{loaded}
 use Rattle.rust_run.specs.IncludeStatements.{Outcome, Returns}
 use Rattle.rust_returns.proofs.OnCircles.{returns-and-agrees}
-use Rattle.rust_listing.specs.Listing.{rustListing}
-use Rattle.rust_listing.specs.Operation.{Graphs, ReadsOrRefusesOne, FiveForLinesOnly, KeepListsRust, KeepListsRustUnlessCircles}
+use Rattle.rust_listing.specs.Listing.{deadLines, listingBefore, rustListing}
+use Rattle.rust_listing.specs.Operation.{deadImport, Graphs, ReadsOrRefusesOne, FiveForLinesOnly, KeepListsRust, KeepListsRustButDead, KeepListsRustUnlessCircles}
 use Rattle.rust_listing.proofs.Reading.{Numbered, RefusedOne, read-numbered, numbers-few}
 use Rattle.rust_listing.proofs.Rooms.{rooms-suffice}
 use Rattle.rust_listing.proofs.Same.{listing-same}
-use Rattle.rust_listing.proofs.Showing.{shows-rust}
+use Rattle.rust_listing.proofs.Showing.{shows-rust, dead-rust, dead-run}
 
 -- every file that is short enough is read, or refused 1
 pub reads-or-refuses-one : ReadsOrRefusesOne
@@ -68,18 +70,28 @@ module _ (file numbers : List ℕ) (k : Graphs file numbers) where
   unfolding worked
   is-done l = is-worked ∙ rw (le-ltb 6144 (6 * length (runOf g .lines)) (omega (arith, l)), worked)
 
-  listed : length (runOf g .lines) ≤ 1024 → (o : Outcome) → Returns g o → fileText file ≡ rustListing g o
+  listed : length (runOf g .lines) ≤ 1024 → option g 6 ≡ false → (o : Outcome) → Returns g o → fileText file ≡ rustListing g o
+  unfolding outcomeText rustListing
+  listed l off o x =
+      file-read ∙ ap outcomeText (is-done l)
+      ∙ listing-same g o (shownOf g (runOf g)) (shows-rust numbers (k .accepted) o x (is-done l)) (λ m i. hasPair m i (o .dead)) (dead-rust numbers (k .accepted) o x (is-done l) off)
+
+  listed-but-dead : length (runOf g .lines) ≤ 1024 → (o : Outcome) → Returns g o → fileText file ≡ listingBefore g o (deadLines g (deadImport g (runOf g)))
   unfolding outcomeText
-  listed l o x =
-      file-read ∙ ap outcomeText (is-done l) ∙ listing-same g o (shownOf g (runOf g)) (shows-rust numbers (k .accepted) o x (is-done l))
+  listed-but-dead l o x =
+      file-read ∙ ap outcomeText (is-done l)
+      ∙ listing-same g o (shownOf g (runOf g)) (shows-rust numbers (k .accepted) o x (is-done l)) (deadImport g (runOf g)) (dead-run g (runOf g))
 
 pub five-for-lines-only : FiveForLinesOnly
 five-for-lines-only file numbers k = file-read file numbers k ∙ ap outcomeText (is-worked file numbers k) ∙ worked-text (graphIn numbers) (runOf (graphIn numbers))
 
 pub keep-lists-rust : KeepListsRust
-keep-lists-rust file numbers k l o x = listed file numbers k l o x
+keep-lists-rust file numbers k l off o x = listed file numbers k l off o x
+
+pub keep-lists-rust-but-dead : KeepListsRustButDead
+keep-lists-rust-but-dead file numbers k l o x = listed-but-dead file numbers k l o x
 
 pub keep-lists-rust-unless-circles : KeepListsRustUnlessCircles
-keep-lists-rust-unless-circles file numbers k l none ch =
+keep-lists-rust-unless-circles file numbers k l off none ch =
     let z = returns-and-agrees numbers (k .accepted) none ch in
-    (z .0, z .1, z .2, listed file numbers k l (z .0) (z .1))
+    (z .0, z .1, z .2, listed file numbers k l off (z .0) (z .1))

@@ -20,7 +20,7 @@ use Rattle.graph_access.proofs.Fixed.{Columns, AllColumns}
 use Rattle.graph_access.proofs.OfItems.{module-columns}
 use Rattle.graph_access.proofs.Indexes.{helper-there}
 use Rattle.dynamic_entries.specs.Alive.{recordsBefore}
-use Rattle.run_rows.specs.Run.{recordCount}
+use Rattle.dead_records.specs.Dead.{recordCount}
 
 -- from `at` to `q`, over at least n numbers
 record Went (numbers : List ℕ) (n at q : ℕ) : Type 0 where

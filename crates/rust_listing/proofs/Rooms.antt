@@ -22,7 +22,7 @@ use Rattle.graph_access.proofs.StatementNumbers.{all-long}
 use Rattle.facts.specs.Facts.{markCount}
 use Rattle.answer_rows.specs.Shown.{bytesBefore, rowBytes, rowsEnough}
 use Rattle.answer_rows.proofs.FirstBytes.{before-step}
-use Rattle.run_rows.specs.Run.{recordCount}
+use Rattle.dead_records.specs.Dead.{recordCount}
 use Rattle.run_parts.specs.Operation.{enough}
 use Rattle.answer_text.specs.Program.{programRooms}
 use Rattle.rust_engine.proofs.Demanding.{and-true}

@@ -1,7 +1,7 @@
 -- The listing of an answer whose rows show what the Rust has is the Rust's listing.
 use Prim.Native.Nat.{ℕ, _+_, _*_, _<_}
 use mathlib.Core.Path.{_≡_, ap, _∙_}
-use mathlib.Core.Bool.{_&&_}
+use mathlib.Core.Bool.{Bool, _&&_}
 use mathlib.Core.List.{List, [], _∷_, _++_}
 use lib.Dec.{eqb}
 use lib.ListN.{length, getD, take}
@@ -16,7 +16,7 @@ use Rattle.listing.specs.Text.{line, onlyIf}
 use Rattle.listing.specs.Listing.{Shown, roundsWord, moduleWord, statementWord, usedWord, externalWord, jsonWord, deadWord, moduleText, statementText, symbolText, jsonText, deadText, listingOf}
 use Rattle.rust_values.specs.Values.{hasPair}
 use Rattle.rust_run.specs.IncludeStatements.{Outcome}
-use Rattle.rust_listing.specs.Listing.{reasonNumber, moduleLine, statementLine, symbolLine, jsonLine, deadLine, rustListing}
+use Rattle.rust_listing.specs.Listing.{reasonNumber, moduleLine, statementLine, symbolLine, jsonLine, deadLine, deadLines, listingBefore}
 use Rattle.rust_listing.proofs.Texts.{texts-same, rows-same, only-same, value-same, entries-same}
 
 -- each line's condition and numbers, by the rows and by the Rust
@@ -32,7 +32,6 @@ pub record Shows (g : Graph) (o : Outcome) (a : Shown) : Type 0 where
   pub used-bits : (s : ℕ) → s < g .header .symbols → bitAt (a .used) s ≡ elem s (o .context .used)
   pub external-bits : (s : ℕ) → s < g .header .symbols → bitAt (a .external) s ≡ elem s (o .context .external)
   pub json-bits : (m s : ℕ) → m < g .header .modules → s < g .header .symbols → (bitAt (a .json) s && eqb (owner (symbolOf g s)) m) ≡ hasPair m s (o .main .json)
-  pub dead-bits : (m k : ℕ) → m < g .header .modules → k < length (importRecords (moduleOf g m)) → bitAt (a .dead) (recordsBefore (g .modules) m + k) ≡ hasPair m k (o .dead)
 
 -- the five numbers of a module's line
 numbers-same : (g : Graph) (m a b c d x y z w : ℕ) → a ≡ x → b ≡ y → c ≡ z → d ≡ w
@@ -62,20 +61,21 @@ module _ (g : Graph) (o : Outcome) (a : Shown) (s : Shows g o a) where
   unfolding jsonText jsonLine
   json-same m k l u = only-same _ _ (line jsonWord (m ∷ k ∷ [])) (s .json-bits m k l u)
 
-  dead-same : (m k : ℕ) → m < g .header .modules → k < length (importRecords (moduleOf g m)) → deadText g a m k ≡ deadLine o m k
-  unfolding deadText deadLine
-  dead-same m k l u = only-same _ _ (line deadWord (m ∷ k ∷ [])) (s .dead-bits m k l u)
+  module _ (dead : ℕ → ℕ → Bool) (bits : (m k : ℕ) → m < g .header .modules → k < length (importRecords (moduleOf g m)) → bitAt (a .dead) (recordsBefore (g .modules) m + k) ≡ dead m k) where
+    dead-same : (m k : ℕ) → m < g .header .modules → k < length (importRecords (moduleOf g m)) → deadText g a m k ≡ deadLine dead m k
+    unfolding deadText deadLine
+    dead-same m k l u = only-same _ _ (line deadWord (m ∷ k ∷ [])) (bits m k l u)
 
-  pub listing-same : listingOf g a ≡ rustListing g o
-  unfolding listingOf rustListing
-  listing-same =
-      let n = g .header .modules in
-      let rounds : line roundsWord (a .rounds ∷ []) ≡ line roundsWord (o .rounds ∷ []) = ap (λ k. line roundsWord (k ∷ [])) (s .rounds-are) in
-      let entries = entries-same g a (o .entries) (s .count-is) (s .entries-are) in
-      let modules = texts-same (moduleText g a) (moduleLine g o) n module-same in
-      let statements = rows-same (statementText g a) (statementLine o) (λ m. length (statementList g m)) n statement-same in
-      let used = texts-same (symbolText usedWord (a .used)) (symbolLine usedWord (o .context .used)) (g .header .symbols) used-same in
-      let external = texts-same (symbolText externalWord (a .external)) (symbolLine externalWord (o .context .external)) (g .header .symbols) external-same in
-      let json = rows-same (jsonText g a) (jsonLine o) (λ m. g .header .symbols) n json-same in
-      let dead = rows-same (deadText g a) (deadLine o) (λ m. length (importRecords (moduleOf g m))) n dead-same in
-      λ i. rounds i ++ (entries i ++ (modules i ++ (statements i ++ (used i ++ (external i ++ (json i ++ dead i))))))
+    pub listing-same : listingOf g a ≡ listingBefore g o (deadLines g dead)
+    unfolding listingOf listingBefore deadLines
+    listing-same =
+        let n = g .header .modules in
+        let rounds : line roundsWord (a .rounds ∷ []) ≡ line roundsWord (o .rounds ∷ []) = ap (λ k. line roundsWord (k ∷ [])) (s .rounds-are) in
+        let entries = entries-same g a (o .entries) (s .count-is) (s .entries-are) in
+        let modules = texts-same (moduleText g a) (moduleLine g o) n module-same in
+        let statements = rows-same (statementText g a) (statementLine o) (λ m. length (statementList g m)) n statement-same in
+        let used = texts-same (symbolText usedWord (a .used)) (symbolLine usedWord (o .context .used)) (g .header .symbols) used-same in
+        let external = texts-same (symbolText externalWord (a .external)) (symbolLine externalWord (o .context .external)) (g .header .symbols) external-same in
+        let json = rows-same (jsonText g a) (jsonLine o) (λ m. g .header .symbols) n json-same in
+        let texts = rows-same (deadText g a) (deadLine dead) (λ m. length (importRecords (moduleOf g m))) n dead-same in
+        λ i. rounds i ++ (entries i ++ (modules i ++ (statements i ++ (used i ++ (external i ++ (json i ++ texts i))))))

@@ -2,26 +2,29 @@
 use Prim.Native.Nat.{ℕ, _+_, _*_, _<_}
 use mathlib.Core.Path.{_≡_, refl, ap, _∙_, sym, subst}
 use mathlib.Core.Logic.{_↔_}
-use mathlib.Core.Bool.{Bool, true, _&&_}
+use mathlib.Core.Bool.{Bool, true, false, _&&_}
 use mathlib.Core.List.{List}
 use borrow.Author.Tests.{eqb-true, eq-eqb}
 use lib.Dec.{eqb}
-use lib.ListN.{length, getD}
+use lib.ListN.{length, getD, replicate}
 use Rattle.bit_row.specs.Row.{bitAt}
 use Rattle.graph.specs.declared.Checked.the-variants.{Accepted}
 use Rattle.graph.specs.Check.{Graph, graphIn, checkOf, answerOf}
-use Rattle.graph_access.specs.Names.{owner}
-use Rattle.graph_access.specs.Words.{symbolOf}
+use Rattle.graph_access.specs.Names.{owner, importRecords}
+use Rattle.graph_access.specs.Words.{option, moduleOf, symbolOf}
 use Rattle.determine_side_effects.specs.Effects.{lastVerdicts}
 use Rattle.determine_side_effects.proofs.Lists.{both}
 use Rattle.keep_record.specs.Lines.{elem}
 use Rattle.answer_rows.specs.declared.Row.the-variants.{Modules, Statements, Used, External, Json, NamespaceReason}
 use Rattle.cycles.proofs.Members.{same-test}
+use Rattle.dynamic_entries.specs.Alive.{recordsBefore}
+use Rattle.dead_records.proofs.Numbering.{record-inside}
 use Rattle.tree_shaking.specs.Rounds.{finalEntries}
 use Rattle.run_rows.specs.Run.{Run, runOf}
 use Rattle.run_parts.specs.declared.Ran.the-variants.{Done}
 use Rattle.run_parts.specs.Operation as operation
 use Rattle.run_parts.specs.Operation.{Rows, rows, roomsOf, outcomeOf, done, totalsOf, answered, marksAfter, recordAfter, rowAfter, deadAfter, helpersAfter, entriesAfter, Ends}
+use Rattle.run_choices.proofs.OfDead.{dead-shown}
 use Rattle.listing.specs.Listing.{Shown}
 use Rattle.answer_text.specs.Program.{programRooms, shownOf}
 use Rattle.answer_text.proofs.Texts.{lentRows, rooms-are}
@@ -34,6 +37,7 @@ use Rattle.rust_run.specs.Boundary.{RowsAgree}
 use Rattle.rust_run.proofs.OfRuns.{rust-agrees}
 use Rattle.rust_run.proofs.Boundary.{run-shows-rust}
 use Rattle.rust_listing.specs.Listing.{oneIf, reasonNumber}
+use Rattle.rust_listing.specs.Operation.{deadImport}
 use Rattle.rust_listing.proofs.Same.{Shows}
 use Rattle.rust_listing.proofs.Reasons.{reason-value}
 
@@ -136,10 +140,22 @@ module _ (numbers : List ℕ) (ok : answerOf (checkOf numbers) ≡ Accepted) (o 
           used-bits = λ s l. member-same _ s (o .context .used) (a .used-bits s l);
           external-bits = λ s l. member-same _ s (o .context .external) (a .external-bits s l);
           json-bits = λ m s l u. owned-same _ (owner (symbolOf g s)) m s (o .main .json) (a .json-bits s u) (λ q. all .json-are m s .0 q .0);
-          dead-bits = λ m k l u. pair-same _ m k (o .dead) (a .dead-bits m k l u);
         }
+
+    dead-with : option g 6 ≡ false → (m k : ℕ) → m < g .header .modules → k < length (importRecords (moduleOf g m)) → bitAt (shownWith g r lent .dead) (recordsBefore (g .modules) m + k) ≡ hasPair m k (o .dead)
+    dead-with off m k l u = pair-same _ m k (o .dead) (agree .dead-bits off m k l u)
 
   -- the program's rows, lent cleared
   pub shows-rust : outcomeOf numbers programRooms ≡ done g r → Shows g o (shownOf g r)
   unfolding shownOf
   shows-rust is = shows-with lentRows (ap (λ room. outcomeOf numbers room) rooms-are ∙ is)
+
+  pub dead-rust : outcomeOf numbers programRooms ≡ done g r → option g 6 ≡ false → (m k : ℕ) → m < g .header .modules → k < length (importRecords (moduleOf g m))
+      → bitAt (shownOf g r .dead) (recordsBefore (g .modules) m + k) ≡ hasPair m k (o .dead)
+  unfolding shownOf
+  dead-rust is off m k l u = dead-with lentRows (ap (λ room. outcomeOf numbers room) rooms-are ∙ is) off m k l u
+
+-- its dead bits, with or without options bit 6
+pub dead-run : (g : Graph) (r : Run) (m k : ℕ) → m < g .header .modules → k < length (importRecords (moduleOf g m)) → bitAt (shownOf g r .dead) (recordsBefore (g .modules) m + k) ≡ deadImport g r m k
+unfolding shownOf deadAfter deadImport
+dead-run g r m k l u = dead-shown g (r .main) (r .live) (r .dead) (replicate 1024 0) (recordsBefore (g .modules) m + k) (record-inside g m k l u)

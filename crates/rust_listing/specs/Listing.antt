@@ -44,17 +44,23 @@ symbolLine word set s = onlyIf (elem s set) (line word (s ∷ []))
 unfoldable pub jsonLine : Outcome → ℕ → ℕ → List ℕ
 jsonLine o m s = onlyIf (hasPair m s (o .main .json)) (line jsonWord (m ∷ s ∷ []))
 
--- `dead MODULE RECORD`
-unfoldable pub deadLine : Outcome → ℕ → ℕ → List ℕ
-deadLine o m k = onlyIf (hasPair m k (o .dead)) (line deadWord (m ∷ k ∷ []))
+-- `dead MODULE RECORD`, for the import records that are dead
+unfoldable pub deadLine : (ℕ → ℕ → Bool) → ℕ → ℕ → List ℕ
+deadLine dead m k = onlyIf (dead m k) (line deadWord (m ∷ k ∷ []))
 
-unfoldable pub rustListing : Graph → Outcome → List ℕ
-rustListing g o =
+unfoldable pub deadLines : Graph → (ℕ → ℕ → Bool) → List ℕ
+deadLines g dead = textOf (λ m. textOf (deadLine dead m) 0 (length (importRecords (moduleOf g m)))) 0 (g .header .modules)
+
+-- all other lines, and those behind them
+unfoldable pub listingBefore : Graph → Outcome → List ℕ → List ℕ
+listingBefore g o dead =
     line roundsWord (o .rounds ∷ [])
     ++ (entryLines g (o .entries)
     ++ (textOf (moduleLine g o) 0 (g .header .modules)
     ++ (textOf (λ m. textOf (statementLine o m) 0 (length (statementList g m))) 0 (g .header .modules)
     ++ (textOf (symbolLine usedWord (o .context .used)) 0 (g .header .symbols)
     ++ (textOf (symbolLine externalWord (o .context .external)) 0 (g .header .symbols)
-    ++ (textOf (λ m. textOf (jsonLine o m) 0 (g .header .symbols)) 0 (g .header .modules)
-    ++ textOf (λ m. textOf (deadLine o m) 0 (length (importRecords (moduleOf g m)))) 0 (g .header .modules)))))))
+    ++ (textOf (λ m. textOf (jsonLine o m) 0 (g .header .symbols)) 0 (g .header .modules) ++ dead))))))
+
+unfoldable pub rustListing : Graph → Outcome → List ℕ
+rustListing g o = listingBefore g o (deadLines g (λ m k. hasPair m k (o .dead)))

@@ -32,7 +32,8 @@ use Rattle.dynamic_entries.specs.Tries.{starting, lives, nowLive, nowDead, trie
 use Rattle.passes.specs.Bailouts.{exportStarts, bailoutStarts, bailoutsStarts}
 use Rattle.passes.specs.Helpers.{hasAll, needsHelper, wordOf, helperWord, helperUnion, runtimeStarts}
 use Rattle.tree_shaking.specs.Rounds.{bailed, round, keptModule, roundsFrom, usersStarts, noOne, begun, mainPart, finalEntries, runtimeStage}
-use Rattle.run_rows.specs.Run.{withRuntime, runOf, recordCount, isDeadRecord, deadRow, helpersRow, entriesRow}
+use Rattle.dead_records.specs.Dead.{recordCount, isDeadRecord, deadRow}
+use Rattle.run_rows.specs.Run.{withRuntime, runOf, helpersRow, entriesRow}
 use Rattle.closed_choices.specs.Choice.{nothingGiven}
 use Rattle.facts.specs.Facts.{useFact}
 use Rattle.closed_choices.specs.Choice.{HasLine}

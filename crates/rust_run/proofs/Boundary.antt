@@ -2,7 +2,7 @@
 use Prim.Native.Nat.{ℕ, _+_, _*_, _<_}
 use mathlib.Core.Path.{_≡_, refl, ap, _∙_, sym, subst}
 use mathlib.Core.Logic.{inl, inr, _↔_}
-use mathlib.Core.Bool.{true}
+use mathlib.Core.Bool.{true, false}
 use mathlib.Core.List.{List}
 use native.Mathlib.Omega.{arith}
 use lib.ListN.{length, getD, take, drop, List·getD-append}
@@ -12,7 +12,7 @@ use Rattle.bit_row.proofs.Size.{bytes-hold}
 use Rattle.graph.specs.declared.Checked.the-variants.{Accepted}
 use Rattle.graph.specs.Check.{Graph, graphIn, checkOf, answerOf}
 use Rattle.graph_access.specs.Names.{owner, importRecords}
-use Rattle.graph_access.specs.Words.{moduleOf, symbolOf, statementList, tabulate}
+use Rattle.graph_access.specs.Words.{option, moduleOf, symbolOf, statementList, tabulate}
 use Rattle.facts.specs.declared.Fact.{Fact}
 use Rattle.facts.specs.Facts.{Good}
 use Rattle.determine_side_effects.specs.Effects.{lastVerdicts}
@@ -26,8 +26,9 @@ use Rattle.answer_rows.proofs.Tabulated.{length-tabulate, getD-tabulate}
 use Rattle.dynamic_entries.specs.Alive.{recordsBefore}
 use Rattle.passes.specs.Helpers.{helperWord, helperUnion, runtimeStarts}
 use Rattle.tree_shaking.specs.Rounds.{mainPart, runtimeStage, finalEntries}
-use Rattle.run_rows.specs.Run.{Run, withRuntime, runOf, recordCount, isDeadRecord, deadRow, helpersRow, entriesRow}
-use Rattle.run_rows.proofs.Numbering.{record-inside}
+use Rattle.dead_records.specs.Dead.{deadRow}
+use Rattle.run_rows.specs.Run.{Run, withRuntime, runOf, helpersRow, entriesRow}
+use Rattle.dead_records.proofs.Numbering.{record-inside}
 use Rattle.run_parts.specs.declared.Totals.{Totals}
 use Rattle.run_parts.specs.declared.Ran.the-variants.{Done, Refused}
 use Rattle.run_parts.specs.Operation as operation
@@ -46,7 +47,8 @@ use Rattle.rust_run.specs.Agreement.{Agrees}
 use Rattle.rust_run.specs.Boundary.{RowsAgree, RunShowsRust}
 use Rattle.rust_run.proofs.Level.{loaded}
 use Rattle.rust_run.proofs.OfRuns.{rust-agrees}
-use Rattle.run_choices.proofs.Sparing.{bit-in-front}
+use Rattle.run_choices.proofs.Sparing.{without-bit}
+use Rattle.run_choices.proofs.OfDead.{dead-shown}
 use Rattle.rust_run.proofs.BoundaryRows.{both-ways, turned, bit-shown, module-shown, statement-shown}
 
 -- The facts of the lines of both stages are good -----------------------------------------------------------------------------------------
@@ -127,13 +129,10 @@ module _ (g : Graph) (r : Run) (o : Outcome) (agrees : Agrees g o r) (lent : Lis
       second (inl q) = absurd (omega (arith, q .0))
       second (inr q) = q .1
 
-  dead-bit : (m k : ℕ) → m < g .header .modules → k < length (importRecords (moduleOf g m))
-      → (bitAt (deadRow g (r .dead) lent) (recordsBefore (g .modules) m + k) ≡ true) ↔ In (pair m k) (o .dead)
-  unfolding deadRow
-  dead-bit m k h l =
-      let j = recordsBefore (g .modules) m + k in
-      let n = bytesFor (recordCount g) in
-      let e = bit-in-front (isDeadRecord g (r .dead)) n (drop n lent) j (omega (arith, record-inside g m k h l, bytes-hold (recordCount g))) in
+  dead-bit : option g 6 ≡ false → (m k : ℕ) → m < g .header .modules → k < length (importRecords (moduleOf g m))
+      → (bitAt (deadRow g (r .main) (r .live) (r .dead) lent) (recordsBefore (g .modules) m + k) ≡ true) ↔ In (pair m k) (o .dead)
+  dead-bit off m k h l =
+      let e = dead-shown g (r .main) (r .live) (r .dead) lent (recordsBefore (g .modules) m + k) (record-inside g m k h l) ∙ without-bit g (r .main) (r .live) (r .dead) (recordsBefore (g .modules) m + k) off in
       both-ways (λ q. sym e ∙ q, λ q. e ∙ q) (agrees .dead-are m k h l)
 
   helper-word : (m : ℕ) → m < g .header .modules → getD (helpersRow g (r .main) lent) m 0 ≡ o .helpers m

@@ -18,7 +18,7 @@ use Rattle.determine_side_effects.specs.Effects.{lastVerdicts}
 use Rattle.determine_side_effects.proofs.Lists.{both, some-found, some-holds, length-tabulate, getD-tabulate}
 use Rattle.keep_record.specs.Lines.{elem}
 use Rattle.dynamic_entries.specs.Alive.{isPure, recordsBefore, deadOf}
-use Rattle.run_rows.specs.Run.{isDeadRecord}
+use Rattle.dead_records.specs.Dead.{isDeadRecord}
 use Rattle.closed_choices.proofs.Every.{Every}
 use Rattle.rust_values.specs.Values.{Pair, pair, In}
 use Rattle.rust_run.proofs.Trying.{deadPairs, pairs-unreachable, pairs-here, pairs-not, RowGood, rows-good, reach-same, pure-same}

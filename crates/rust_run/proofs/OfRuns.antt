@@ -25,7 +25,8 @@ use Rattle.dynamic_entries.specs.Alive.{recordsBefore}
 use Rattle.dynamic_entries.specs.Sorted.{onCycle, sortedEntries}
 use Rattle.passes.specs.Helpers.{helperWord, helperUnion, runtimeStarts}
 use Rattle.tree_shaking.specs.Rounds.{mainPart, runtimeStage}
-use Rattle.run_rows.specs.Run.{Run, withRuntime, runOf, isDeadRecord}
+use Rattle.dead_records.specs.Dead.{isDeadRecord}
+use Rattle.run_rows.specs.Run.{Run, withRuntime, runOf}
 use Rattle.run_parts.specs.Operation.{Rooms, outcomeOf, done}
 use Rattle.closed_choices.specs.Choice.{Choice, HasLine}
 use Rattle.run_choices.proofs.Done.{run-done}

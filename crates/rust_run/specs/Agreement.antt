@@ -17,7 +17,8 @@ use Rattle.closed_choices.specs.Choice.{HasLine}
 use Rattle.dynamic_entries.specs.Alive.{recordsBefore}
 use Rattle.passes.specs.Helpers.{helperWord}
 use Rattle.tree_shaking.specs.Rounds.{finalEntries}
-use Rattle.run_rows.specs.Run.{Run, runOf, isDeadRecord}
+use Rattle.dead_records.specs.Dead.{isDeadRecord}
+use Rattle.run_rows.specs.Run.{Run, runOf}
 use Rattle.run_parts.specs.Operation.{Rooms, outcomeOf, done, enough}
 use Rattle.rust_values.specs.Values.{pair, In}
 use Rattle.rust_engine.specs.EntryPoints.{ShownBy, ReasonBy}

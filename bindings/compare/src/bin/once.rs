@@ -1,11 +1,12 @@
-//! `once LOAD OPERATION` calls an operation of the library on a main load: run, drain, judge or starts. Others are called
-//! only as far as it needs what they write, and none of them twice: what is counted inside its function is of one call.
-//! Without arguments the loads and their operations are listed.
+//! `once LOAD OPERATION` calls an operation of the library on a main load: run, drain, judge or starts; on a load with
+//! dead imports at the end, which no other operation works out, a run. Others are called only as far as it needs what
+//! they write, and none of them twice: what is counted inside its function is of one call. Without arguments the loads
+//! and their operations are listed.
 
 use compare::library::judge;
 use compare::{own_starts, DrainBuffers, RunBuffers};
 use lizdakk::with_stack;
-use peer::loads::main_loads;
+use peer::loads::{main_loads, LOADS_AT_END};
 use peer::{Refusal, Refused};
 use std::process::ExitCode;
 
@@ -29,12 +30,13 @@ fn list() -> Option<()> {
     for load in main_loads() {
         OPERATIONS.iter().for_each(|operation| println!("{} {operation}", load.key));
     }
+    LOADS_AT_END.iter().for_each(|load| println!("{} run", load.key));
     Some(())
 }
 
 /// None if there is no such load or operation.
 fn call_on(key: &str, operation: &str) -> Option<()> {
-    let load = main_loads().iter().find(|load| load.key == key)?;
+    let load = main_loads().iter().chain(&LOADS_AT_END).find(|load| load.key == key)?;
     let numbers = load.graph().numbers();
     with_stack(|| call(&numbers, operation)).expect("a load is a graph")
 }

@@ -228,6 +228,14 @@ pub fn search(rules: &Rules, entry: &Entry, is_kept: impl Fn(Fact) -> bool) -> T
     Try::Dead(dead)
 }
 
+/// Module and record of the imports by which an entry is related to kept statements, as far as they can be reached.
+pub fn kept_imports(entry: &Entry, is_kept: impl Fn(Fact) -> bool) -> Vec<[u32; 2]> {
+    let is_kept = |&&[module, statement, _, unreachable]: &&[u32; 4]| {
+        unreachable == 0 && is_kept(Fact::Statement(module, statement))
+    };
+    entry.related.iter().filter(is_kept).map(|&[module, _, record, _]| [module, record]).collect()
+}
+
 /// Whether an import is pure and its module has no effects.
 fn is_droppable(rules: &Rules, module: u32, record: u32) -> bool {
     let record = &rules.module(module).records[record as usize];

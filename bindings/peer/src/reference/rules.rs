@@ -49,6 +49,7 @@ pub mod option {
     pub const PROPERTY_WRITES_FALSE: u32 = 8;
     pub const DEV_MODE: u32 = 16;
     pub const SPLITTING_OFF: u32 = 32;
+    pub const DEAD_IMPORTS_AT_END: u32 = 64;
 }
 
 /// Bits of a reason.

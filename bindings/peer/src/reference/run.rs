@@ -1,11 +1,11 @@
 //! The run: what the entries of a graph keep, round by round, and what the runtime adds.
 
 use super::drain::{Line, Queue, LINE};
-use super::dynamic_entries::{search, sorted, Sorted, Try};
+use super::dynamic_entries::{kept_imports, search, sorted, Sorted, Try};
 use super::entries::{entry_starts, final_entries, parted, user_defined_starts};
 use super::helpers::{runtime_starts, words};
 use super::rows::{bit_row, set, Answer, MarkLayout};
-use super::rules::{reason, Fact, Rules};
+use super::rules::{option, reason, Fact, Rules};
 use super::{check, decode::decode, read};
 use crate::listing::{first_records, is_set, Listed};
 use crate::model::Graph;
@@ -85,6 +85,10 @@ impl<'a> Main<'a> {
             main.start(user_defined_starts(rules, rules.graph.entries[entry as usize].module));
         }
         main.all_rounds();
+        if rules.has(option::DEAD_IMPORTS_AT_END) {
+            main.dead.fill(0);
+            main.mark_dead(&main.dead_at_end());
+        }
         main
     }
 
@@ -159,6 +163,25 @@ impl<'a> Main<'a> {
         for &[module, record] in imports {
             set(&mut self.dead, self.first_records[module as usize] + record as usize);
         }
+    }
+
+    /// The dead imports as of now, after the last round, whatever the tries of the rounds marked: what a try would now
+    /// mark of the entries whose modules are not live, but for what entries of live modules import by kept statements.
+    fn dead_at_end(&self) -> Vec<[u32; 2]> {
+        let is_kept = |fact| self.queue.has(fact);
+        let (mut dead, mut exempt) = (Vec::new(), HashSet::new());
+        for &index in &self.order.entries {
+            let entry = &self.rules.graph.entries[index as usize];
+            if self.live[entry.module as usize] {
+                exempt.extend(kept_imports(entry, is_kept));
+            } else if !self.order.on_cycle[entry.module as usize] {
+                if let Try::Dead(imports) = search(self.rules, entry, is_kept) {
+                    dead.extend(imports);
+                }
+            }
+        }
+        dead.retain(|import| !exempt.contains(import));
+        dead
     }
 }
 

@@ -46,6 +46,9 @@ pub fn run_by_sets(graph: &Graph) -> Decided {
             break;
         }
     }
+    if graph.options & 64 != 0 {
+        dead = state.dead_at_end(&order, &live);
+    }
     let is_final = |entry: &u32| graph.options & 32 == 0 && live.contains(&graph.entries[*entry as usize].module);
     let lived = order.entries.iter().copied().filter(is_final);
     let entries = by_first_of_module(graph, &user_defined.into_iter().chain(lived).collect::<Vec<u32>>());
@@ -235,6 +238,23 @@ impl State<'_> {
                 dead.extend(rows.map(|row| (row[0], row[2])));
             }
         }
+    }
+
+    /// The dead imports after the last round, by definition: each is asked for by itself.
+    fn dead_at_end(&self, order: &Order, live: &BTreeSet<u32>) -> BTreeSet<(u32, u32)> {
+        let entries = || self.graph.entries.iter().filter(|entry| entry.kind == 2);
+        let is_dead = |entry: &Entry| !order.cycled.contains(&entry.module) && !self.is_live(entry);
+        let is_pure = |row: &[u32; 4]| self.is_dead_pure_import(row);
+        let is_kept = |row: &[u32; 4]| self.facts.contains(&Fact::Statement(row[0], row[1]));
+        let some = |entry: &Entry, import: (u32, u32), is: &dyn Fn(&[u32; 4]) -> bool| {
+            entry.related.iter().any(|row| (row[0], row[2]) == import && row[3] == 0 && is(row))
+        };
+        let marks =
+            |entry: &Entry, import| !live.contains(&entry.module) && is_dead(entry) && some(entry, import, &is_pure);
+        let exempts = |entry: &Entry, import| live.contains(&entry.module) && some(entry, import, &is_kept);
+        let imports = entries().flat_map(|entry| &entry.related).map(|row| (row[0], row[2]));
+        let marked = imports.filter(|&import| entries().any(|entry| marks(entry, import)));
+        marked.filter(|&import| !entries().any(|entry| exempts(entry, import))).collect()
     }
 
     fn is_live(&self, entry: &Entry) -> bool {

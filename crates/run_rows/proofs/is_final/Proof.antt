@@ -2,7 +2,7 @@ use Prim.Native.Nat.{_≤_}
 use native.Mathlib.Omega.{arith}
 use borrow.Author.Tests.{not-true, not-false}
 use Rattle.graph.specs.Check.{graphIn}
-use Rattle.run_rows.proofs.Numbering.{entries-are}
+use Rattle.dead_records.proofs.Numbering.{entries-are}
 use Rattle.run_rows.proofs.Keeping.{final-user, final-off, final-live}
 use Rattle.run_rows.proofs.is_final.Statement.{statement}
 use Rattle.run_rows.proofs.is_final.Tie as tie

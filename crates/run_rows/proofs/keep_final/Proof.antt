@@ -2,7 +2,7 @@ use Rattle.graph.specs.Check.{graphIn}
 use Prim.Native.Nat.{_-_, _<_, _≤_}
 use mathlib.Core.Path.{_∙_}
 use mathlib.Core.Logic.{⊎-elim}
-use Rattle.run_rows.proofs.Numbering.{entries-are}
+use Rattle.dead_records.proofs.Numbering.{entries-are}
 use Rattle.run_rows.proofs.Keeping.{Keeping, keeping-none, keeping-done, keeping-entries, entry-below, keeping-more, keeping-passed, finals-are, splits-is}
 use native.Mathlib.Omega.{arith}
 use Rattle.run_rows.proofs.keep_final.Statement.{statement}

@@ -1,4 +1,5 @@
-use Rattle.run_rows.proofs.Numbering.{modules-are, entries-are, word-at, words-done}
+use Rattle.dead_records.proofs.Numbering.{modules-are, entries-are}
+use Rattle.run_rows.proofs.Writing.{word-at, words-done}
 use Rattle.graph.specs.Check.{graphIn}
 use Rattle.graph_tables.specs.Tables.{headerIn}
 use Prim.Native.Nat.{_+_, _-_, _<_, _≤_}

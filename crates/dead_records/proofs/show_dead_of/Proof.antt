@@ -1,4 +1,4 @@
-use Rattle.run_rows.proofs.Numbering.{records-few}
+use Rattle.dead_records.proofs.Numbering.{records-few}
 use Rattle.graph.specs.Check.{graphIn}
 use Rattle.graph_tables.specs.Tables.{headerIn}
 use Prim.Native.Nat.{_-_, _<_}
@@ -7,11 +7,11 @@ use lib.ListN.{length}
 use Rattle.graph_access.specs.Names.{related}
 use Rattle.graph_access.specs.Words.{entryOf}
 use Rattle.determine_side_effects.specs.Effects.{lastVerdicts}
-use Rattle.run_rows.proofs.Dying.{Marking, marking-none, marking-done, bit-inside, marking-set, marking-unreachable, marking-impure}
+use Rattle.dead_records.proofs.DeadBits.{Marking, marking-none, marking-done, bit-inside, marking-set, marking-unreachable, marking-impure}
 use borrow.Author.Needs.{needs}
 use native.Mathlib.Omega.{arith}
-use Rattle.run_rows.proofs.show_dead_of.Statement.{statement}
-use Rattle.run_rows.proofs.show_dead_of.Tie as tie
+use Rattle.dead_records.proofs.show_dead_of.Statement.{statement}
+use Rattle.dead_records.proofs.show_dead_of.Tie as tie
 
 abbrev Inv-loop : tie.InvT-loop
 Inv-loop numbers tables firsts e bits₀ count k₀ bits k = Marking (graphIn numbers) (lastVerdicts (graphIn numbers)) (related (entryOf (graphIn numbers) (e .0))) bits₀ bits k

@@ -2,7 +2,7 @@
 use Prim.Native.Nat.{ℕ, suc, _+_, _*_, _-_, _<_, _≤_}
 use mathlib.Core.Path.{_≡_, refl, ap, _∙_, sym}
 use mathlib.Core.Bool.{Bool, true, false, _||_, _&&_}
-use mathlib.Core.List.{List, [], _∷_}
+use mathlib.Core.List.{List, [], _∷_, _++_}
 use native.Mathlib.Numerals.{add-one}
 use native.Mathlib.Omega.{arith}
 use borrow.Author.Tests.{eq-eqb, ne-eqb, lt-ltb}
@@ -23,13 +23,14 @@ use Rattle.graph_access.specs.Related.{RelatedHere, RelatedIs}
 use Rattle.graph_access.proofs.Indexes.{related-here}
 use Rattle.determine_side_effects.specs.Effects.{lastVerdicts}
 use Rattle.keep_record.specs.Lines.{elem}
+use Rattle.answer_rows.specs.Shown.{bytesOf}
 use Rattle.answer_rows.proofs.InRow.{Under, under-not}
 use Rattle.answer_rows.proofs.Tabulated.{some-or, some-over, none-passes}
 use Rattle.answer_rows.proofs.Bytes.{row-is}
 use Rattle.entry_order.specs.Plan.{deadAt, isSet, deadIn}
 use Rattle.dynamic_entries.specs.Alive.{isPure, recordsBefore, deadOf}
-use Rattle.run_rows.specs.Run.{recordCount, isDeadRecord, deadRow}
-use Rattle.run_rows.proofs.Numbering.{record-inside}
+use Rattle.dead_records.specs.Dead.{recordCount, isDeadRecord}
+use Rattle.dead_records.proofs.Numbering.{record-inside}
 
 -- a related statement marks its import record, or nothing
 module _ (g : Graph) (v : List ℕ) where
@@ -140,47 +141,45 @@ module _ (numbers plan : List ℕ) (h : Header) (is : h ≡ headerIn numbers) (e
 
 -- whether an entry marks record j, and whether one from number e on does
 module _ (g : Graph) (dead : ℕ → Bool) where
-  unfoldable pub buries : ℕ → ℕ → Bool
-  buries j e = dead e && elem j (deadOf g (lastVerdicts g) (related (entryOf g e)))
+  unfoldable pub shows : ℕ → ℕ → Bool
+  shows j e = dead e && elem j (deadOf g (lastVerdicts g) (related (entryOf g e)))
 
   unfoldable pub left : ℕ → ℕ → Bool
-  left j e = some (buries j) (tabulate (λ x. x) e (g .header .entries - e))
+  left j e = some (shows j) (tabulate (λ x. x) e (g .header .entries - e))
 
   left-all : (j : ℕ) → left j 0 ≡ isDeadRecord g dead j
-  unfolding left buries isDeadRecord
-  left-all j = let z : g .header .entries - 0 ≡ g .header .entries = omega arith in ap (λ n. some (buries j) (tabulate (λ x. x) 0 n)) z
+  unfolding left shows isDeadRecord
+  left-all j = let z : g .header .entries - 0 ≡ g .header .entries = omega arith in ap (λ n. some (shows j) (tabulate (λ x. x) 0 n)) z
 
-  left-next : (j e : ℕ) → e < g .header .entries → left j e ≡ (buries j e || left j (e + 1))
+  left-next : (j e : ℕ) → e < g .header .entries → left j e ≡ (shows j e || left j (e + 1))
   unfolding left
-  left-next j e l = some-or (buries j) (λ x. x) (g .header .entries) e l
+  left-next j e l = some-or (shows j) (λ x. x) (g .header .entries) e l
 
   left-over : (j e : ℕ) → g .header .entries ≤ e → left j e ≡ false
   unfolding left
-  left-over j e l = some-over (buries j) (λ x. x) (g .header .entries) e l
+  left-over j e l = some-over (shows j) (λ x. x) (g .header .entries) e l
 
 -- In the loop over the entries: the bits that are set and those that are left.
-pub record Burying (g : Graph) (dead : ℕ → Bool) (before bits : List ℕ) (e : ℕ) : Type 0 where
+pub record Showing (g : Graph) (dead : ℕ → Bool) (before bits : List ℕ) (e : ℕ) : Type 0 where
   pub same-length : length bits ≡ length before
   pub inside : e ≤ g .header .entries
-  pub small : (i : ℕ) → getD bits i 0 < 256
   pub on : (j : ℕ) → (left g dead j e || bitAt bits j) ≡ (isDeadRecord g dead j || bitAt before j)
 
 module _ (g : Graph) (dead : ℕ → Bool) (before : List ℕ) where
-  pub burying-none : ((i : ℕ) → getD before i 0 < 256) → Burying g dead before before 0
-  burying-none small = record { same-length = refl; inside = omega arith; small = small; on = λ j. ap (λ b. b || bitAt before j) (left-all g dead j) }
+  pub showing-none : Showing g dead before before 0
+  showing-none = record { same-length = refl; inside = omega arith; on = λ j. ap (λ b. b || bitAt before j) (left-all g dead j) }
 
-  pub burying-done : (bits : List ℕ) (e : ℕ) → Burying g dead before bits e → g .header .entries ≤ e → (j : ℕ) → bitAt bits j ≡ (isDeadRecord g dead j || bitAt before j)
-  burying-done bits e b l j = sym (ap (λ x. x || bitAt bits j) (left-over g dead j e l)) ∙ b .on j
+  pub showing-done : (bits : List ℕ) (e : ℕ) → Showing g dead before bits e → g .header .entries ≤ e → (j : ℕ) → bitAt bits j ≡ (isDeadRecord g dead j || bitAt before j)
+  showing-done bits e b l j = sym (ap (λ x. x || bitAt bits j) (left-over g dead j e l)) ∙ b .on j
 
-  module _ (bits : List ℕ) (e : ℕ) (b : Burying g dead before bits e) (l : e < g .header .entries) where
-    pub burying-dead : (set after : List ℕ) → dead e ≡ true → length set ≡ length bits → ((i : ℕ) → getD set i 0 < 256)
-        → ((j : ℕ) → bitAt set j ≡ (elem j (deadOf g (lastVerdicts g) (related (entryOf g e))) || bitAt bits j)) → after ≡ set → Burying g dead before after (e + 1)
-    unfolding buries
-    burying-dead set after d same small to now =
+  module _ (bits : List ℕ) (e : ℕ) (b : Showing g dead before bits e) (l : e < g .header .entries) where
+    pub showing-dead : (set after : List ℕ) → dead e ≡ true → length set ≡ length bits
+        → ((j : ℕ) → bitAt set j ≡ (elem j (deadOf g (lastVerdicts g) (related (entryOf g e))) || bitAt bits j)) → after ≡ set → Showing g dead before after (e + 1)
+    unfolding shows
+    showing-dead set after d same to now =
         record {
           same-length = ap length now ∙ same ∙ b .same-length;
           inside = omega (arith, l);
-          small = λ i. rw now (small i);
           on = λ j.
               let its = elem j (deadOf g (lastVerdicts g) (related (entryOf g e))) in
               let rest = left g dead j (e + 1) in
@@ -188,13 +187,12 @@ module _ (g : Graph) (dead : ℕ → Bool) (before : List ℕ) where
               ∙ ap (λ x. ((x && its) || rest) || bitAt bits j) (sym d) ∙ ap (λ x. x || bitAt bits j) (sym (left-next g dead j e l)) ∙ b .on j;
         }
 
-    pub burying-passed : (after : List ℕ) → dead e ≡ false → after ≡ bits → Burying g dead before after (e + 1)
-    unfolding buries
-    burying-passed after d now =
+    pub showing-passed : (after : List ℕ) → dead e ≡ false → after ≡ bits → Showing g dead before after (e + 1)
+    unfolding shows
+    showing-passed after d now =
         record {
           same-length = ap length now ∙ b .same-length;
           inside = omega (arith, l);
-          small = λ i. rw now (b .small i);
           on = λ j.
               let its = elem j (deadOf g (lastVerdicts g) (related (entryOf g e))) in
               let rest = left g dead j (e + 1) in
@@ -207,9 +205,9 @@ module _ {numbers tables : List ℕ} (t : Loaded numbers tables) (dead : ℕ →
   g = graphIn numbers
 
   -- no bit behind the records
-  dead-inside : (j : ℕ) → 8 * bytesFor (recordCount g) ≤ j → isDeadRecord g dead j ≡ false
-  unfolding buries isDeadRecord graphIn
-  dead-inside j l = none-passes (buries g dead j) (λ x. x) 0 (headerIn numbers .entries) (λ e a h. none e (omega (arith, h)))
+  pub dead-inside : (j : ℕ) → 8 * bytesFor (recordCount g) ≤ j → isDeadRecord g dead j ≡ false
+  unfolding shows isDeadRecord graphIn
+  dead-inside j l = none-passes (shows g dead j) (λ x. x) 0 (headerIn numbers .entries) (λ e a h. none e (omega (arith, h)))
     where
       none : (e : ℕ) → e < headerIn numbers .entries → (dead e && elem j (deadOf g (lastVerdicts g) (related (entryOf g e)))) ≡ false
       none e h =
@@ -221,24 +219,21 @@ module _ {numbers tables : List ℕ} (t : Loaded numbers tables) (dead : ℕ →
           and-false true = refl
           and-false false = refl
 
-  -- what is left by the entries over a row whose first n bytes were cleared
-  pub dead-over : (n : ℕ) (lent mid bits : List ℕ) → n ≡ bytesFor (recordCount g) → mid ≡ cleared n lent → bytesFor (recordCount g) ≤ length lent → length bits ≡ length lent
-      → ((i : ℕ) → getD bits i 0 < 256) → ((i : ℕ) → getD lent i 0 < 256) → ((j : ℕ) → bitAt bits j ≡ (isDeadRecord g dead j || bitAt mid j)) → bits ≡ deadRow g dead lent
-  unfolding deadRow
-  dead-over n lent mid bits e c long same small small-lent is = row-is (isDeadRecord g dead) size lent long bits same small small-lent front behind
-    where
-      size : ℕ
-      size = bytesFor (recordCount g)
+-- bits that are those of a test where the row's first n bytes were cleared, and as they were behind them
+pub dead-over : (g : Graph) (p : ℕ → Bool) (n : ℕ) (lent mid bits : List ℕ) → n ≡ bytesFor (recordCount g) → mid ≡ cleared n lent → bytesFor (recordCount g) ≤ length lent
+    → length bits ≡ length lent → ((i : ℕ) → getD bits i 0 < 256) → ((i : ℕ) → getD lent i 0 < 256)
+    → ((j : ℕ) → bitAt mid j ≡ false → bitAt bits j ≡ p j) → ((j : ℕ) → 8 * bytesFor (recordCount g) ≤ j → bitAt bits j ≡ bitAt mid j)
+    → bits ≡ bytesOf p (bytesFor (recordCount g)) ++ drop (bytesFor (recordCount g)) lent
+dead-over g p n lent mid bits e c long same small small-lent on off = row-is p size lent long bits same small small-lent front behind
+  where
+    size : ℕ
+    size = bytesFor (recordCount g)
 
-      mid-is : mid ≡ cleared size lent
-      mid-is = c ∙ ap (λ k. cleared k lent) e
+    mid-is : mid ≡ cleared size lent
+    mid-is = c ∙ ap (λ k. cleared k lent) e
 
-      or-unset : (a b : Bool) → b ≡ false → (a || b) ≡ a
-      or-unset true b q = refl
-      or-unset false b q = q
+    front : (j : ℕ) → j < 8 * size → bitAt bits j ≡ p j
+    front j l = on j (ap (λ (r : List ℕ). bitAt r j) mid-is ∙ cleared-unset size lent j l)
 
-      front : (j : ℕ) → j < 8 * size → bitAt bits j ≡ isDeadRecord g dead j
-      front j l = is j ∙ or-unset (isDeadRecord g dead j) (bitAt mid j) (ap (λ (r : List ℕ). bitAt r j) mid-is ∙ cleared-unset size lent j l)
-
-      behind : (j : ℕ) → 8 * size ≤ j → bitAt bits j ≡ bitAt lent j
-      behind j l = is j ∙ ap (λ x. x || bitAt mid j) (dead-inside j l) ∙ ap (λ (r : List ℕ). bitAt r j) mid-is ∙ cleared-kept size lent j l
+    behind : (j : ℕ) → 8 * size ≤ j → bitAt bits j ≡ bitAt lent j
+    behind j l = off j l ∙ ap (λ (r : List ℕ). bitAt r j) mid-is ∙ cleared-kept size lent j l

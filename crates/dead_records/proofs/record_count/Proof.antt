@@ -1,9 +1,9 @@
 use Rattle.graph.specs.Check.{graphIn}
 use Prim.Native.Nat.{_-_}
-use Rattle.run_rows.proofs.Numbering.{Counting, counting-none, counting-more, counting-done, modules-are}
+use Rattle.dead_records.proofs.Numbering.{Counting, counting-none, counting-more, counting-done, modules-are}
 use native.Mathlib.Omega.{arith}
-use Rattle.run_rows.proofs.record_count.Statement.{statement}
-use Rattle.run_rows.proofs.record_count.Tie as tie
+use Rattle.dead_records.proofs.record_count.Statement.{statement}
+use Rattle.dead_records.proofs.record_count.Tie as tie
 
 abbrev Inv-loop : tie.InvT-loop
 Inv-loop numbers tables h total₀ m₀ total m = Counting (graphIn numbers) m total

@@ -1,11 +1,11 @@
 -- The import records of all modules in one row: how many there are before a module, and where a record stands.
 use Prim.Native.Nat.{ℕ, zero, suc, _+_, _*_, _<_, _≤_}
 use mathlib.Core.Path.{_≡_, refl, ap, _∙_, sym}
-use mathlib.Core.List.{List, [], _∷_, _++_}
+use mathlib.Core.List.{List, [], _∷_}
 use native.Mathlib.Decide.{ℕ-discrete}
 use native.Mathlib.Numerals.{add-one}
 use native.Mathlib.Omega.{arith}
-use lib.ListN.{length, getD, set, drop, length-set}
+use lib.ListN.{length, getD, set, length-set}
 use lib.Seq.{getD-set-same, getD-set-other}
 use Rattle.rows.specs.Walk.{Item, noItem}
 use Rattle.graph_format.specs.declared.Header.{Header}
@@ -13,11 +13,10 @@ use Rattle.graph_tables.specs.Tables.{headerIn}
 use Rattle.graph.specs.Check.{Graph, graphIn}
 use Rattle.graph.specs.Loaded.{Loaded}
 use Rattle.graph_access.specs.Names.{importRecords}
-use Rattle.graph_access.specs.Words.{tabulate, moduleOf}
+use Rattle.graph_access.specs.Words.{moduleOf}
 use Rattle.graph_access.proofs.Indexes.{module-list-few}
-use Rattle.entry_order.specs.Plan.{wordsAt}
 use Rattle.dynamic_entries.specs.Alive.{recordsBefore}
-use Rattle.run_rows.specs.Run.{recordCount}
+use Rattle.dead_records.specs.Dead.{recordCount}
 
 none-before : (m : ℕ) → recordsBefore [] m ≡ 0
 unfolding recordsBefore
@@ -119,11 +118,3 @@ module _ (numbers : List ℕ) (h : Header) (e : h ≡ headerIn numbers) where
   pub entries-are : h .entries ≡ graphIn numbers .header .entries
   unfolding graphIn
   entries-are = ap (λ (x : Header). x .entries) e
-
-  -- and a word of helpers is where the code reads it
-  pub word-at : (plan : List ℕ) (m : ℕ) → getD plan (2 * h .entries + 2 * h .modules + m) 0 ≡ getD plan (wordsAt (headerIn numbers) + m) 0
-  word-at plan m = ap (λ (x : Header). getD plan (2 * x .entries + 2 * x .modules + m) 0) e
-
--- words written up to the last
-pub words-done : (f : ℕ → ℕ) (lent row : List ℕ) (m n : ℕ) → row ≡ tabulate f 0 m ++ drop m lent → m ≡ n → row ≡ tabulate f 0 n ++ drop n lent
-words-done f lent row m n e q = e ∙ ap (λ k. tabulate f 0 k ++ drop k lent) q

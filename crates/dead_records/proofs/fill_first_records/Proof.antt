@@ -1,9 +1,9 @@
 use Rattle.graph.specs.Check.{graphIn}
 use Prim.Native.Nat.{_-_}
-use Rattle.run_rows.proofs.Numbering.{Numbering, numbering-none, numbering-more, modules-are}
+use Rattle.dead_records.proofs.Numbering.{Numbering, numbering-none, numbering-more, modules-are}
 use native.Mathlib.Omega.{arith}
-use Rattle.run_rows.proofs.fill_first_records.Statement.{statement}
-use Rattle.run_rows.proofs.fill_first_records.Tie as tie
+use Rattle.dead_records.proofs.fill_first_records.Statement.{statement}
+use Rattle.dead_records.proofs.fill_first_records.Tie as tie
 
 abbrev Inv-loop : tie.InvT-loop
 Inv-loop numbers tables firsts₀ h total₀ m₀ firsts total m = Numbering (graphIn numbers) firsts₀ firsts m total

@@ -1,0 +1,82 @@
+//! Random graphs whose dead imports are worked out after the last round, often others than those that the rounds mark.
+
+use super::runs::{run_graph, small_run_graph};
+use super::Random;
+use crate::model::{Entry, Graph, Record, Statement, Symbol};
+use crate::reference::rules::option::DEAD_IMPORTS_AT_END;
+
+const DYNAMIC_IMPORT: u32 = 2;
+const PURE: u32 = 2;
+const SIDE_EFFECT: u32 = 1;
+
+/// A graph for a run, with the option; mostly with an entry that waits for a statement which comes late, and with
+/// imports that entries have in common.
+pub fn late_graph(random: &mut Random) -> Graph {
+    let mut graph = if random.chance(25) { small_run_graph(random) } else { run_graph(random) };
+    graph.options |= DEAD_IMPORTS_AT_END;
+    while random.chance(60) {
+        place_late(random, &mut graph);
+    }
+    while random.chance(60) {
+        share_import(random, &mut graph);
+    }
+    graph
+}
+
+fn dynamic_entries(graph: &Graph) -> Vec<usize> {
+    (0..graph.entries.len()).filter(|&entry| graph.entries[entry].kind == DYNAMIC_IMPORT).collect()
+}
+
+/// A pure import of a new dynamic entry in a statement that comes with another entry. If that one's module is kept
+/// before, this makes no further round.
+fn place_late(random: &mut Random, graph: &mut Graph) {
+    let normal = |entry: &&Entry| graph.modules[entry.module as usize].normal;
+    let (dynamic, user_defined): (Vec<&Entry>, Vec<&Entry>) =
+        graph.entries.iter().filter(normal).partition(|entry| entry.kind == DYNAMIC_IMPORT);
+    if dynamic.is_empty() || user_defined.is_empty() {
+        return;
+    }
+    let (importer, by) = (random.pick(&user_defined).module, random.pick(&dynamic).module);
+    let bringing = import(random, graph, importer, by, SIDE_EFFECT);
+    graph.entries.push(Entry { module: by, kind: DYNAMIC_IMPORT, related: vec![bringing] });
+    let to = random.below(graph.modules.len() as u32);
+    let waiting = import(random, graph, importer, to, 0);
+    let place = random.index(graph.entries.len());
+    graph.entries.insert(place, Entry { module: to, kind: DYNAMIC_IMPORT, related: vec![waiting] });
+    let symbol = graph.symbols.len() as u32;
+    graph.symbols.push(Symbol { owner: importer, root: symbol, declaring: vec![waiting[1]], ..Symbol::default() });
+    let module = &mut graph.modules[by as usize];
+    module.entry_references.push(symbol);
+    if random.chance(50) {
+        (module.effects, module.scan_effects) = (1, 1);
+        graph.modules[importer as usize].dependencies.push(by);
+    }
+}
+
+/// A new statement of an importer with a pure import, as a related statement.
+fn import(random: &mut Random, graph: &mut Graph, importer: u32, to: u32, bits: u32) -> [u32; 4] {
+    let module = &mut graph.modules[importer as usize];
+    let (statement, record) = (module.statements.len() as u32, module.records.len() as u32);
+    module.records.push(Record { target: to + 1, kind: random.pick(&[0, 0, DYNAMIC_IMPORT]), bits: PURE });
+    module.statements.push(Statement { bits, records: vec![record], ..Statement::default() });
+    [importer, statement, record, 0]
+}
+
+/// One dynamic entry has an import of another one too: in the same statement, in another one, or unreachable.
+fn share_import(random: &mut Random, graph: &mut Graph) {
+    let dynamic = dynamic_entries(graph);
+    if dynamic.is_empty() {
+        return;
+    }
+    let (from, to) = (random.pick(&dynamic), random.pick(&dynamic));
+    let related = &graph.entries[from].related;
+    if related.is_empty() {
+        return;
+    }
+    let [module, statement, record, unreachable] = random.pick(related);
+    let statements = graph.modules[module as usize].statements.len() as u32;
+    let statement = if random.chance(50) { statement } else { random.below(statements) };
+    graph.modules[module as usize].records[record as usize].bits |= PURE;
+    let unreachable = if random.chance(30) { 1 - unreachable } else { unreachable };
+    graph.entries[to].related.push([module, statement, record, unreachable]);
+}
