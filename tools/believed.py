@@ -21,7 +21,9 @@ from pathlib import Path
 BOUNDARY = "host/src/lib.rt"
 THEOREMS = [
     "closed_choices/specs/*.antt",
+    "other_options/specs/*.antt",
     "run_choices/specs/*.antt",
+    "settled_runs/specs/*.antt",
     "rule_relation/specs/*.antt",
     "judged_records/specs/*.antt",
     "judged_starts/specs/*.antt",

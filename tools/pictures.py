@@ -30,7 +30,7 @@ GROUPS = [
     ("The Rust as definitions", 1, 20, 220, "theorems", "rust_values rust_effects rust_engine rust_order rust_run"),
     ("Judged records", 1, 260, 200, "theorems", "rule_relation judged_records judged_starts"),
     ("C boundary", 1, 500, 160, "outside", "answers host"),
-    ("Smallest choice", 2, 20, 200, "theorems", "closed_choices run_choices"),
+    ("Smallest choice", 2, 20, 200, "theorems", "closed_choices other_options run_choices settled_runs"),
     ("A run's own starts", 2, 260, 300, "code", "own_starts run_starts"),
     ("Program", 2, 600, 160, "outside", "listing answer_text keep"),
     ("Run", 3, 260, 500, "code", "passes next_stage tree_shaking run_rows run_parts run_sizes run"),

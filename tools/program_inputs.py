@@ -47,8 +47,8 @@ def inputs():
     yield "not_shortest_form", bytes.fromhex("8000"), "refused 1\n"
     yield "number_2_to_32", bytes.fromhex("ffffffff10"), "refused 1\n"
     yield "modules_1025", encoded(good[:2] + [1025] + good[3:]), "refused 2\n"
-    yield "options_127", encoded([127] + good[1:]), listing(1)
-    yield "options_128", encoded([128] + good[1:]), "refused 3\n"
+    yield "options_255", encoded([255] + good[1:]), listing(1)
+    yield "options_256", encoded([256] + good[1:]), "refused 3\n"
     yield "number_missing", encoded(good[:-1]), "refused 4\n"
     yield "number_left_over", encoded(good + [0]), "refused 4\n"
     yield "bytes_8192", of_bytes(FILE), listing(1)

@@ -120,7 +120,11 @@ enum keep_option {
     KEEP_OPTION_CODE_SPLITTING_DISABLED = 32,
     /* The row `dead` is worked out after the last round. If not, it has all that some round marked, also where the
        entry came alive in a later one. */
-    KEEP_OPTION_DEAD_IMPORTS_AT_END = 64
+    KEEP_OPTION_DEAD_IMPORTS_AT_END = 64,
+    /* Rounds go on until one gives no new fact, finds no further dynamic entry live and leaves no bailout untaken. If
+       not, they end with the first one that keeps no further module, and an entry can stay dead that one more round
+       would find live. */
+    KEEP_OPTION_SETTLE = 128
 };
 
 /* The kind of a module. */
@@ -246,7 +250,7 @@ struct keep_drain_answer {
 struct keep_run_answer {
     uint32_t number;
     uint64_t place;
-    uint64_t rounds;        /* how many rounds over the dynamic entries were made */
+    uint64_t rounds;        /* how many rounds over the dynamic entries were made (KEEP_OPTION_SETTLE) */
     uint64_t lines;         /* how many record lines the main stage wrote */
     uint64_t runtime_lines; /* how many record lines the runtime stage wrote behind them */
     uint64_t entries;       /* how many final entries were written */

@@ -81,7 +81,7 @@ pub struct RunAnswer {
     pub number: u32,
     /// Where the fault is; 0 if it is not refused, and for a refusal 5.
     pub place: u64,
-    /// How many rounds were made; 0 if it is refused.
+    /// How many rounds were made, with options bit 7 the last one idle; 0 if it is refused.
     pub rounds: u64,
     /// How many record lines the main stage wrote; 0 if it is refused.
     pub lines: u64,

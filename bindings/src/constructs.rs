@@ -221,7 +221,8 @@
 //! It is judged dead if no statement that has it is kept, if it is never reached, or if nothing could notice:
 //! `graph[import.record].is_top_level_pure`, `graph[page].dynamic_imports_use_no_export`, and no side effects in
 //! `page.js`. [`Lacks`](crate::Lacks) has the cases. If a later round keeps the statement, a pure import stays dead unless
-//! `graph.options.dead_imports_at_end` is on.
+//! `graph.options.dead_imports_at_end` is on. An entry that only one more round would find live stays dead unless
+//! `graph.options.settle` is on.
 //!
 //! # A helper of the runtime
 //! ```

@@ -67,6 +67,7 @@ impl Options {
             dev_mode: bit(bits, 4),
             code_splitting: !bit(bits, 5),
             dead_imports_at_end: bit(bits, 6),
+            settle: bit(bits, 7),
         }
     }
 }

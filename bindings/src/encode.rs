@@ -41,7 +41,8 @@ impl Options {
         let writes = !self.property_write_side_effects;
         let whole = !self.code_splitting;
         let at_end = self.dead_imports_at_end;
-        bits([self.treeshake, self.inline_const_smart, self.commonjs, writes, self.dev_mode, whole, at_end])
+        let settle = self.settle;
+        bits([self.treeshake, self.inline_const_smart, self.commonjs, writes, self.dev_mode, whole, at_end, settle])
     }
 }
 

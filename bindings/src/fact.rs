@@ -111,7 +111,7 @@ pub enum Fact {
     /// 5: a symbol is forwarded: what declares it is kept as soon as its owner is kept.
     Forward(SymbolId),
     /// 6: a module is bailed out: it may be read as a whole. The next round of a run, if there is one, uses its exports from
-    /// CommonJS.
+    /// CommonJS; with [`settle`](crate::Options::settle) there is one.
     Bailout(ModuleId),
 }
 

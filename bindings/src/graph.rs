@@ -161,6 +161,16 @@ pub struct Options {
     /// round marked, also where the entry came alive in a later one. Nothing else depends on it
     /// ([`Kept::is_dead`](crate::Kept::is_dead)).
     pub dead_imports_at_end: bool,
+    /// Rounds go on until nothing moves: until one gives no new fact, finds no further dynamic entry live and leaves no
+    /// CommonJS module bailed out whose exports no round has used. If not, they end with the first one that keeps no
+    /// further module, as in rolldown, which has no such option. Then an entry can stay dead that one more round would
+    /// find live; [`Kept::rounds`](crate::Kept::rounds) has an example.
+    ///
+    /// It is for bundlers that lose an `import()` so, of a plugin say, or that want an answer which does not depend on the
+    /// order of the dynamic entries: as long as the same modules are on cycles of dynamic imports, the same is kept and
+    /// live in each order. Nothing that is kept without it is lost. Both hold for what is decided before the runtime
+    /// stage. A run takes a round more at times, or several.
+    pub settle: bool,
 }
 
 impl Default for Options {
@@ -173,6 +183,7 @@ impl Default for Options {
             dev_mode: false,
             code_splitting: true,
             dead_imports_at_end: false,
+            settle: false,
         }
     }
 }

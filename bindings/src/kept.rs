@@ -154,11 +154,47 @@ impl<'g> Kept<'g> {
         live
     }
 
-    /// How many rounds the run made. A round tries the dynamic entries; the last one kept no further module. 0 if the
-    /// starts were given ([`decide_from`](crate::decide_from)).
+    /// How many rounds the run made. A round tries the dynamic entries; the last one kept no further module or, with
+    /// [`settle`](crate::Options::settle), moved nothing. 0 if the starts were given
+    /// ([`decide_from`](crate::decide_from)).
     ///
     /// ```
-    /// assert_eq!(lizdakk::decide(&lizdakk::Graph::new())?.rounds(), 1);
+    /// // player.js:   import './menu.js';
+    /// //              import './legacy.cjs';
+    /// //              import('./menu.js');
+    /// // menu.js:     console.log('menu');
+    /// //              export const open = () => require('./legacy.cjs');
+    /// // legacy.cjs:  exports.extend = () => import('./karaoke.js');
+    /// let mut graph = lizdakk::Graph::new();
+    /// graph.options.commonjs = true;
+    /// let [player, menu, karaoke] = ["player.js", "menu.js", "karaoke.js"].map(|name| graph.module(name));
+    /// let legacy = graph.commonjs("legacy.cjs");
+    /// graph[legacy].safely_treeshake_commonjs = true;
+    /// let [first, second, load] = [player; 3].map(|module| graph.statement(module));
+    /// let ([log, declare], assign) = ([menu; 2].map(|module| graph.statement(module)), graph.statement(legacy));
+    /// [load, log, assign].iter().for_each(|&statement| graph[statement].has_side_effect = true);
+    /// graph.import(first, menu);
+    /// graph.import(second, legacy);
+    /// graph.dynamic_import(load, menu);
+    /// let (open, extend) = (graph.symbol(menu, "open"), graph.symbol(legacy, "extend"));
+    /// graph.declare(declare, open);
+    /// graph.export(menu, "open", open);
+    /// graph.require(declare, legacy);
+    /// graph.declare(assign, extend);
+    /// graph.export(legacy, "extend", extend);
+    /// let import = graph.dynamic_import(assign, karaoke);
+    /// graph.entry(player);
+    ///
+    /// // Round 1 finds menu.js live and keeps open. That requires legacy.cjs, and the next round would use its exports;
+    /// // but all modules so far were kept before, so there is none.
+    /// let kept = lizdakk::decide(&graph)?;
+    /// assert_eq!(kept.rounds(), 1);
+    /// assert!(kept.is_statement_kept(declare) && !kept.is_live(import.entry));
+    /// // Round 2 uses extend, and karaoke.js is live; round 3 finds nothing.
+    /// graph.options.settle = true;
+    /// let kept = lizdakk::decide(&graph)?;
+    /// assert_eq!(kept.rounds(), 3);
+    /// assert!(kept.is_live(import.entry) && kept.is_kept(karaoke));
     /// # Ok::<(), lizdakk::Refused>(())
     /// ```
     pub fn rounds(&self) -> u64 {
@@ -310,7 +346,8 @@ impl<'g> Kept<'g> {
     }
 
     /// Whether an import record is a dynamic import that was found dead: the bundler may drop it. A try of its entry
-    /// marked it, and the mark stays even if a later try finds the entry live.
+    /// marked it, and the mark stays even if a later try finds the entry live, as it can in any round that
+    /// [`settle`](crate::Options::settle) adds.
     ///
     /// With [`dead_imports_at_end`](crate::Options::dead_imports_at_end) no mark of a round counts. An import is dead
     /// if a try after the last round would mark it, and no live entry has it in a kept statement where it is reached.

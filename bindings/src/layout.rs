@@ -21,7 +21,7 @@ const LIST: &str = "at most 16,384 long";
 const OWNED_LIST: &str = "at most 16,384 long, and empty if the symbol's owner is external";
 
 const HEADER: [Column; 6] = [
-    ("options", "bits 0 to 6"),
+    ("options", "bits 0 to 7"),
     ("runtime", "a normal module of the graph"),
     ("modules", "1 to 1,024 long"),
     ("symbols", "1 to 16,384 long"),

@@ -16,14 +16,15 @@ use core::fmt;
 pub enum Lacks {
     /// Its `import()` stands where it is never reached.
     Reach,
-    /// The statement is not kept.
+    /// The statement is not kept. Without [`settle`](crate::Options::settle) a further round might keep it.
     Inclusion,
     /// The statement is kept, but nothing could notice whether the module was evaluated: the `import()` is a pure one at
     /// the top level, no `import()` of the module looks at an export, and the module has no side effects.
     Notice,
     /// It lacks nothing now, but the statement became kept after the last try of the entry. Rounds end with one that
-    /// keeps no further module. With [`dead_imports_at_end`](crate::Options::dead_imports_at_end) such an entry makes
-    /// no import dead, unless the runtime stage alone keeps the statement.
+    /// keeps no further module. With [`settle`](crate::Options::settle) they go on, and the runtime stage alone keeps a
+    /// statement so late. With [`dead_imports_at_end`](crate::Options::dead_imports_at_end) such an entry makes no
+    /// import dead, unless the runtime stage alone keeps the statement.
     Time,
 }
 

@@ -28,7 +28,7 @@ const CPP98: Language =
 const WARNINGS: [&str; 6] = ["-Wall", "-Wextra", "-pedantic", "-Wconversion", "-Wsign-conversion", "-Werror"];
 
 /// Every constant of the header and its value; then the layout of the answers.
-const CONSTANTS: [(&str, u64); 106] = [
+const CONSTANTS: [(&str, u64); 107] = [
     ("KEEP_PASSED", 0),
     ("KEEP_REFUSED_FAULTY_NUMBER", 1),
     ("KEEP_REFUSED_OVER_LIMIT", 2),
@@ -77,6 +77,7 @@ const CONSTANTS: [(&str, u64); 106] = [
     ("KEEP_OPTION_DEV_MODE", 1 << 4),
     ("KEEP_OPTION_CODE_SPLITTING_DISABLED", 1 << 5),
     ("KEEP_OPTION_DEAD_IMPORTS_AT_END", 1 << 6),
+    ("KEEP_OPTION_SETTLE", 1 << 7),
     ("KEEP_MODULE_EXTERNAL", 0),
     ("KEEP_MODULE_NORMAL", 1),
     ("KEEP_SIDE_EFFECTS_ANALYZED_FALSE", 0),

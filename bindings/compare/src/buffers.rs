@@ -5,6 +5,7 @@ use peer::listing::{first_records, first_statement_bytes, is_set, Listed};
 use peer::model::Graph;
 use peer::reference::decode::decode;
 use peer::reference::drain::LINE;
+use peer::reference::run::Run;
 use peer::{DrainAnswer, ReadAnswer, Refused, Rows, RunAnswer, RunRows};
 
 /// How many numbers a start has.
@@ -35,6 +36,13 @@ impl<'a> RunBuffers<'a> {
     pub fn for_graph(numbers: &'a [u32]) -> Result<RunBuffers<'a>, Refused> {
         let mut buffers = RunBuffers::new(numbers)?;
         buffers.answer = run(numbers, &mut buffers.rows()).result()?;
+        Ok(buffers)
+    }
+
+    /// The same rows as the reference fills them, to compare with.
+    pub fn of_reference(numbers: &'a [u32], run: &Run) -> Result<RunBuffers<'a>, Refused> {
+        let mut buffers = RunBuffers::new(numbers)?;
+        buffers.answer = run.put(&mut buffers.rows()).result()?;
         Ok(buffers)
     }
 

@@ -27,6 +27,12 @@ fn numbers_of(file: &[u8]) -> Vec<u32> {
     numbers
 }
 
+/// The Rust has options bits 0 to 5: with another one its answers would be none to compare with.
+#[test]
+fn graphs_have_options_of_the_rust() {
+    assert!(answers().iter().all(|(file, _)| numbers_of(file)[0] < 64));
+}
+
 #[test]
 fn library_gives_the_answers_of_the_rust() {
     with_stack(|| {

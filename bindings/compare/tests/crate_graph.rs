@@ -161,16 +161,16 @@ fn files_come_back() {
 fn options_come_back() {
     with_stack(|| {
         let mut graph = late_graph(&mut Random::new(1));
-        for options in 0..128 {
+        for options in 0..256 {
             graph.options = options;
             comes_back(&graph.numbers(), 1);
             let read = Graph::read_here(&file(&graph.numbers())).expect("it came back").options;
-            let bits = [read.treeshake, !read.code_splitting, read.dead_imports_at_end];
-            assert_eq!(bits, [1, 32, 64].map(|bit| options & bit != 0), "options {options}");
+            let bits = [read.treeshake, !read.code_splitting, read.dead_imports_at_end, read.settle];
+            assert_eq!(bits, [1, 32, 64, 128].map(|bit| options & bit != 0), "options {options}");
         }
-        graph.options = 128;
+        graph.options = 256;
         let refused = Graph::read_here(&file(&graph.numbers())).unwrap_err();
-        assert_eq!(refused.to_string(), "refused 3 at number 0: the graph: `options` has to be bits 0 to 6");
+        assert_eq!(refused.to_string(), "refused 3 at number 0: the graph: `options` has to be bits 0 to 7");
     });
 }
 

@@ -11,6 +11,7 @@ use lizdakk::{
 };
 use peer::generate::late::late_graph;
 use peer::generate::runs::{import_graph, run_graph, small_run_graph};
+use peer::generate::settled::settled_graph;
 use peer::generate::{self, Random, Size};
 use peer::listing::{first_records, first_statement_bytes, is_set};
 use peer::reference::drain;
@@ -119,6 +120,16 @@ fn decided_alike_with_dead_imports_at_the_end() {
     for_seeds("runs with dead imports at their end", seeds::cases(CASES) / 4, |seed| {
         let (graph, model) = read(late_graph(&mut Random::new(seed)), seed);
         assert!(graph.options.dead_imports_at_end);
+        decided(&graph, &model, seed);
+        1
+    });
+}
+
+#[test]
+fn decided_alike_with_rounds_that_settle() {
+    for_seeds("runs that settle", seeds::cases(CASES) / 4, |seed| {
+        let (graph, model) = read(settled_graph(&mut Random::new(seed)), seed);
+        assert!(graph.options.settle);
         decided(&graph, &model, seed);
         1
     });

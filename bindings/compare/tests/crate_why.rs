@@ -11,6 +11,7 @@ use lizdakk::{
 };
 use peer::generate::late::late_graph;
 use peer::generate::runs::{import_graph, run_graph, small_run_graph};
+use peer::generate::settled::settled_graph;
 use peer::generate::{self, Random};
 use peer::reference::entries::{entry_starts, user_defined_starts};
 use peer::reference::rules::Rules;
@@ -166,6 +167,10 @@ impl<'g> Case<'g> {
         self.graph.symbols().for_each(|symbol| self.ask(symbol, self.kept.is_used(symbol)));
     }
 
+    fn is_kept_by_runtime_stage(&self, statement: lizdakk::StatementId) -> bool {
+        self.kept.runtime_lines().iter().any(|line| line.fact == Fact::Statement(statement))
+    }
+
     /// What each related statement of a dead entry lacks; how often each lack occurs.
     fn ask_why_not(&self) -> [u64; 4] {
         let mut lacking = [0; 4];
@@ -186,6 +191,7 @@ impl<'g> Case<'g> {
                     Lacks::Notice => assert!(kept && unused && (at_end || self.kept.is_dead(related.record))),
                     Lacks::Time => {
                         assert!(kept && !related.is_unreachable);
+                        assert!(!self.graph.options.settle || self.is_kept_by_runtime_stage(related.statement));
                         let told = why_not.to_string().contains(", and its import() is not dead");
                         assert!(if at_end { told || self.kept.is_dead(related.record) } else { !told });
                     }
@@ -225,10 +231,21 @@ fn explained() {
 /// So are they with dead imports at the end, where those of entries that came too late are not dead.
 #[test]
 fn explained_with_dead_imports_at_the_end() {
+    explain("explained runs with dead imports at their end", late_graph);
+}
+
+/// And with rounds that settle, where only the runtime stage comes too late.
+#[test]
+fn explained_with_rounds_that_settle() {
+    explain("explained runs that settle", settled_graph);
+}
+
+/// Explains what such graphs keep and do not; each lack occurs.
+fn explain(what: &str, model: fn(&mut Random) -> peer::model::Graph) {
     let lacking = Mutex::new([0; 4]);
     let cases = seeds::cases(CASES) / 4;
-    for_seeds("explained runs with dead imports at their end", cases, |seed| {
-        let model = late_graph(&mut Random::new(seed));
+    for_seeds(what, cases, |seed| {
+        let model = model(&mut Random::new(seed));
         let graph = read(&model);
         let case = Case::new(&graph, &model);
         case.ask_all();

@@ -4,9 +4,11 @@
 //! KEEP_CASES is how many graphs there are at least (20,000 if it is not set), KEEP_SEED the first seed. To see one
 //! failing seed again: `KEEP_SEED=seed KEEP_CASES=1`.
 
+mod late;
 mod seeds;
 
 use compare::{library, own_starts, RunBuffers};
+use late::{dead_imports, library_run, lists, LIVE_LATER, LIVE_TOO_LATE};
 use lizdakk::with_stack;
 use peer::generate::late::late_graph;
 use peer::generate::Random;
@@ -14,7 +16,7 @@ use peer::happenings::at_end::{at_end, AT_END, DEAD_FIRST_LIVE_LATER};
 use peer::model::Graph;
 use peer::reference::entries::is_dynamic;
 use peer::reference::rules::option::{DEAD_IMPORTS_AT_END, SPLITTING_OFF};
-use peer::reference::run::{self, Run};
+use peer::reference::run::Run;
 use seeds::for_seeds;
 use std::collections::{BTreeMap, HashSet};
 use std::sync::Mutex;
@@ -22,30 +24,6 @@ use std::sync::Mutex;
 const CASES: u64 = 20_000;
 /// The kind of a fact: a statement is kept.
 const STATEMENT: u32 = 2;
-
-/// Module 1 is the user-defined entry. The entry of module 2 waits for statement 2 of module 1, which comes with the
-/// entry of module 3 in round 1, after the try: dead in round 1, live in round 2.
-#[rustfmt::skip]
-const LIVE_LATER: [u32; 187] = [
-    1, 0, 4, 5, 7, 3, 0, 1, 0, 0, 0, 0, 0, 0, 1, 0, 1, 0, 1, 0, 0, 0, 0, 0, 0, 0, 0, 0, 0, 1, 1, 0, 0, 0, 0, 0, 2,
-    0, 3, 1, 3, 2, 3, 2, 2, 4, 2, 0, 0, 0, 0, 0, 0, 0, 0, 0, 0, 1, 0, 0, 0, 0, 0, 0, 3, 0, 1, 0, 1, 0, 0, 0, 0, 0,
-    0, 0, 0, 0, 0, 1, 0, 0, 0, 0, 0, 0, 4, 0, 2, 0, 2, 0, 0, 0, 0, 0, 0, 0, 0, 0, 0, 0, 1, 0, 0, 0, 0, 0, 0, 0, 1,
-    1, 1, 0, 0, 0, 0, 0, 0, 2, 1, 2, 0, 0, 0, 0, 0, 0, 3, 1, 3, 0, 0, 0, 0, 0, 0, 1, 1, 4, 0, 0, 0, 0, 1, 2, 0, 0,
-    0, 0, 0, 0, 0, 1, 0, 0, 0, 0, 0, 0, 0, 0, 0, 0, 0, 1, 0, 1, 0, 4, 1, 0, 0, 2, 2, 1, 1, 2, 0, 0, 3, 2, 1, 1, 1,
-    1, 0,
-];
-
-/// The entry of module 3, which is kept before, brings statement 2 of module 1 in the only round. The entry of module 2
-/// has an import in it and one in statement 0; it is tried before that, and not again.
-#[rustfmt::skip]
-const LIVE_TOO_LATE: [u32; 191] = [
-    1, 0, 4, 5, 6, 3, 0, 1, 0, 0, 0, 0, 0, 0, 1, 0, 1, 0, 1, 0, 0, 0, 0, 0, 0, 0, 0, 0, 0, 1, 1, 0, 0, 0, 0, 0, 2,
-    0, 3, 1, 3, 3, 3, 2, 2, 4, 2, 0, 3, 2, 2, 1, 3, 0, 0, 0, 0, 0, 0, 0, 0, 1, 0, 0, 0, 0, 0, 0, 3, 0, 1, 0, 1, 0,
-    0, 0, 0, 0, 0, 0, 0, 0, 0, 1, 1, 0, 0, 0, 0, 0, 4, 0, 1, 1, 1, 0, 0, 0, 0, 1, 4, 0, 0, 0, 0, 0, 0, 1, 0, 0, 0,
-    0, 0, 0, 0, 1, 1, 1, 0, 0, 0, 0, 0, 0, 2, 1, 2, 0, 0, 0, 0, 0, 0, 3, 1, 3, 0, 0, 0, 0, 0, 0, 1, 1, 4, 0, 0, 0,
-    0, 1, 2, 0, 0, 0, 0, 0, 0, 0, 1, 0, 0, 0, 0, 0, 0, 0, 0, 0, 0, 0, 1, 0, 0, 2, 2, 2, 1, 0, 2, 0, 1, 2, 0, 0, 3,
-    2, 1, 1, 1, 1, 0,
-];
 
 /// The entry of module 2 is live by record 1 of module 1 and has record 0 too. The entry of module 3 is dead and has
 /// record 0.
@@ -64,17 +42,6 @@ const SHARED_UNREACHABLE: usize = 168;
 
 fn with_options(graph: &Graph, options: u32) -> Graph {
     Graph { options, ..graph.clone() }
-}
-
-fn library_run(numbers: &[u32]) -> RunBuffers<'_> {
-    RunBuffers::for_graph(numbers).expect("a good graph")
-}
-
-/// The dead imports of a run, module and record.
-fn dead_imports(graph: &Graph, run: &RunBuffers) -> Vec<[usize; 2]> {
-    let records = |(module, of): (usize, &peer::model::Module)| (0..of.records.len()).map(move |at| [module, at]);
-    let all = graph.modules.iter().enumerate().flat_map(records);
-    all.filter(|&[module, record]| run.dead(module, record)).collect()
 }
 
 /// By entry whether it is a dynamic one of a live module: final where code is split, which moves nothing else before.
@@ -100,8 +67,7 @@ fn no_live_import_is_dead(graph: &Graph, run: &RunBuffers) {
 fn only_dead_imports_move(late: &Graph, [numbers, plain]: [&[u32]; 2], end: &RunBuffers, rounds: &RunBuffers) {
     let differ = end.differences(rounds);
     assert!(differ.is_empty() || differ == ["dead"], "{differ:?}, {numbers:?}");
-    let by_rounds = dead_imports(late, rounds);
-    assert!(dead_imports(late, end).iter().all(|import| by_rounds.contains(import)), "{numbers:?}");
+    assert!(dead_imports(late, end).is_subset(&dead_imports(late, rounds)), "{numbers:?}");
     let starts = own_starts(numbers).expect("a good graph");
     assert_eq!(starts, own_starts(plain).expect("a good graph"), "{numbers:?}");
     assert_eq!(library::judge(numbers, &starts, end.main_record()).number, 0, "{numbers:?}");
@@ -134,16 +100,6 @@ fn late_graphs() {
         assert!(counts.values().all(|&count| count > 0), "{counts:?}");
         assert!(20 * counts[DEAD_FIRST_LIVE_LATER] >= cases, "{counts:?}");
     }
-}
-
-/// What a run of these numbers lists, by library and reference, without the lines of modules.
-#[track_caller]
-fn lists(numbers: &[u32], options: u32, lines: &str, dead: &[&str]) {
-    let numbers: Vec<u32> = [&[options], &numbers[1..]].concat();
-    let listing = library_run(&numbers).listing();
-    assert_eq!(listing, run::listing(&numbers));
-    let listed: Vec<&str> = listing.lines().filter(|line| !line.starts_with("module ")).collect();
-    assert_eq!(listed, [&lines.split(", ").collect::<Vec<&str>>(), dead].concat(), "options {options}");
 }
 
 #[test]
@@ -182,19 +138,6 @@ fn an_import_of_two_entries() {
             lists(&numbers, 1, lines, &["dead 1 0"]);
             lists(&numbers, 65, lines, dead);
             lists(&numbers, 97, "rounds 2, entry 1 0, statement 1 1", dead);
-        }
-    });
-}
-
-/// The next bit is none yet.
-#[test]
-fn options_beyond() {
-    with_stack(|| {
-        for options in [127, 128, 129, 193, u32::MAX] {
-            let numbers = [&[options], &LIVE_LATER[1..]].concat();
-            let refused = if options < 128 { (0, 0) } else { (3, 0) };
-            let answer = library::check(&numbers);
-            assert_eq!((answer.number, answer.place), refused, "options {options}");
         }
     });
 }

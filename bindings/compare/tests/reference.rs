@@ -8,7 +8,7 @@ use peer::{ReadAnswer, Refused};
 #[rustfmt::skip]
 const FRONT: [u32; 142] = [
     // 0: options, runtime, 3 modules, 4 symbols, 3 statements, 2 entries, 2 helpers, helper symbols
-    127, 1, 3, 4, 3, 2, 2,  3, 0,
+    255, 1, 3, 4, 3, 2, 2,  3, 0,
     // 9: external module 0
     0, 4, 2, 3, 63, 2, 4, 0, 7, 0, 4, 9,
     // 21: a record; 25: the other lists, of which 27 is the count of own exports and 30 that of resolved exports
@@ -140,7 +140,7 @@ fn left_over() {
 
 #[test]
 fn options() {
-    values(0, 127);
+    values(0, 255);
 }
 
 #[test]

@@ -1,7 +1,7 @@
 //! The graphs that runs are measured on: that they are graphs, and what their names say.
 
 use peer::generate::PRINTED;
-use peer::loads::{self, drawn, main_loads, Draws, LOADS, LOADS_AT_END};
+use peer::loads::{self, all_loads, drawn, main_loads, Draws, LOADS_SETTLED};
 use peer::model::Graph;
 use peer::reference::check;
 use peer::reference::decode::decode;
@@ -14,7 +14,7 @@ fn bits(row: &[u8]) -> u32 {
 
 #[test]
 fn loads_are_graphs() {
-    for load in LOADS.iter().chain(&LOADS_AT_END) {
+    for load in all_loads() {
         let graph = load.graph();
         let numbers = graph.numbers();
         assert_eq!(check(&numbers), Ok(()), "{}", load.name);
@@ -34,11 +34,13 @@ fn loads_are_graphs() {
         );
     }
     assert_eq!(Run::of(&loads::rounds(300)).rounds, 300);
+    // The last round is idle already.
+    assert_eq!(LOADS_SETTLED.last().map(|load| Run::of(&load.graph()).rounds), Some(300));
 }
 
 #[test]
 fn keys_differ() {
-    let mut keys: Vec<&str> = LOADS.iter().chain(&LOADS_AT_END).map(|load| load.key).collect();
+    let mut keys: Vec<&str> = all_loads().map(|load| load.key).collect();
     keys.sort_unstable();
     assert!(keys.windows(2).all(|pair| pair[0] < pair[1]), "{keys:?}");
     assert_eq!(main_loads().last().map(|load| load.key), Some("printed"));

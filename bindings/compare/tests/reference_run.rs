@@ -3,8 +3,10 @@
 
 use peer::generate::late::late_graph;
 use peer::generate::runs::{import_graph, run_graph, small_run_graph};
+use peer::generate::settled::settled_graph;
 use peer::generate::{self, Random, Size, PRINTED};
 use peer::happenings::at_end::{at_end, AT_END};
+use peer::happenings::settled::{settled, SETTLED};
 use peer::happenings::{happenings, Happenings, ALL};
 use peer::listing::{first_records, is_set};
 use peer::model::{Entry, Graph, Module, Record, Reference, Statement, Symbol};
@@ -15,7 +17,7 @@ use peer::reference::dynamic_entries::{sorted, OrderingGraph};
 use peer::reference::entries::parted;
 use peer::reference::leb128;
 use peer::reference::rows::{Answer, MarkLayout};
-use peer::reference::rules::option::DEAD_IMPORTS_AT_END;
+use peer::reference::rules::option::{DEAD_IMPORTS_AT_END, SETTLE};
 use peer::reference::rules::{Fact, Rules};
 use peer::reference::run::{self, Run};
 use peer::reference::run_by_sets::{order, run_by_sets, Decided};
@@ -41,7 +43,16 @@ fn printed_case() {
 fn generated_graphs_are_accepted() {
     for seed in 1..=CASES {
         let mut random = Random::new(seed);
-        for graph in [run_graph(&mut random), small_run_graph(&mut random), late_graph(&mut random)] {
+        let size = Size::small(&mut random);
+        let usual = [
+            run_graph(&mut random),
+            small_run_graph(&mut random),
+            import_graph(&mut random),
+            generate::graph(&mut random, size),
+        ];
+        // What is compared with the Rust has no options that it does not have.
+        assert!(usual.iter().all(|graph| graph.options < DEAD_IMPORTS_AT_END), "seed {seed}");
+        for graph in usual.iter().chain(&[late_graph(&mut random), settled_graph(&mut random)]) {
             assert_eq!(check(&graph.numbers()), Ok(()), "seed {seed}, {graph:?}");
         }
     }
@@ -63,6 +74,16 @@ fn every_step_at_the_end_is_generated() {
         let late = late_graph(&mut Random::new(seed));
         let graph = Graph { options: late.options & !DEAD_IMPORTS_AT_END, ..late.clone() };
         at_end(&late, &Run::of(&graph), &Run::of(&late))
+    });
+}
+
+/// And all that settling brings.
+#[test]
+fn every_step_of_settling_is_generated() {
+    every_name_occurs(&SETTLED, |seed| {
+        let graph = settled_graph(&mut Random::new(seed));
+        let plain = Graph { options: graph.options & !SETTLE, ..graph.clone() };
+        settled(&graph, &Run::of(&plain), &Run::of(&graph))
     });
 }
 
@@ -172,6 +193,13 @@ fn runs_decide_what_sets_decide() {
 fn runs_with_dead_imports_at_their_end_decide_what_sets_decide() {
     for seed in 1..=CASES {
         decides_what_sets_decide(&late_graph(&mut Random::new(seed)), seed);
+    }
+}
+
+#[test]
+fn runs_that_settle_decide_what_sets_decide() {
+    for seed in 1..=CASES {
+        decides_what_sets_decide(&settled_graph(&mut Random::new(seed)), seed);
     }
 }
 
@@ -920,7 +948,7 @@ fn no_entry_no_fact() {
 #[test]
 fn listings_that_are_refused() {
     assert_eq!(run::listing(&[]), "refused 4\n");
-    assert_eq!(run::listing(&[128]), "refused 3\n");
+    assert_eq!(run::listing(&[256]), "refused 3\n");
     let mut graph = modules(1);
     graph.modules[0].statements = vec![Statement { bits: 1, ..Statement::default() }; 1_023];
     user_defined(&mut graph, 0);

@@ -10,9 +10,10 @@ use lizdakk::with_stack;
 use peer::generate::counted::{at_edges, graph_of};
 use peer::generate::late::late_graph;
 use peer::generate::runs::{import_graph, run_graph, small_run_graph, sparse};
+use peer::generate::settled::settled_graph;
 use peer::generate::{self, Random, Size, PRINTED};
 use peer::listing::is_set;
-use peer::loads::{self, LOADS, LOADS_AT_END};
+use peer::loads::{self, all_loads};
 use peer::model::Graph;
 use peer::reference::drain::LINE;
 use peer::reference::run::{self, Run};
@@ -180,6 +181,17 @@ fn late_graphs() {
     });
 }
 
+/// Rounds until nothing moves.
+#[test]
+fn settled_graphs() {
+    for_seeds("settled graphs", cases() / 5, |seed| {
+        let mut random = Random::new(seed);
+        let graph = settled_graph(&mut random);
+        Case::new(graph.numbers(), "settled", seed).compare_rooms(&mut random, seed as usize % ROWS);
+        1
+    });
+}
+
 /// Graphs as the tests of the drain have them, with more rules than entries.
 #[test]
 fn graphs_of_many_rules() {
@@ -317,7 +329,7 @@ fn edges_of_sizes() {
 fn loads_of_the_benchmark() {
     with_stack(|| {
         let mut random = Random::new(1);
-        for load in LOADS.iter().chain(&LOADS_AT_END) {
+        for load in all_loads() {
             Case::new(load.graph().numbers(), load.name, 0).compare_rooms(&mut random, RECORD);
         }
         let most_rounds = loads::rounds(1_024);

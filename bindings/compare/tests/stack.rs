@@ -5,7 +5,7 @@ use compare::{library, own_starts, DrainBuffers, RunBuffers, StartsBuffers};
 use lizdakk::{with_stack, STACK};
 use peer::generate::counted::{at_edges, graph_of};
 use peer::generate::{self, Random, Size};
-use peer::loads::{self, LOADS, LOADS_AT_END};
+use peer::loads::{self, all_loads};
 use peer::model::{Graph, Record};
 use peer::reference::leb128;
 use std::arch::asm;
@@ -95,7 +95,7 @@ fn long_list() -> Graph {
 fn most_stack_of_each_function() {
     let most = with_stack(|| {
         let mut most = Most::default();
-        for load in LOADS.iter().chain(&LOADS_AT_END) {
+        for load in all_loads() {
             most.take_all(load.name, &load.graph());
         }
         most.take_all("long list", &long_list());

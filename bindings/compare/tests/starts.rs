@@ -9,8 +9,9 @@ use compare::{library, own_starts, RunBuffers};
 use lizdakk::with_stack;
 use peer::generate::counted::{at_edges, graph_of};
 use peer::generate::runs::{run_graph, small_run_graph, sparse};
+use peer::generate::settled::settled_graph;
 use peer::generate::{self, Random, Size, PRINTED};
-use peer::loads::{self, LOADS};
+use peer::loads::{self, LOADS, LOADS_SETTLED};
 use peer::reference::drain::{self, LINE};
 use peer::reference::rows::Answer;
 use peer::reference::run::Run;
@@ -203,6 +204,17 @@ fn random_graphs() {
     });
 }
 
+/// Rounds until nothing moves.
+#[test]
+fn settled_graphs() {
+    for_seeds("own starts of settled graphs", cases() / 10, |seed| {
+        let mut random = Random::new(seed);
+        let graph = settled_graph(&mut random);
+        Case::new(graph.numbers(), "settled", seed).compare_rooms(&mut random);
+        1
+    });
+}
+
 /// Graphs as the tests of the drain have them, with more rules than entries.
 #[test]
 fn graphs_of_many_rules() {
@@ -320,7 +332,7 @@ fn edges_of_sizes() {
 fn loads_of_the_benchmark() {
     with_stack(|| {
         let mut random = Random::new(1);
-        for load in &LOADS {
+        for load in LOADS.iter().chain(&LOADS_SETTLED) {
             let numbers = load.graph().numbers();
             judge_run(&numbers, load.name);
             Case::new(numbers, load.name, 0).compare_rooms(&mut random);

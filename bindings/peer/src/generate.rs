@@ -4,6 +4,7 @@ pub mod counted;
 pub mod late;
 pub mod records;
 pub mod runs;
+pub mod settled;
 
 use crate::model::{Encoded, Entry, Graph, Module, Record, Reference, Statement, Symbol};
 use crate::reference::graph::{ENTRIES, HELPERS, MODULES, STATEMENTS, SYMBOLS};
@@ -601,7 +602,7 @@ fn same_field(random: &mut Random, graph: &Encoded, place: usize) -> u32 {
 
 /// Numbers that look like a graph for a while: a good header, then small numbers.
 pub fn noise(random: &mut Random) -> Vec<u32> {
-    let mut numbers = vec![random.below(128), random.below(2)];
+    let mut numbers = vec![random.below(256), random.below(2)];
     numbers.extend((0..3).map(|_| random.between(1, 3)));
     numbers.extend([random.below(3), 0]);
     let largest = random.between(1, 3);

@@ -1,6 +1,7 @@
 //! What happens in a run, by name: so that tests can count how often each step occurs, and cases can show all of them.
 
 pub mod at_end;
+pub mod settled;
 
 use crate::listing::{first_records, is_set};
 use crate::model::{Entry, Graph, Module};

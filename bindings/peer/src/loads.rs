@@ -5,7 +5,7 @@ mod drawn;
 use crate::generate::{shuffle, Random, PRINTED};
 use crate::model::{Entry, Graph, Module, Record, Reference, Statement, Symbol};
 use crate::reference::decode::decode;
-use crate::reference::rules::option::DEAD_IMPORTS_AT_END;
+use crate::reference::rules::option::{DEAD_IMPORTS_AT_END, SETTLE};
 pub use drawn::{drawn, Draws};
 
 const DYNAMIC_IMPORT: u32 = 2;
@@ -43,6 +43,23 @@ pub const LOADS_AT_END: [Load; 3] = [
 
 fn at_end(graph: Graph) -> Graph {
     Graph { options: graph.options | DEAD_IMPORTS_AT_END, ..graph }
+}
+
+/// The same loads with rounds that settle: what asking whether anything moved costs, and the rounds that are added. The
+/// Rust has no such option either.
+pub const LOADS_SETTLED: [Load; 3] = [
+    load("bundle1000_settled", "1,000 modules, settled", || settled(bundle(1_000))),
+    load("bundle100_settled", "100 modules, settled", || settled(bundle(100))),
+    load("rounds300_settled", "300 rounds, settled", || settled(rounds(300))),
+];
+
+fn settled(graph: Graph) -> Graph {
+    Graph { options: graph.options | SETTLE, ..graph }
+}
+
+/// Every load: those that the Rust has too, then those with options of our own.
+pub fn all_loads() -> impl Iterator<Item = &'static Load> {
+    LOADS.iter().chain(&LOADS_AT_END).chain(&LOADS_SETTLED)
 }
 
 /// The main loads: there is a share of the Rust's time that is asked on each, and a count of instructions.

@@ -140,7 +140,7 @@ impl Graph {
     }
 
     fn encode_header(&self, out: &mut Encoded) {
-        out.put("options", self.options, 127);
+        out.put("options", self.options, 255);
         out.put("runtime", self.runtime, self.last_module());
         out.put("module count", self.modules.len() as u32, MODULES);
         out.put("symbol count", self.symbols.len() as u32, SYMBOLS);

@@ -1,5 +1,5 @@
 -- The final entries are entries of the graph, no more than there are; the rounds are few.
-use Prim.Native.Nat.{ℕ, zero, suc, _+_, _<_, _≤_}
+use Prim.Native.Nat.{ℕ, zero, suc, _+_, _*_, _<_, _≤_}
 use mathlib.Core.Path.{_≡_, refl, ap, _∙_, sym}
 use mathlib.Core.Logic.{⊎-elim}
 use mathlib.Core.Bool.{Bool, true, false, not}
@@ -24,7 +24,7 @@ use Rattle.dynamic_entries.specs.Sorted.{onCycle, goesFirst, byCompletion, comp
 use Rattle.dynamic_entries.specs.Tries.{Progress}
 use Rattle.dynamic_entries.proofs.Completing.{on-a-cycle, on-none}
 use Rattle.dynamic_entries.proofs.Lengths.{sorted-length}
-use Rattle.tree_shaking.specs.Rounds.{round, keptModule, roundsFrom, begun, mainPart, finalEntries}
+use Rattle.tree_shaking.specs.Rounds.{round, goesOn, roundsFuel, roundsFrom, begun, mainPart, finalEntries}
 use Rattle.run_rows.specs.Run.{withRuntime, runOf}
 
 module _ (g : Graph) where
@@ -83,18 +83,18 @@ module _ {numbers tables : List ℕ} (t : Loaded numbers tables) where
   pub final-few : (live : ℕ → Bool) → length (finalEntries (graphIn numbers) live) ≤ graphIn numbers .header .entries
   final-few live = let g = graphIn numbers in omega (arith, final-length g live, dynamics-few g live (option g 5), sorted-count, parts-length g)
 
--- a round for each module, and one more
-rounds-most : (g : Graph) (v : List ℕ) (fuel made taken : ℕ) (p : Progress) → roundsFrom g v fuel made taken p .rounds ≤ made + fuel
+-- at most as many rounds as there is fuel
+rounds-most : (g : Graph) (v : List ℕ) (test : Progress → Progress → Bool) (fuel made taken : ℕ) (p : Progress) → roundsFrom g v test fuel made taken p .rounds ≤ made + fuel
 unfolding roundsFrom
-rounds-most g v zero made taken p = omega arith
-rounds-most g v (suc fuel) made taken p =
-    go (keptModule (length (p .lines)) (round g v taken p .lines)) refl (rounds-most g v fuel (made + 1) (length (p .lines)) (round g v taken p))
+rounds-most g v test zero made taken p = omega arith
+rounds-most g v test (suc fuel) made taken p =
+    go (test p (round g v taken p)) refl (rounds-most g v test fuel (made + 1) (length (p .lines)) (round g v taken p))
   where
-    go : (b : Bool) → keptModule (length (p .lines)) (round g v taken p .lines) ≡ b
-        → roundsFrom g v fuel (made + 1) (length (p .lines)) (round g v taken p) .rounds ≤ made + 1 + fuel → roundsFrom g v (suc fuel) made taken p .rounds ≤ made + suc fuel
+    go : (b : Bool) → test p (round g v taken p) ≡ b
+        → roundsFrom g v test fuel (made + 1) (length (p .lines)) (round g v taken p) .rounds ≤ made + 1 + fuel → roundsFrom g v test (suc fuel) made taken p .rounds ≤ made + suc fuel
     go true k l = rw (k, roundsFrom) (omega (arith, l))
     go false k l = rw (k, roundsFrom) (omega arith)
 
-pub run-rounds : (g : Graph) → runOf g .rounds ≤ g .header .modules + 1
+pub run-rounds : (g : Graph) → runOf g .rounds ≤ 2 * g .header .modules + 1
 unfolding runOf withRuntime mainPart
-run-rounds g = omega (arith, rounds-most g (lastVerdicts g) (g .header .modules + 1) 0 0 (begun g (lastVerdicts g)))
+run-rounds g = omega (arith, rounds-most g (lastVerdicts g) (goesOn g) (roundsFuel g) 0 0 (begun g (lastVerdicts g)))

@@ -48,7 +48,7 @@ fn last_counts(numbers: &[u32], at: usize) -> Walk
 pub fn header(numbers: &[u32]) -> Walk
     ensures { λ r. ⌜ r ≡ walkOf (cells headerRules (now (numbers .entry)) 0) ⌝ }
 {
-    match rows::row(numbers, 0, 2, 128, ANY, 0) {
+    match rows::row(numbers, 0, 2, 256, ANY, 0) {
         Walk::Fault(n, p) => Walk::Fault(n, p),
         Walk::At(a) => match rows::counter(numbers, a, 1024, 1, ANY) {
             Walk::Fault(n, p) => Walk::Fault(n, p),

@@ -11,7 +11,7 @@ use Rattle.rows.specs.Walk.{Parsed, got, fault, andThen, Rule, value, count, be
 -- Header: options, runtime module, counts of modules, symbols, statements, entries, helpers; then the helper symbols.
 unfoldable pub headerRules : List Rule
 headerRules =
-    below 128
+    below 256
     ∷ below any
     ∷ count 1024 1 any
     ∷ count 16384 1 any

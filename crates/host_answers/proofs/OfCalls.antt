@@ -6,7 +6,7 @@ use mathlib.Core.List.{List, _++_}
 use native.Mathlib.Omega.{arith}
 use borrow.Author.Tests.{ltb-true, ltb-false}
 use lib.Dec.{ltb}
-use lib.ListN.{length, getD, take, drop, length-append, List·getD-append}
+use lib.ListN.{length, getD, take, drop, take-append-drop, length-append, List·getD-append}
 use lib.Seq.{take-at, drop-at, drop-append-seam}
 use Rattle.leb128.specs.Read.{all, answerOf as answerOfRead, readOf, lentOf}
 use Rattle.rows.specs.Walk.{Parsed, got, fault}
@@ -39,6 +39,8 @@ use Rattle.closed_choices.proofs.Showing.{bytes-long, rows-show}
 use Rattle.closed_choices.proofs.OfOperation.{drain-shows}
 use Rattle.run_choices.proofs.OfDead.{every-dead-at-end}
 use Rattle.run_choices.proofs.OfRuns.{run-spares}
+use Rattle.settled_runs.specs.Choice.{SmallestSettled}
+use Rattle.settled_runs.proofs.OfRuns.{every-settles}
 use Rattle.rust_effects.proofs.SameVerdicts.{rust-effects}
 use Rattle.rust_run.proofs.Boundary.{run-shows-rust}
 use Rattle.rust_returns.proofs.OnCircles.{returns-and-agrees}
@@ -52,12 +54,13 @@ use Rattle.judged_starts.proofs.OfStarts.{starts-given}
 use Rattle.answers.specs.declared.DrainAnswer.{DrainAnswer}
 use Rattle.answers.specs.declared.ReadAnswer.{ReadAnswer}
 use Rattle.answers.specs.declared.Refusal.{Refusal}
+use Rattle.answers.specs.declared.RunAnswer.{RunAnswer}
 use Rattle.answers.specs.Answers.{readAnswerOf, judgeAnswerOf}
-use Rattle.host_answers.specs.Answered.{rowOfRun, rowOfDrain, DrainAnswers, EveryRead, EveryCheck, EveryEffects, EveryRun, EveryRunReturns, EveryRunDeadAtEnd, EveryRunSpare, EveryJudge, EveryDrainJudged, EveryRunJudged, EveryStartsJudged, EveryDrain}
+use Rattle.host_answers.specs.Answered.{rowOfRun, rowOfDrain, DrainAnswers, EveryRead, EveryCheck, EveryEffects, EveryRun, EveryRunReturns, EveryRunDeadAtEnd, EveryRunSettles, EveryRunSpare, EveryJudge, EveryDrainJudged, EveryRunJudged, EveryStartsJudged, EveryDrain}
 use Rattle.host_answers.proofs.GraphFaults.{check-faults}
 use Rattle.host_answers.proofs.Refusals.{reads-of, effects-in, judges-of}
 use Rattle.host_answers.proofs.NotRefused.{read-whole, accepted-exactly, effects-passed, passed-exactly}
-use Rattle.host_answers.proofs.OfRuns.{totalsIn, drain-kept, run-kept, starts-kept}
+use Rattle.host_answers.proofs.OfRuns.{totalsIn, drain-kept, RunKept, run-kept, starts-kept}
 use Rattle.host_answers.proofs.ByRow.{row-of-run, row-of-drain}
 
 -- A file and a graph ---------------------------------------------------------------------------------------------------------------------
@@ -115,13 +118,13 @@ effects-call numbers lent a after k z w x =
 -- Runs -----------------------------------------------------------------------------------------------------------------------------------
 
 pub run-call : EveryRun
-run-call numbers a lent after k z o x =
-    run-shows-rust numbers lent after (totalsIn a) (run-kept numbers a lent after k z .runs) o x
+run-call numbers a lent after k z way o x =
+    run-shows-rust numbers lent after (totalsIn a) (run-kept numbers a lent after k z .runs) way o x
 
 pub run-call-returns : EveryRunReturns
-run-call-returns numbers a lent after k z n ch =
-    let r = returns-and-agrees numbers (run-kept numbers a lent after k z .accepted) n ch in
-    (r .0, r .1, r .2, run-call numbers a lent after k z (r .0) (r .1))
+run-call-returns numbers a lent after k z way n ch =
+    let r = returns-and-agrees numbers (run-kept numbers a lent after k z .accepted) way n ch in
+    (r .0, r .1, r .2, run-call numbers a lent after k z way (r .0) (r .1))
 
 pub run-call-dead-at-end : EveryRunDeadAtEnd
 run-call-dead-at-end numbers a lent after k z on =
@@ -231,6 +234,32 @@ lines-read lines rest row n l e =
     ∙ lines-same (length lines) row (written lines) (λ j h. ap (λ xs. getD xs j 0) e ∙ List·getD-append (written lines) rest 0 j (omega (arith, h, written-length lines)))
     ∙ ap (λ k. linesOf k (written lines)) (sym (written-many lines))
     ∙ lines-back lines
+
+-- the final entries stand in front of their row
+entries-front : (g : Graph) (live : ℕ → Bool) (lent : List ℕ) (n : ℕ) → n ≡ length (finalEntries g live) → take n (entriesRow g live lent) ≡ finalEntries g live
+unfolding entriesRow
+entries-front g live lent n e = take-at (finalEntries g live) (drop (length (finalEntries g live)) lent) n (sym e)
+
+main-read : (numbers : List ℕ) (a : RunAnswer) (lent after : run.Rows) → RunKept numbers a lent after → linesOf (a .lines) (after .lines) ≡ runOf (graphIn numbers) .main
+main-read numbers a lent after w =
+    let main = runOf (graphIn numbers) .main in
+    let n = 6 * length main in
+    let front : take n (after .lines) ≡ written main = ap (take n) (w .record-is) ∙ run-row numbers (run.roomsOf lent) (graphIn numbers) (runOf (graphIn numbers)) (w .is-done) (lent .lines) in
+    lines-read main (drop n (after .lines)) (after .lines) (a .lines) (w .lines-are) (sym (take-append-drop n (after .lines)) ∙ ap (λ xs. xs ++ drop n (after .lines)) front)
+
+pub run-call-settles : EveryRunSettles
+unfolding run.entriesAfter
+run-call-settles numbers a lent after k z on =
+    let g = graphIn numbers in
+    let w = run-kept numbers a lent after k z in
+    let e = subst (λ (o : run.Outcome). run.Ends o (run.answered (run.outcomeOf numbers (run.roomsOf lent))) lent after) (w .is-done) (k .leaves) in
+    record {
+      live = runOf g .live;
+      smallest =
+          subst (λ (l : List Line). SmallestSettled g (HasLine l) (λ m. runOf g .live m ≡ true)) (sym (main-read numbers a lent after w))
+          (every-settles numbers (run.roomsOf lent) g (runOf g) (w .is-done) on .smallest);
+      entries-are = rw (e .entries-are) (entries-front g (runOf g .live) (lent .entries) (a .entries) (w .entries-are));
+    }
 
 drain-answers : (g : Graph) (given : List ℕ) (lines : List Line) (a : DrainAnswer) (lent after : drain.Rows) → linesOf (a .lines) (after .lines) ≡ lines
     → ((row : Row) → rowOfDrain row after ≡ drain.rowAfter row (drain.done g lines) (rowOfDrain row lent)) → SmallestByRules g (startsOf given) (HasLine lines) → DrainShows g given lines

@@ -3,7 +3,7 @@
 use Prim.Native.Nat.{ℕ, _*_, _<_, _≤_}
 use mathlib.Core.Path.{_≡_}
 use mathlib.Core.Logic.{_↔_}
-use mathlib.Core.Bool.{true, false}
+use mathlib.Core.Bool.{Bool, true, false}
 use mathlib.Core.List.{List}
 use lib.ListN.{length, take, drop}
 use Rattle.bit_row.specs.Row.{bitAt, bytesFor}
@@ -22,9 +22,11 @@ use Rattle.graph_access.specs.Words.{option}
 use Rattle.dead_records.specs.Dead.{recordCount}
 use Rattle.run_rows.specs.Run.{runOf}
 use Rattle.run_choices.specs.DeadAtEnd.{DeadAtEnd}
+use Rattle.settled_runs.specs.Choice.{SmallestSettled}
 use Rattle.run_parts.specs.Operation.{Rows as RunRows}
 use Rattle.judge_parts.specs.Operation.{judgeOf}
 use Rattle.run_starts.specs.Operation.{Rows as StartsRows}
+use Rattle.tree_shaking.specs.Rounds.{finalEntries}
 use Rattle.tree_shaking.specs.Own.{runStarts}
 use Rattle.own_starts.specs.Once.{triples}
 use Rattle.closed_choices.specs.Choice.{HasLine, RowShows}
@@ -33,6 +35,7 @@ use Rattle.judged_records.specs.Choice.{SmallestByRules}
 use Rattle.judged_records.specs.Operation.{Passes}
 use Rattle.rust_effects.specs.DetermineSideEffects.{SideEffects}
 use Rattle.rust_run.specs.IncludeStatements.{Outcome, Returns}
+use Rattle.rust_run.specs.Agreement.{AsRust}
 use Rattle.rust_run.specs.Boundary.{RowsAgree}
 use Rattle.rust_returns.specs.Following.{Choosing, Follows}
 use Rattle.rust_returns.specs.Circle.{Circle}
@@ -58,7 +61,7 @@ abbrev pub EveryCheck : Type 0
 EveryCheck = (numbers : List ℕ) → (checkAnswerOf (answerOf (checkOf numbers)) .number ≡ 0) ↔ (answerOf (checkOf numbers) ≡ Accepted)
 
 -- Demand 2: the verdicts that `keep_effects` gives are those that the Rust comes to before it includes statements, on every graph, and so those of every
--- outcome; the rows that `keep_run` gives are those of every outcome;
+-- outcome; the rows that `keep_run` gives are those of every outcome, where the options ask for no other rounds;
 abbrev pub EveryEffects : Type 0
 EveryEffects =
     (numbers lent : List ℕ) (a : Refusal) (after : List ℕ) → KeepEffects numbers lent a after → a .number ≡ 0
@@ -67,13 +70,13 @@ EveryEffects =
 abbrev pub EveryRun : Type 0
 EveryRun =
     (numbers : List ℕ) (a : RunAnswer) (lent after : RunRows) → KeepRun numbers a lent after → a .number ≡ 0
-    → (o : Outcome) → Returns (graphIn numbers) o → RowsAgree (graphIn numbers) o (a .rounds) (a .entries) after
+    → AsRust (graphIn numbers) → (o : Outcome) → Returns (graphIn numbers) o → RowsAgree (graphIn numbers) o (a .rounds) (a .entries) after
 
 -- and unless there is a circle, the Rust has one, whatever the hash orders.
 abbrev pub EveryRunReturns : Type 0
 EveryRunReturns =
     (numbers : List ℕ) (a : RunAnswer) (lent after : RunRows) → KeepRun numbers a lent after → a .number ≡ 0
-    → (Circle (graphIn numbers) → ⊥) → (ch : Choosing (graphIn numbers))
+    → AsRust (graphIn numbers) → (Circle (graphIn numbers) → ⊥) → (ch : Choosing (graphIn numbers))
     → (o : Outcome) × (r : Returns (graphIn numbers) o) × Follows (graphIn numbers) ch o r × RowsAgree (graphIn numbers) o (a .rounds) (a .entries) after
 
 -- With options bit 6 the dead bits that `keep_run` gives are those of the end, so that no import of an entry that comes alive is dropped; without it they
@@ -82,6 +85,18 @@ abbrev pub EveryRunDeadAtEnd : Type 0
 EveryRunDeadAtEnd =
     (numbers : List ℕ) (a : RunAnswer) (lent after : RunRows) → KeepRun numbers a lent after → a .number ≡ 0
     → option (graphIn numbers) 6 ≡ true → DeadAtEnd (graphIn numbers) (runOf (graphIn numbers)) (after .dead)
+
+-- With options bit 7 the facts of the lines that `keep_run` leaves in the record, up to the runtime helpers, are with the live modules the smallest settled
+-- choice; the row of final entries shows of which modules dynamic entries are live, unless splitting is off.
+pub record RunSettles (g : Graph) (a : RunAnswer) (after : RunRows) : Type 1 where
+  pub live : ℕ → Bool
+  pub smallest : SmallestSettled g (HasLine (linesOf (a .lines) (after .lines))) (λ m. live m ≡ true)
+  pub entries-are : take (a .entries) (after .entries) ≡ finalEntries g live
+
+abbrev pub EveryRunSettles : Type 1
+EveryRunSettles =
+    (numbers : List ℕ) (a : RunAnswer) (lent after : RunRows) → KeepRun numbers a lent after → a .number ≡ 0
+    → option (graphIn numbers) 7 ≡ true → RunSettles (graphIn numbers) a after
 
 -- In the rows of a run nothing else is set: a bit that stands for nothing is 0, and behind its answer a row is as lent.
 abbrev pub rowOfRun : Row → RunRows → List ℕ

@@ -17,7 +17,7 @@ use Rattle.entry_starts.specs.Starts.{declared, referenceStarts, referencesStar
 use Rattle.dynamic_entries.specs.Sorted.{sortedEntries}
 use Rattle.dynamic_entries.specs.Tries.{Progress, lives, tried}
 use Rattle.passes.specs.Bailouts.{exportStarts, bailoutStarts, bailoutsStarts}
-use Rattle.tree_shaking.specs.Rounds.{bailed, round, keptModule, begun}
+use Rattle.tree_shaking.specs.Rounds.{bailed, round, goesOn, roundsFuel, begun}
 use Rattle.tree_shaking.specs.Own.{Party, Start, entry, bailouts, by, ofUsers, ofTry, ofTries, ofRound, ofRounds, ownStarts, runStarts}
 use Rattle.closed_choices.proofs.Every.{Every, every-append, every-map, every-if}
 use Rattle.judged_records.proofs.RunTriples.{Startable}
@@ -117,11 +117,11 @@ module _ (g : Graph) where
     rounds-fit (suc fuel) taken p =
         let next = ofRounds g v fuel (length (p .lines)) (round g v taken p) in
         every-append FitStart (ofRound g v taken p) _ (round-fit taken p)
-        (every-if FitStart (keptModule (length (p .lines)) (round g v taken p .lines)) next [] (rounds-fit fuel (length (p .lines)) (round g v taken p)) tt)
+        (every-if FitStart (goesOn g p (round g v taken p)) next [] (rounds-fit fuel (length (p .lines)) (round g v taken p)) tt)
 
     -- all that a run starts
     pub run-starts-fit : Every (Startable g) (runStarts g v)
     unfolding runStarts ownStarts
     run-starts-fit =
         mapped Fit (λ s. s .fact) (ownStarts g v)
-        (every-append FitStart (ofUsers g (userEntries g)) (ofRounds g v (g .header .modules + 1) 0 (begun g v)) (users-fit (userEntries g)) (rounds-fit (g .header .modules + 1) 0 (begun g v)))
+        (every-append FitStart (ofUsers g (userEntries g)) (ofRounds g v (roundsFuel g) 0 (begun g v)) (users-fit (userEntries g)) (rounds-fit (roundsFuel g) 0 (begun g v)))

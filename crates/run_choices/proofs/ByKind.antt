@@ -10,7 +10,7 @@ use native.Mathlib.Omega.{arith}
 use borrow.Author.Tests.{eq-eqb, eqb-true}
 use lib.Dec.{eqb}
 use lib.ListN.{length, take, drop, take-append-drop}
-use lib.Seq.{take-all, take-take}
+use lib.Seq.{take-take}
 use Rattle.graph.specs.Check.{Graph, graphIn}
 use Rattle.graph.specs.Loaded.{Loaded}
 use Rattle.facts.specs.declared.Fact.{Fact}
@@ -20,26 +20,19 @@ use Rattle.entry_starts.specs.Starts.{moduleStarts, userStarts}
 use Rattle.dynamic_entries.specs.Sorted.{sortedEntries}
 use Rattle.dynamic_entries.specs.Tries.{Progress, starting, lives, nowLive, nowDead, tried, tries}
 use Rattle.passes.specs.Bailouts.{bailoutsStarts, bailoutStarts}
-use Rattle.passes.proofs.Staying.{take-drained-all}
-use Rattle.tree_shaking.specs.Rounds.{usersStarts, bailed, round, keptModule, Ended, endedAt, roundsFrom, noOne, begun, mainPart}
+use Rattle.tree_shaking.specs.Rounds.{usersStarts, bailed, round, goesOn, roundsFuel, Ended, endedAt, roundsFrom, noOne, begun, mainPart}
 use Rattle.tree_shaking.specs.Own.{Start, entry, bailouts, by, ofUsers, ofTry, ofTries, ofRound, ofRounds, ownStarts, runStarts, liveStarts, startsByKind}
-use Rattle.tree_shaking.proofs.Longer.{starting-longer, taken-more}
+use Rattle.tree_shaking.proofs.Longer.{taken-more}
 use Rattle.closed_choices.proofs.Every.{Every, every-append, every-left, every-right}
 use Rattle.run_choices.proofs.GoodStarts.{none-behind}
+use Rattle.run_choices.proofs.Further.{Further, goes-longer, goes-front, goes-take, tries-further, round-further, rounds-further}
 use Rattle.run_choices.proofs.Growing.{factsOf, facts-append, facts-by}
 
 -- the starts by kind at the end of a main part
 abbrev pub mainByKind : Graph → List ℕ → List Fact
 mainByKind g v = startsByKind g (mainPart g v .end .live) (take (mainPart g v .taken) (mainPart g v .end .lines))
 
-abbrev endOf : Ended → Progress
-endOf e = e .end
-
-or-true : (b : Bool) → (b || true) ≡ true
-or-true true = refl
-or-true false = refl
-
-bailouts-append : (g : Graph) (a b : List Line) → bailoutsStarts g (a ++ b) ≡ bailoutsStarts g a ++ bailoutsStarts g b
+pub bailouts-append : (g : Graph) (a b : List Line) → bailoutsStarts g (a ++ b) ≡ bailoutsStarts g a ++ bailoutsStarts g b
 unfolding bailoutsStarts
 bailouts-append g [] b = refl
 bailouts-append g (l ∷ ls) b = ap (λ (x : List Fact). bailoutStarts g (l .fact) ++ x) (bailouts-append g ls b) ∙ sym (append-assoc (bailoutStarts g (l .fact)) (bailoutsStarts g ls) (bailoutsStarts g b))
@@ -57,35 +50,6 @@ users-facts g (e ∷ es) =
     ∙ ap (λ (l : List Fact). userStarts g (moduleOfEntry g e) ++ l) (users-facts g es)
 
 module _ (g : Graph) (v : List ℕ) where
-  -- from one progress to a later one
-  record Goes (p q : Progress) : Type 0 where
-    lines-kept : (n : ℕ) → n ≤ length (p .lines) → take n (q .lines) ≡ take n (p .lines)
-    longer : length (p .lines) ≤ length (q .lines)
-    still-live : (m : ℕ) → p .live m ≡ true → q .live m ≡ true
-
-  goes-on : (p q r : Progress) → Goes p q → Goes q r → Goes p r
-  goes-on p q r a b =
-      record {
-        lines-kept = λ n h. b .lines-kept n (omega (arith, a .longer)) ∙ a .lines-kept n h;
-        longer = omega (arith, a .longer, b .longer);
-        still-live = λ m h. b .still-live m (a .still-live m h);
-      }
-
-  goes-none : (p : Progress) → Goes p p
-  goes-none p = record { lines-kept = λ n h. refl; longer = omega arith; still-live = λ m h. h }
-
-  starting-goes : (facts : List Fact) (p : Progress) → Goes p (starting g v facts p)
-  unfolding starting
-  starting-goes facts p = record { lines-kept = λ n h. take-drained-all g v 0 facts (p .lines) n h; longer = starting-longer g v facts p; still-live = λ m h. h }
-
-  live-goes : (e : ℕ) (p : Progress) → Goes p (nowLive g e p)
-  unfolding nowLive
-  live-goes e p = record { lines-kept = λ n h. refl; longer = omega arith; still-live = λ m h. ap (λ (b : Bool). eqb m (moduleOfEntry g e) || b) h ∙ or-true (eqb m (moduleOfEntry g e)) }
-
-  dead-goes : (e : ℕ) (p : Progress) → Goes p (nowDead e p)
-  unfolding nowDead
-  dead-goes e p = record { lines-kept = λ n h. refl; longer = omega arith; still-live = λ m h. h }
-
   -- a try of an entry, by whether its module was live and whether it lives now: what it comes to, and what it starts
   abbrev after : ℕ → Progress → Bool → Bool → Progress
   after e p a b = elim a [ true ↦ p | false ↦ elim b [ true ↦ starting g v (moduleStarts g (moduleOfEntry g e)) (nowLive g e p) | false ↦ nowDead e p ] ]
@@ -93,40 +57,9 @@ module _ (g : Graph) (v : List ℕ) where
   abbrev begins : ℕ → Bool → Bool → List Start
   begins e a b = elim a [ true ↦ [] | false ↦ elim b [ true ↦ by (entry e) (moduleStarts g (moduleOfEntry g e)) | false ↦ [] ] ]
 
-  tried-goes : (e : ℕ) (p : Progress) → Goes p (tried g v e p)
-  unfolding tried
-  tried-goes e p = go (p .live (moduleOfEntry g e)) (lives g v p e)
-    where
-      go : (a b : Bool) → Goes p (after e p a b)
-      go true b = goes-none p
-      go false true = goes-on p (nowLive g e p) (starting g v (moduleStarts g (moduleOfEntry g e)) (nowLive g e p)) (live-goes e p) (starting-goes (moduleStarts g (moduleOfEntry g e)) (nowLive g e p))
-      go false false = dead-goes e p
-
-  tries-goes : (es : List ℕ) (p : Progress) → Goes p (tries g v es p)
-  unfolding tries
-  tries-goes [] p = goes-none p
-  tries-goes (e ∷ es) p = goes-on p (tried g v e p) (tries g v es (tried g v e p)) (tried-goes e p) (tries-goes es (tried g v e p))
-
-  round-goes : (taken : ℕ) (p : Progress) → Goes p (round g v taken p)
-  unfolding round bailed
-  round-goes taken p = goes-on p (bailed g v taken p) (tries g v (sortedEntries g) (bailed g v taken p)) (starting-goes (bailoutsStarts g (drop taken (p .lines))) p) (tries-goes (sortedEntries g) (bailed g v taken p))
-
-  rounds-goes : (fuel made taken : ℕ) (p : Progress) → Goes p (roundsFrom g v fuel made taken p .end)
-  unfolding roundsFrom
-  rounds-goes zero made taken p = goes-none p
-  rounds-goes (suc fuel) made taken p = go (keptModule (length (p .lines)) (round g v taken p .lines)) (rounds-goes fuel (made + 1) (length (p .lines)) (round g v taken p))
-    where
-      next : Progress
-      next = round g v taken p
-
-      go : (b : Bool) → Goes next (roundsFrom g v fuel (made + 1) (length (p .lines)) next .end)
-          → Goes p (endOf (elim b [ true ↦ roundsFrom g v fuel (made + 1) (length (p .lines)) next | false ↦ endedAt (made + 1) (length (p .lines)) next ]))
-      go true q = goes-on p next (roundsFrom g v fuel (made + 1) (length (p .lines)) next .end) (round-goes taken p) q
-      go false q = round-goes taken p
-
   -- the lines that were there before a round, in what it comes to
   lines-before : (taken : ℕ) (p : Progress) → take (length (p .lines)) (round g v taken p .lines) ≡ p .lines
-  lines-before taken p = round-goes taken p .lines-kept (length (p .lines)) (omega arith) ∙ take-all (length (p .lines)) (p .lines) (omega arith)
+  lines-before taken p = goes-front (p .lines) (round g v taken p .lines) (round-further g v taken p .lines-go)
 
   module _ (P : Fact → Type 0) where
     abbrev Starts : List Start → Type 0
@@ -190,7 +123,7 @@ module _ (g : Graph) (v : List ℕ) where
     unfolding tries ofTries factsOf
     tries-starts [] p h = tt
     tries-starts (e ∷ es) p h =
-        starts-both (ofTry g v e p) (ofTries g v es (tried g v e p)) (try-starts e p (λ m x. h m (tries-goes es (tried g v e p) .still-live m x))) (tries-starts es (tried g v e p) h)
+        starts-both (ofTry g v e p) (ofTries g v es (tried g v e p)) (try-starts e p (λ m x. h m (tries-further g v es (tried g v e p) .live-stays m x))) (tries-starts es (tried g v e p) h)
 
     tries-live : (es : List ℕ) (p : Progress) → LiveHolds (p .live) → Starts (ofTries g v es p) → LiveHolds (tries g v es p .live)
     unfolding tries ofTries
@@ -228,11 +161,11 @@ module _ (g : Graph) (v : List ℕ) where
         }
 
     -- all rounds
-    rounds-hold : (fuel made taken : ℕ) (p : Progress) → Holds taken p → Starts (ofRounds g v fuel taken p) → HoldsAt (roundsFrom g v fuel made taken p)
+    rounds-hold : (fuel made taken : ℕ) (p : Progress) → Holds taken p → Starts (ofRounds g v fuel taken p) → HoldsAt (roundsFrom g v (goesOn g) fuel made taken p)
     unfolding roundsFrom ofRounds
     rounds-hold zero made taken p h k = h
     rounds-hold (suc fuel) made taken p h k =
-        go (λ n q. rounds-hold fuel (made + 1) (length (p .lines)) (round g v taken p) n q) (keptModule (length (p .lines)) (round g v taken p .lines)) k
+        go (λ n q. rounds-hold fuel (made + 1) (length (p .lines)) (round g v taken p) n q) (goesOn g p (round g v taken p)) k
       where
         next : Progress
         next = round g v taken p
@@ -243,29 +176,29 @@ module _ (g : Graph) (v : List ℕ) where
         later : List Start
         later = ofRounds g v fuel (length (p .lines)) next
 
-        go : (Holds (length (p .lines)) next → Starts later → HoldsAt (roundsFrom g v fuel (made + 1) (length (p .lines)) next))
+        go : (Holds (length (p .lines)) next → Starts later → HoldsAt (roundsFrom g v (goesOn g) fuel (made + 1) (length (p .lines)) next))
             → (b : Bool) → Starts (one ++ elim b [ true ↦ later | false ↦ [] ])
-            → HoldsAt (elim b [ true ↦ roundsFrom g v fuel (made + 1) (length (p .lines)) next | false ↦ endedAt (made + 1) (length (p .lines)) next ])
+            → HoldsAt (elim b [ true ↦ roundsFrom g v (goesOn g) fuel (made + 1) (length (p .lines)) next | false ↦ endedAt (made + 1) (length (p .lines)) next ])
         go more true k = more (round-holds taken p h (starts-first one later k)) (starts-second one later k)
         go more false k = round-holds taken p h (starts-first one [] k)
 
     -- what is taken and live in the end was so at an earlier moment
-    earlier : (at t : ℕ) (p q : Progress) → at ≤ length (p .lines) → at ≤ t → Goes p q → Holds t q → Holds at p
+    earlier : (at t : ℕ) (p q : Progress) → at ≤ length (p .lines) → at ≤ t → Further p q → Holds t q → Holds at p
     earlier at t p q l u o w =
-        let same : take at (take t (q .lines)) ≡ take at (p .lines) = take-take at t (q .lines) u ∙ o .lines-kept at l in
-        record { of-taken = subst (λ (x : List Line). Bails x) same (bails-first at (take t (q .lines)) (w .of-taken)); of-live = λ m x. w .of-live m (o .still-live m x) }
+        let same : take at (take t (q .lines)) ≡ take at (p .lines) = take-take at t (q .lines) u ∙ goes-take (p .lines) (q .lines) (o .lines-go) at l in
+        record { of-taken = subst (λ (x : List Line). Bails x) same (bails-first at (take t (q .lines)) (w .of-taken)); of-live = λ m x. w .of-live m (o .live-stays m x) }
 
-    rounds-start : (fuel made taken : ℕ) (p : Progress) → HoldsAt (roundsFrom g v fuel made taken p) → Starts (ofRounds g v fuel taken p)
+    rounds-start : (fuel made taken : ℕ) (p : Progress) → HoldsAt (roundsFrom g v (goesOn g) fuel made taken p) → Starts (ofRounds g v fuel taken p)
     unfolding roundsFrom ofRounds factsOf
     rounds-start zero made taken p k = tt
     rounds-start (suc fuel) made taken p k =
-        go (λ w. rounds-start fuel (made + 1) (length (p .lines)) (round g v taken p) w) (keptModule (length (p .lines)) (round g v taken p .lines)) k
+        go (λ w. rounds-start fuel (made + 1) (length (p .lines)) (round g v taken p) w) (goesOn g p (round g v taken p)) k
       where
         next : Progress
         next = round g v taken p
 
         end : Ended
-        end = roundsFrom g v fuel (made + 1) (length (p .lines)) next
+        end = roundsFrom g v (goesOn g) fuel (made + 1) (length (p .lines)) next
 
         one : List Start
         one = ofRound g v taken p
@@ -275,9 +208,9 @@ module _ (g : Graph) (v : List ℕ) where
 
         go : (HoldsAt end → Starts later) → (b : Bool) → HoldsAt (elim b [ true ↦ end | false ↦ endedAt (made + 1) (length (p .lines)) next ]) → Starts (one ++ elim b [ true ↦ later | false ↦ [] ])
         go more true w =
-            let l = round-goes taken p .longer in
-            let u = taken-more g v fuel (made + 1) (length (p .lines)) next l .0 in
-            starts-both one later (round-starts taken p (earlier (length (p .lines)) (end .taken) next (end .end) l u (rounds-goes fuel (made + 1) (length (p .lines)) next) w)) (more w)
+            let l = goes-longer (p .lines) (next .lines) (round-further g v taken p .lines-go) in
+            let u = taken-more g v (goesOn g) fuel (made + 1) (length (p .lines)) next l .0 in
+            starts-both one later (round-starts taken p (earlier (length (p .lines)) (end .taken) next (end .end) l u (rounds-further g v (goesOn g) fuel (made + 1) (length (p .lines)) next) w)) (more w)
         go more false w = starts-both one [] (round-starts taken p w) tt
 
     -- what live modules start, one module after another
@@ -314,7 +247,7 @@ module _ (g : Graph) (v : List ℕ) where
     of-users = usersStarts g (userEntries g)
 
     abbrev of-rounds : List Start
-    of-rounds = ofRounds g v (g .header .modules + 1) 0 (begun g v)
+    of-rounds = ofRounds g v (roundsFuel g) 0 (begun g v)
 
     abbrev of-bailouts : List Fact
     of-bailouts = bailoutsStarts g (take (mainPart g v .taken) (mainPart g v .end .lines))
@@ -330,7 +263,7 @@ module _ (g : Graph) (v : List ℕ) where
     unfolding startsByKind mainPart
     own-by-kind h =
         let k = subst (λ (l : List Fact). Every P l) own-are h in
-        let r = rounds-hold (g .header .modules + 1) 0 0 (begun g v) begun-holds (every-right P of-users (factsOf of-rounds) k) in
+        let r = rounds-hold (roundsFuel g) 0 0 (begun g v) begun-holds (every-right P of-users (factsOf of-rounds) k) in
         every-append P of-users (of-bailouts ++ of-modules) (every-left P of-users (factsOf of-rounds) k)
         (every-append P of-bailouts of-modules (r .of-taken) (each-live (mainPart g v .end .live) 0 (g .header .modules) (r .of-live)))
 
@@ -342,7 +275,7 @@ module _ (g : Graph) (v : List ℕ) where
         let holds : HoldsAt (mainPart g v) =
         record { of-taken = every-left P of-bailouts of-modules rest; of-live = λ m e. go m (decLt m (g .header .modules)) (every-right P of-bailouts of-modules rest) e } in
         subst (λ (l : List Fact). Every P l) (sym own-are)
-        (every-append P of-users (factsOf of-rounds) (every-left P of-users (of-bailouts ++ of-modules) h) (rounds-start (g .header .modules + 1) 0 0 (begun g v) holds))
+        (every-append P of-users (factsOf of-rounds) (every-left P of-users (of-bailouts ++ of-modules) h) (rounds-start (roundsFuel g) 0 0 (begun g v) holds))
       where
         go : (m : ℕ) → Dec (m < g .header .modules) → Every P of-modules → mainPart g v .end .live m ≡ true → Every P (moduleStarts g m)
         go m (yes u) a e = live-each (mainPart g v .end .live) 0 (g .header .modules) a m (omega arith) (omega (arith, u)) e

@@ -16,12 +16,9 @@ use Rattle.entry_starts.specs.Starts.{moduleStarts}
 use Rattle.cycles.proofs.Members.{In, in-none, in-cases, never-both}
 use Rattle.dynamic_entries.specs.Sorted.{sortedEntries}
 use Rattle.dynamic_entries.specs.Tries.{Progress, starting, lives, nowLive, nowDead, tried, tries}
-use Rattle.tree_shaking.specs.Rounds.{bailed, round, keptModule, Ended, endedAt, roundsFrom, begun, mainPart}
+use Rattle.tree_shaking.specs.Rounds.{bailed, round, goesOn, roundsFuel, Ended, endedAt, roundsFrom, begun, mainPart}
+use Rattle.run_choices.proofs.Further.{or-right, try-old, try-live, try-dead}
 use Rattle.run_choices.proofs.Sorted.{dynamic-sorted}
-
-or-right : (a b : Bool) → b ≡ true → (a || b) ≡ true
-or-right true b e = refl
-or-right false b e = e
 
 or-left : (a b : Bool) → a ≡ true → (a || b) ≡ true
 or-left true b e = refl
@@ -35,19 +32,6 @@ abbrev IsTried : Graph → ℕ → Progress → Type 0
 IsTried g e p = (p .live (moduleOfEntry g e) ≡ true) ⊎ (p .dead e ≡ true)
 
 module _ (g : Graph) (v : List ℕ) where
-  -- a try, by its two tests
-  try-old : (e : ℕ) (p : Progress) → p .live (moduleOfEntry g e) ≡ true → tried g v e p ≡ p
-  unfolding tried
-  try-old e p a = rw (a, tried)
-
-  pub try-live : (e : ℕ) (p : Progress) → p .live (moduleOfEntry g e) ≡ false → lives g v p e ≡ true → tried g v e p ≡ starting g v (moduleStarts g (moduleOfEntry g e)) (nowLive g e p)
-  unfolding tried
-  try-live e p a b = rw (a, b, tried)
-
-  pub try-dead : (e : ℕ) (p : Progress) → p .live (moduleOfEntry g e) ≡ false → lives g v p e ≡ false → tried g v e p ≡ nowDead e p
-  unfolding tried
-  try-dead e p a b = rw (a, b, tried)
-
   -- what a try does to what was met, and to its own entry
   live-met : (fs : List Fact) (x e : ℕ) (p : Progress) → IsTried g x p → IsTried g x (starting g v fs (nowLive g e p))
   unfolding starting nowLive
@@ -72,17 +56,17 @@ module _ (g : Graph) (v : List ℕ) where
   try-met x e p m = go (p .live (moduleOfEntry g e)) refl (lives g v p e) refl
     where
       go : (b : Bool) → p .live (moduleOfEntry g e) ≡ b → (c : Bool) → lives g v p e ≡ c → IsTried g x (tried g v e p)
-      go true a c d = subst (λ (q : Progress). IsTried g x q) (sym (try-old e p a)) m
-      go false a true d = subst (λ (q : Progress). IsTried g x q) (sym (try-live e p a d)) (live-met (moduleStarts g (moduleOfEntry g e)) x e p m)
-      go false a false d = subst (λ (q : Progress). IsTried g x q) (sym (try-dead e p a d)) (dead-met x e p m)
+      go true a c d = subst (λ (q : Progress). IsTried g x q) (sym (try-old g v e p a)) m
+      go false a true d = subst (λ (q : Progress). IsTried g x q) (sym (try-live g v e p a d)) (live-met (moduleStarts g (moduleOfEntry g e)) x e p m)
+      go false a false d = subst (λ (q : Progress). IsTried g x q) (sym (try-dead g v e p a d)) (dead-met x e p m)
 
   try-meets : (e : ℕ) (p : Progress) → IsTried g e (tried g v e p)
   try-meets e p = go (p .live (moduleOfEntry g e)) refl (lives g v p e) refl
     where
       go : (b : Bool) → p .live (moduleOfEntry g e) ≡ b → (c : Bool) → lives g v p e ≡ c → IsTried g e (tried g v e p)
-      go true a c d = subst (λ (q : Progress). IsTried g e q) (sym (try-old e p a)) (inl a)
-      go false a true d = subst (λ (q : Progress). IsTried g e q) (sym (try-live e p a d)) (live-meets (moduleStarts g (moduleOfEntry g e)) e p)
-      go false a false d = subst (λ (q : Progress). IsTried g e q) (sym (try-dead e p a d)) (dead-meets e p)
+      go true a c d = subst (λ (q : Progress). IsTried g e q) (sym (try-old g v e p a)) (inl a)
+      go false a true d = subst (λ (q : Progress). IsTried g e q) (sym (try-live g v e p a d)) (live-meets (moduleStarts g (moduleOfEntry g e)) e p)
+      go false a false d = subst (λ (q : Progress). IsTried g e q) (sym (try-dead g v e p a d)) (dead-meets e p)
 
   tries-met : (es : List ℕ) (x : ℕ) (p : Progress) → IsTried g x p → IsTried g x (tries g v es p)
   unfolding tries
@@ -100,20 +84,20 @@ module _ (g : Graph) (v : List ℕ) where
   unfolding round
   round-meets x taken p i = tries-meet (sortedEntries g) x (bailed g v taken p) i
 
-  rounds-meet : (x : ℕ) → In (sortedEntries g) x → (fuel made taken : ℕ) (p : Progress) → IsTried g x p ⊎ (0 < fuel) → IsTried g x (roundsFrom g v fuel made taken p .end)
+  rounds-meet : (x : ℕ) → In (sortedEntries g) x → (fuel made taken : ℕ) (p : Progress) → IsTried g x p ⊎ (0 < fuel) → IsTried g x (roundsFrom g v (goesOn g) fuel made taken p .end)
   unfolding roundsFrom
   rounds-meet x i zero made taken p s = ⊎-elim (λ m. m) (λ h. absurd (omega (arith, h))) s
   rounds-meet x i (suc fuel) made taken p s =
-      go (keptModule (length (p .lines)) (round g v taken p .lines)) (rounds-meet x i fuel (made + 1) (length (p .lines)) (round g v taken p) (inl (round-meets x taken p i)))
+      go (goesOn g p (round g v taken p)) (rounds-meet x i fuel (made + 1) (length (p .lines)) (round g v taken p) (inl (round-meets x taken p i)))
     where
-      go : (b : Bool) → IsTried g x (roundsFrom g v fuel (made + 1) (length (p .lines)) (round g v taken p) .end)
-          → IsTried g x (picked (elim b [ true ↦ roundsFrom g v fuel (made + 1) (length (p .lines)) (round g v taken p) | false ↦ endedAt (made + 1) (length (p .lines)) (round g v taken p) ]))
+      go : (b : Bool) → IsTried g x (roundsFrom g v (goesOn g) fuel (made + 1) (length (p .lines)) (round g v taken p) .end)
+          → IsTried g x (picked (elim b [ true ↦ roundsFrom g v (goesOn g) fuel (made + 1) (length (p .lines)) (round g v taken p) | false ↦ endedAt (made + 1) (length (p .lines)) (round g v taken p) ]))
       go true r = r
       go false r = round-meets x taken p i
 
   main-meets : (x : ℕ) → In (sortedEntries g) x → IsTried g x (mainPart g v .end)
   unfolding mainPart
-  main-meets x i = rounds-meet x i (g .header .modules + 1) 0 0 (begun g v) (inr (omega arith))
+  main-meets x i = rounds-meet x i (roundsFuel g) 0 0 (begun g v) (inr (omega arith))
 
 -- a dynamic entry of a module that is not live at the end was found dead
 module _ {numbers tables : List ℕ} (t : Loaded numbers tables) (v : List ℕ) where

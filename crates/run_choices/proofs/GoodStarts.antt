@@ -23,11 +23,12 @@ use Rattle.facts.specs.declared.Fact.the-variants.{Module, Statement, Use, Chec
 use Rattle.facts.specs.Facts.{moduleFact, statementFact, useFact, checkedFact, bailoutFact, Good}
 use Rattle.determine_side_effects.specs.Effects.{hasEffects}
 use Rattle.keep_record.specs.declared.Line.{Line}
-use Rattle.entry_order.specs.Order.{those}
+use Rattle.entry_order.specs.Order.{those, moduleOfEntry}
 use Rattle.entry_starts.specs.Starts.{declared, referenceStarts, referencesStarts, moduleStarts, userStarts}
 use Rattle.entry_starts.proofs.Referring.{module-none}
 use Rattle.passes.specs.Bailouts.{exportStarts, bailoutStarts, bailoutsStarts}
 use Rattle.passes.specs.Helpers.{runtimeStarts}
+use Rattle.tree_shaking.specs.Rounds.{usersStarts}
 use Rattle.closed_choices.proofs.Every.{Every, every-append, every-map, every-tabulate}
 use Rattle.closed_choices.proofs.GoodGives.{good-module, good-statement, good-use, good-checked, good-bailout}
 
@@ -118,6 +119,11 @@ module _ {numbers tables : List ℕ} (t : Loaded numbers tables) where
       go : (b : Bool) → normal g m ≡ b → Every (Good g) (elim b [ true ↦ bailoutFact m ∷ moduleStarts g m | false ↦ [] ])
       go true e = (good-bailout numbers m (normal-below m e), module-starts-good m)
       go false e = tt
+
+  pub users-starts-good : (es : List ℕ) → Every (Good g) (usersStarts g es)
+  unfolding usersStarts
+  users-starts-good [] = tt
+  users-starts-good (e ∷ es) = every-append (Good g) (userStarts g (moduleOfEntry g e)) (usersStarts g es) (user-starts-good (moduleOfEntry g e)) (users-starts-good es)
 
   -- bailouts
   exports-good : (rows : List (List ℕ)) → ((k : ℕ) → k < length rows → exportSymbol (getD rows k []) < headerIn numbers .symbols) → Every (Good g) (exportStarts rows)

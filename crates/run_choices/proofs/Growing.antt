@@ -19,7 +19,7 @@ use Rattle.entry_starts.proofs.Together.{all-append}
 use Rattle.dynamic_entries.specs.Sorted.{sortedEntries}
 use Rattle.dynamic_entries.specs.Tries.{Progress, starting, lives, nowLive, nowDead, tried, tries}
 use Rattle.passes.specs.Bailouts.{bailoutsStarts}
-use Rattle.tree_shaking.specs.Rounds.{bailed, round, keptModule, Ended, endedAt, roundsFrom, usersStarts, begun, mainPart}
+use Rattle.tree_shaking.specs.Rounds.{bailed, round, goesOn, roundsFuel, Ended, endedAt, roundsFrom, usersStarts, begun, mainPart}
 use Rattle.tree_shaking.specs.Own.{Party, Start, entry, bailouts, by, ofUsers, ofTry, ofTries, ofRound, ofRounds, ownStarts, runStarts}
 use Rattle.closed_choices.proofs.Every.{Every, every-append, every-at, every-drop}
 use Rattle.run_choices.proofs.GoodStarts.{module-starts-good, user-starts-good, bailouts-good}
@@ -121,18 +121,14 @@ module _ {numbers tables : List ℕ} (t : Loaded numbers tables) where
       grows-on g (by bailouts (bailoutsStarts g (drop taken (p .lines)))) (ofTries g v (sortedEntries g) (bailed g v taken p)) (p .lines) (bailed g v taken p .lines)
       (tries g v (sortedEntries g) (bailed g v taken p) .lines) (bailed-grows taken p w) (tries-grow (sortedEntries g) (bailed g v taken p))
 
-  -- a round starts some facts
-  pub round-starts : (taken : ℕ) (p : Progress) → Whole g 0 (p .lines) → (facts : List Fact) × (round g v taken p .lines ≡ drainedAll g v 0 facts (p .lines))
-  round-starts taken p w = (factsOf (ofRound g v taken p), round-grows taken p w .lines-are)
-
   pub round-whole : (taken : ℕ) (p : Progress) → Whole g 0 (p .lines) → Whole g 0 (round g v taken p .lines)
   round-whole taken p w = grows-whole (ofRound g v taken p) (p .lines) (round g v taken p .lines) (round-grows taken p w) w
 
-  rounds-grow : (fuel made taken : ℕ) (p : Progress) → Whole g 0 (p .lines) → Grows g (ofRounds g v fuel taken p) (p .lines) (roundsFrom g v fuel made taken p .end .lines)
+  rounds-grow : (fuel made taken : ℕ) (p : Progress) → Whole g 0 (p .lines) → Grows g (ofRounds g v fuel taken p) (p .lines) (roundsFrom g v (goesOn g) fuel made taken p .end .lines)
   unfolding ofRounds roundsFrom
   rounds-grow zero made taken p w = grows-none g (p .lines)
   rounds-grow (suc fuel) made taken p w =
-      go (keptModule (length (p .lines)) (round g v taken p .lines)) (rounds-grow fuel (made + 1) (length (p .lines)) (round g v taken p) (round-whole taken p w))
+      go (goesOn g p (round g v taken p)) (rounds-grow fuel (made + 1) (length (p .lines)) (round g v taken p) (round-whole taken p w))
     where
       next : Progress
       next = round g v taken p
@@ -140,10 +136,10 @@ module _ {numbers tables : List ℕ} (t : Loaded numbers tables) where
       one : List Start
       one = ofRound g v taken p
 
-      go : (b : Bool) → Grows g (ofRounds g v fuel (length (p .lines)) next) (next .lines) (roundsFrom g v fuel (made + 1) (length (p .lines)) next .end .lines)
+      go : (b : Bool) → Grows g (ofRounds g v fuel (length (p .lines)) next) (next .lines) (roundsFrom g v (goesOn g) fuel (made + 1) (length (p .lines)) next .end .lines)
           → Grows g (one ++ elim b [ true ↦ ofRounds g v fuel (length (p .lines)) next | false ↦ [] ]) (p .lines)
-          (endOf (elim b [ true ↦ roundsFrom g v fuel (made + 1) (length (p .lines)) next | false ↦ endedAt (made + 1) (length (p .lines)) next ]))
-      go true r = grows-on g one (ofRounds g v fuel (length (p .lines)) next) (p .lines) (next .lines) (roundsFrom g v fuel (made + 1) (length (p .lines)) next .end .lines) (round-grows taken p w) r
+          (endOf (elim b [ true ↦ roundsFrom g v (goesOn g) fuel (made + 1) (length (p .lines)) next | false ↦ endedAt (made + 1) (length (p .lines)) next ]))
+      go true r = grows-on g one (ofRounds g v fuel (length (p .lines)) next) (p .lines) (next .lines) (roundsFrom g v (goesOn g) fuel (made + 1) (length (p .lines)) next .end .lines) (round-grows taken p w) r
       go false r = grows-on g one [] (p .lines) (next .lines) (next .lines) (round-grows taken p w) (grows-none g (next .lines))
 
   begun-grows : Grows g (ofUsers g (userEntries g)) [] (begun g v .lines)
@@ -156,8 +152,8 @@ module _ {numbers tables : List ℕ} (t : Loaded numbers tables) where
   main-grows : Grows g (ownStarts g v) [] (mainPart g v .end .lines)
   unfolding ownStarts mainPart
   main-grows =
-      grows-on g (ofUsers g (userEntries g)) (ofRounds g v (g .header .modules + 1) 0 (begun g v)) [] (begun g v .lines) (roundsFrom g v (g .header .modules + 1) 0 0 (begun g v) .end .lines)
-      begun-grows (rounds-grow (g .header .modules + 1) 0 0 (begun g v) begun-whole)
+      grows-on g (ofUsers g (userEntries g)) (ofRounds g v (roundsFuel g) 0 (begun g v)) [] (begun g v .lines) (roundsFrom g v (goesOn g) (roundsFuel g) 0 0 (begun g v) .end .lines)
+      begun-grows (rounds-grow (roundsFuel g) 0 0 (begun g v) begun-whole)
 
   -- the run's own starts are good facts, and the lines of its main part are those of a drain from them
   pub run-starts-good : StartsGood g (runStarts g v)

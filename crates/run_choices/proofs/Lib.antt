@@ -1,10 +1,11 @@
 pub mod GoodStarts
 pub mod Stages
+pub mod Further
 pub mod Growing
 pub mod OnCycles
 pub mod Rounds
 pub mod ByKind
-pub mod Settled
+pub mod FewRounds
 pub mod Done
 pub mod Sparing
 pub mod Sorted

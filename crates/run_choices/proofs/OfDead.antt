@@ -38,7 +38,8 @@ use Rattle.run_choices.specs.DeadAtEnd.{relatedRow, RelatesLive, afterRo
 use Rattle.run_choices.proofs.Sparing.{bit-in-front, with-bit, without-bit}
 use Rattle.run_choices.proofs.Growing.{main-whole}
 use Rattle.run_choices.proofs.Done.{run-done}
-use Rattle.run_choices.proofs.EachTried.{try-live, try-dead, live-after, was-dead}
+use Rattle.run_choices.proofs.Further.{try-live, try-dead}
+use Rattle.run_choices.proofs.EachTried.{live-after, was-dead}
 
 all : (a b : Bool) → a ≡ true → b ≡ true → (a && b) ≡ true
 all true b e f = f

@@ -30,6 +30,7 @@ use Rattle.run_choices.proofs.Growing.{run-starts-good, main-lines, mai
 use Rattle.run_choices.proofs.Sparing.{spares}
 use Rattle.run_choices.proofs.OnCycles.{on-cycle-is}
 use Rattle.run_choices.proofs.Rounds.{main-rounds}
+use Rattle.run_choices.proofs.FewRounds.{few-without}
 use Rattle.run_choices.proofs.Done.{outcome-work, outcome-accepted, run-done}
 
 -- the run of accepted numbers
@@ -59,6 +60,7 @@ module _ (numbers : List ℕ) (accepted : answerOf (checkOf numbers) ≡ Accepte
         starts-good = run-starts-good (tables .holds);
         rounds-made = main-rounds g v .0;
         rounds-few = main-rounds g v .1;
+        rounds-few-without = few-without (tables .holds);
         cycles = on-cycle-is (tables .holds);
       }
 

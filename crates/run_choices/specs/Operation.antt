@@ -8,6 +8,7 @@ use mathlib.Core.List.{List}
 use Rattle.bit_row.specs.Row.{bitAt, bytesFor}
 use Rattle.graph.specs.declared.Checked.the-variants.{Accepted}
 use Rattle.graph.specs.Check.{Graph, graphIn, checkOf, answerOf}
+use Rattle.graph_access.specs.Words.{option}
 use Rattle.facts.specs.Facts.{markCount}
 use Rattle.determine_side_effects.specs.Effects.{lastVerdicts}
 use Rattle.starts.specs.Starts.{StartsGood}
@@ -25,13 +26,14 @@ use Rattle.closed_choices.specs.Operation.{Spare}
 
 -- What is known of a run over graph g:
 -- the facts of its main part are the smallest closed choice that holds its own starts, which are good facts; it made at least one round, and at
--- most one more than there are modules; a module counts as on a cycle exactly if it is strongly connected with another node of the graph of
--- dynamic entries.
+-- most one more than there are modules, or with options bit 7 one more than twice as many; a module counts as on a cycle exactly if it is strongly
+-- connected with another node of the graph of dynamic entries.
 pub record RunKeeps (g : Graph) (r : Run) : Type 1 where
   pub smallest : Smallest g (runStarts g (lastVerdicts g)) (HasLine (r .main))
   pub starts-good : StartsGood g (runStarts g (lastVerdicts g))
   pub rounds-made : 1 ≤ r .rounds
-  pub rounds-few : r .rounds ≤ g .header .modules + 1
+  pub rounds-few : r .rounds ≤ 2 * g .header .modules + 1
+  pub rounds-few-without : option g 7 ≡ false → r .rounds ≤ g .header .modules + 1
   pub cycles : (m : ℕ) → (onCycle g m ≡ true) ↔ OnCycle (entryGraph g .succs) m
 
 -- for every run that is not refused

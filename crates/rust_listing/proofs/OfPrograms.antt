@@ -19,6 +19,7 @@ use Rattle.answer_text.specs.Program.{programRooms, shownOf, outcomeText, decod
 use Rattle.rust_values.specs.Values.{hasPair}
 use Rattle.rust_run.proofs.Level.{loaded}
 use Rattle.rust_run.specs.IncludeStatements.{Outcome, Returns}
+use Rattle.rust_run.specs.Agreement.{AsRust}
 use Rattle.rust_returns.proofs.OnCircles.{returns-and-agrees}
 use Rattle.rust_listing.specs.Listing.{deadLines, listingBefore, rustListing}
 use Rattle.rust_listing.specs.Operation.{deadImport, Graphs, ReadsOrRefusesOne, FiveForLinesOnly, KeepListsRust, KeepListsRustButDead, KeepListsRustUnlessCircles}
@@ -70,28 +71,28 @@ module _ (file numbers : List ℕ) (k : Graphs file numbers) where
   unfolding worked
   is-done l = is-worked ∙ rw (le-ltb 6144 (6 * length (runOf g .lines)) (omega (arith, l)), worked)
 
-  listed : length (runOf g .lines) ≤ 1024 → option g 6 ≡ false → (o : Outcome) → Returns g o → fileText file ≡ rustListing g o
+  listed : length (runOf g .lines) ≤ 1024 → AsRust g → option g 6 ≡ false → (o : Outcome) → Returns g o → fileText file ≡ rustListing g o
   unfolding outcomeText rustListing
-  listed l off o x =
+  listed l way off o x =
       file-read ∙ ap outcomeText (is-done l)
-      ∙ listing-same g o (shownOf g (runOf g)) (shows-rust numbers (k .accepted) o x (is-done l)) (λ m i. hasPair m i (o .dead)) (dead-rust numbers (k .accepted) o x (is-done l) off)
+      ∙ listing-same g o (shownOf g (runOf g)) (shows-rust numbers (k .accepted) way o x (is-done l)) (λ m i. hasPair m i (o .dead)) (dead-rust numbers (k .accepted) way o x (is-done l) off)
 
-  listed-but-dead : length (runOf g .lines) ≤ 1024 → (o : Outcome) → Returns g o → fileText file ≡ listingBefore g o (deadLines g (deadImport g (runOf g)))
+  listed-but-dead : length (runOf g .lines) ≤ 1024 → AsRust g → (o : Outcome) → Returns g o → fileText file ≡ listingBefore g o (deadLines g (deadImport g (runOf g)))
   unfolding outcomeText
-  listed-but-dead l o x =
+  listed-but-dead l way o x =
       file-read ∙ ap outcomeText (is-done l)
-      ∙ listing-same g o (shownOf g (runOf g)) (shows-rust numbers (k .accepted) o x (is-done l)) (deadImport g (runOf g)) (dead-run g (runOf g))
+      ∙ listing-same g o (shownOf g (runOf g)) (shows-rust numbers (k .accepted) way o x (is-done l)) (deadImport g (runOf g)) (dead-run g (runOf g))
 
 pub five-for-lines-only : FiveForLinesOnly
 five-for-lines-only file numbers k = file-read file numbers k ∙ ap outcomeText (is-worked file numbers k) ∙ worked-text (graphIn numbers) (runOf (graphIn numbers))
 
 pub keep-lists-rust : KeepListsRust
-keep-lists-rust file numbers k l off o x = listed file numbers k l off o x
+keep-lists-rust file numbers k l way off o x = listed file numbers k l way off o x
 
 pub keep-lists-rust-but-dead : KeepListsRustButDead
-keep-lists-rust-but-dead file numbers k l o x = listed-but-dead file numbers k l o x
+keep-lists-rust-but-dead file numbers k l way o x = listed-but-dead file numbers k l way o x
 
 pub keep-lists-rust-unless-circles : KeepListsRustUnlessCircles
-keep-lists-rust-unless-circles file numbers k l off none ch =
-    let z = returns-and-agrees numbers (k .accepted) none ch in
-    (z .0, z .1, z .2, listed file numbers k l off (z .0) (z .1))
+keep-lists-rust-unless-circles file numbers k l way off none ch =
+    let z = returns-and-agrees numbers (k .accepted) way none ch in
+    (z .0, z .1, z .2, listed file numbers k l way off (z .0) (z .1))

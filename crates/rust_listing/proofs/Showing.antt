@@ -33,6 +33,7 @@ use Rattle.rust_values.proofs.Members.{elem-in, in-elem}
 use Rattle.rust_engine.proofs.HandlingStatements.{pair-in, in-pair}
 use Rattle.rust_engine.proofs.Demanding.{and-true}
 use Rattle.rust_run.specs.IncludeStatements.{Outcome, Returns}
+use Rattle.rust_run.specs.Agreement.{AsRust}
 use Rattle.rust_run.specs.Boundary.{RowsAgree}
 use Rattle.rust_run.proofs.OfRuns.{rust-agrees}
 use Rattle.rust_run.proofs.Boundary.{run-shows-rust}
@@ -101,7 +102,7 @@ shownWith g r lent =
       helpers = a .helpers;
     }
 
-module _ (numbers : List ℕ) (ok : answerOf (checkOf numbers) ≡ Accepted) (o : Outcome) (x : Returns (graphIn numbers) o) where
+module _ (numbers : List ℕ) (ok : answerOf (checkOf numbers) ≡ Accepted) (way : AsRust (graphIn numbers)) (o : Outcome) (x : Returns (graphIn numbers) o) where
   abbrev g : Graph
   g = graphIn numbers
 
@@ -115,7 +116,7 @@ module _ (numbers : List ℕ) (ok : answerOf (checkOf numbers) ≡ Accepted) (o 
     agree : RowsAgree g o (r .rounds) (length (finalEntries g (r .live))) after
     agree =
         run-shows-rust numbers lent after (totalsOf g r)
-        (subst (λ (w : operation.Outcome). Ends w (Done (totalsOf g r)) lent after) (sym is) (ends g r lent)) o x
+        (subst (λ (w : operation.Outcome). Ends w (Done (totalsOf g r)) lent after) (sym is) (ends g r lent)) way o x
 
     reason-byte : (m : ℕ) → m < g .header .modules → getD (after .reason) m 0 ≡ reasonNumber o m
     unfolding rowAfter reasonNumber
@@ -127,7 +128,7 @@ module _ (numbers : List ℕ) (ok : answerOf (checkOf numbers) ≡ Accepted) (o 
     shows-with : Shows g o (shownWith g r lent)
     shows-with =
         let a = agree in
-        let all = rust-agrees numbers ok o x in
+        let all = rust-agrees numbers ok way o x in
         record {
           rounds-are = a .rounds-are;
           count-is = a .entry-count;

@@ -16,6 +16,7 @@ use Rattle.run_rows.specs.Run.{Run, runOf}
 use Rattle.listing.specs.Listing.{listingOf, refusedText}
 use Rattle.answer_text.specs.Program.{shownOf, fileText}
 use Rattle.rust_run.specs.IncludeStatements.{Outcome, Returns}
+use Rattle.rust_run.specs.Agreement.{AsRust}
 use Rattle.rust_returns.specs.Following.{Choosing, Follows}
 use Rattle.rust_returns.specs.Circle.{Circle}
 use Rattle.rust_listing.specs.Listing.{deadLines, listingBefore, rustListing}
@@ -41,21 +42,21 @@ FiveForLinesOnly =
     (file numbers : List ℕ) → Graphs file numbers
     → fileText file ≡ elim (ltb 1024 (length (runOf (graphIn numbers) .lines))) [ true ↦ refusedText 5 | false ↦ listingOf (graphIn numbers) (shownOf (graphIn numbers) (runOf (graphIn numbers))) ]
 
--- Up to 1,024 lines what is printed is the Rust's listing, for every outcome that it has: without options bit 6 whole,
+-- Up to 1,024 lines what is printed is the Rust's listing, for every outcome that it has, where the options ask for no other rounds: without bit 6 whole,
 abbrev pub KeepListsRust : Type 0
 KeepListsRust =
-    (file numbers : List ℕ) → Graphs file numbers → length (runOf (graphIn numbers) .lines) ≤ 1024 → option (graphIn numbers) 6 ≡ false
+    (file numbers : List ℕ) → Graphs file numbers → length (runOf (graphIn numbers) .lines) ≤ 1024 → AsRust (graphIn numbers) → option (graphIn numbers) 6 ≡ false
     → (o : Outcome) → Returns (graphIn numbers) o → fileText file ≡ rustListing (graphIn numbers) o
 
 -- with or without it but for the dead lines, which are those of `deadRecord`,
 abbrev pub KeepListsRustButDead : Type 0
 KeepListsRustButDead =
-    (file numbers : List ℕ) → Graphs file numbers → length (runOf (graphIn numbers) .lines) ≤ 1024
+    (file numbers : List ℕ) → Graphs file numbers → length (runOf (graphIn numbers) .lines) ≤ 1024 → AsRust (graphIn numbers)
     → (o : Outcome) → Returns (graphIn numbers) o → fileText file ≡ listingBefore (graphIn numbers) o (deadLines (graphIn numbers) (deadImport (graphIn numbers) (runOf (graphIn numbers))))
 
 -- and without a circle it has one, whatever the hash orders.
 abbrev pub KeepListsRustUnlessCircles : Type 0
 KeepListsRustUnlessCircles =
-    (file numbers : List ℕ) → Graphs file numbers → length (runOf (graphIn numbers) .lines) ≤ 1024 → option (graphIn numbers) 6 ≡ false
+    (file numbers : List ℕ) → Graphs file numbers → length (runOf (graphIn numbers) .lines) ≤ 1024 → AsRust (graphIn numbers) → option (graphIn numbers) 6 ≡ false
     → (Circle (graphIn numbers) → ⊥) → (ch : Choosing (graphIn numbers))
     → (o : Outcome) × (r : Returns (graphIn numbers) o) × Follows (graphIn numbers) ch o r × (fileText file ≡ rustListing (graphIn numbers) o)

@@ -1,5 +1,5 @@
 -- The main part returns where the uses of its lines end: beside the run's definition, which starts the same facts, and as many rounds as it makes.
-use Prim.Native.Nat.{ℕ, zero, suc, _+_, _<_}
+use Prim.Native.Nat.{ℕ, zero, suc, _+_, _*_, _<_}
 use mathlib.Core.Path.{_≡_, refl, ap, _∙_, sym, subst}
 use mathlib.Core.Logic.{inl}
 use mathlib.Core.Bool.{Bool, true, false, _||_, false≢true}
@@ -20,11 +20,11 @@ use Rattle.entry_starts.specs.Starts.{moduleStarts}
 use Rattle.dynamic_entries.specs.Sorted.{onCycle, sortedEntries}
 use Rattle.dynamic_entries.specs.Tries.{Progress, starting, nowLive, tried, tries}
 use Rattle.passes.specs.Bailouts.{bailoutsStarts}
-use Rattle.tree_shaking.specs.Rounds.{bailed, round, keptModule, Ended, roundsFrom, usersStarts, begun, mainPart}
+use Rattle.tree_shaking.specs.Rounds.{bailed, round, keptModule, keepsModule, Ended, roundsFuel, roundsFrom, usersStarts, begun, mainPart}
 use Rattle.closed_choices.specs.Choice.{HasLine}
 use Rattle.closed_choices.proofs.Every.{Every}
 use Rattle.run_choices.proofs.GoodStarts.{module-starts-good}
-use Rattle.run_choices.proofs.Settled.{rounds-settle}
+use Rattle.settled_runs.proofs.OfRuns.{rounds-without}
 use Rattle.rust_values.specs.Values.{Pair}
 use Rattle.rust_engine.specs.Context.{Context, empty, takeBailouts, setChanged}
 use Rattle.rust_engine.proofs.Theorem.{Over}
@@ -33,6 +33,7 @@ use Rattle.rust_order.specs.DynamicEntries.{entryIdx}
 use Rattle.rust_run.specs.DynamicEntries.{Unused, alive, unused, isAlive, isDynamicEntryAlive, passes, ProcessAndRetainDynamicEntry, is-dead, is-external, includes}
 use Rattle.rust_run.specs.Passes.{IncludeCjsBailoutExports}
 use Rattle.rust_run.specs.IncludeStatements.{IncludesUserDefined, Rounding, rounding, insertIf, ProcessesDynamic, no-more, was-included, processes, Round, Rounds, breaks, goes-on}
+use Rattle.rust_run.specs.Agreement.{AsRust}
 use Rattle.rust_run.proofs.Stage.{Prefix, stage-prefix}
 use Rattle.rust_run.proofs.Level.{every-onto, loaded, level-exactly, starts-hold}
 use Rattle.rust_run.proofs.Tried.{Beside, Dynamic, lives-same, tried-live, tried-starts, try-beside}
@@ -164,22 +165,22 @@ module _ (numbers : List ℕ) (ok : answerOf (checkOf numbers) ≡ Accepted) (T 
         prefix-trans (p .lines) (bailed g v k p .lines) (round g v k p .lines) (stage-prefix g v 0 (bailoutsStarts g (drop k (p .lines))) (p .lines))
         (tries-prefix g v (sortedEntries g) (bailed g v k p))
 
-    rounds-prefix : (fuel made k : ℕ) (p : Progress) → Prefix (p .lines) (roundsFrom g v fuel made k p .end .lines)
+    rounds-prefix : (fuel made k : ℕ) (p : Progress) → Prefix (p .lines) (roundsFrom g v keepsModule fuel made k p .end .lines)
     unfolding roundsFrom
     rounds-prefix zero made k p = prefix-refl (p .lines)
     rounds-prefix (suc fuel) made k p = go (keptModule (length (p .lines)) (round g v k p .lines)) refl (rounds-prefix fuel (made + 1) (length (p .lines)) (round g v k p))
       where
         go : (b : Bool) → keptModule (length (p .lines)) (round g v k p .lines) ≡ b
-            → Prefix (round g v k p .lines) (roundsFrom g v fuel (made + 1) (length (p .lines)) (round g v k p) .end .lines) → Prefix (p .lines) (roundsFrom g v (suc fuel) made k p .end .lines)
+            → Prefix (round g v k p .lines) (roundsFrom g v keepsModule fuel (made + 1) (length (p .lines)) (round g v k p) .end .lines) → Prefix (p .lines) (roundsFrom g v keepsModule (suc fuel) made k p .end .lines)
         go true e more =
             subst (λ (x : Ended). Prefix (p .lines) (x .end .lines)) (sym (goes numbers ok fuel made k p e))
             (prefix-trans (p .lines) (round g v k p .lines) _ (round-prefix k p) more)
         go false e more = subst (λ (x : Ended). Prefix (p .lines) (x .end .lines)) (sym (stops numbers ok fuel made k p e)) (round-prefix k p)
 
-    round-in : (fuel made k : ℕ) (p : Progress) → Prefix (round g v k p .lines) (roundsFrom g v (suc fuel) made k p .end .lines)
+    round-in : (fuel made k : ℕ) (p : Progress) → Prefix (round g v k p .lines) (roundsFrom g v keepsModule (suc fuel) made k p .end .lines)
     round-in fuel made k p = go (keptModule (length (p .lines)) (round g v k p .lines)) refl
       where
-        go : (b : Bool) → keptModule (length (p .lines)) (round g v k p .lines) ≡ b → Prefix (round g v k p .lines) (roundsFrom g v (suc fuel) made k p .end .lines)
+        go : (b : Bool) → keptModule (length (p .lines)) (round g v k p .lines) ≡ b → Prefix (round g v k p .lines) (roundsFrom g v keepsModule (suc fuel) made k p .end .lines)
         go true e =
             subst (λ (x : Ended). Prefix (round g v k p .lines) (x .end .lines)) (sym (goes numbers ok fuel made k p e))
             (rounds-prefix fuel (made + 1) (length (p .lines)) (round g v k p))
@@ -193,14 +194,14 @@ module _ (numbers : List ℕ) (ok : answerOf (checkOf numbers) ≡ Accepted) (T 
       follows : RoundsBy g v ch cycled (sortedEntries g) count r end done
 
     all-rounds : (fuel made k : ℕ) (r : Rounding) (p : Progress) → AtRound numbers ok r p k → Fine (r .context) → modulesLeft (T .facts) (r .context) < fuel
-        → Lined (roundsFrom g v fuel made k p .end .lines) → AllRounds r
+        → Lined (roundsFrom g v keepsModule fuel made k p .end .lines) → AllRounds r
     unfolding takeBailouts setChanged
     all-rounds zero made k r p a f u l = absurd (omega (arith, u))
     all-rounds (suc fuel) made k r p a f u l =
         go (x .end .context .changed) refl (λ b w. all-rounds fuel (made + 1) (length (p .lines)) (x .end) (round g v k p) (round-on numbers ok cycled cycles (sorted-dynamic numbers ok) r (x .end) p k a (x .done)) (x .ready) b w)
       where
         x : OneRound r
-        x = one-round r p k a f (λ y h. l y (prefix-line (round g v k p .lines) (roundsFrom g v (suc fuel) made k p .end .lines) (round-in fuel made k p) y h))
+        x = one-round r p k a f (λ y h. l y (prefix-line (round g v k p .lines) (roundsFrom g v keepsModule (suc fuel) made k p .end .lines) (round-in fuel made k p) y h))
 
         first : Context
         first = takeBailouts (setChanged false (r .context))
@@ -217,7 +218,7 @@ module _ (numbers : List ℕ) (ok : answerOf (checkOf numbers) ≡ Accepted) (T 
             modules-lt (r .context) (x .end .context) (counted .stays) (T .facts) (s .0) (T .finite (moduleFact (s .0)) (x .ready .within .of-modules (s .0) (s .1))) (s .1) (s .2)
 
         go : (b : Bool) → x .end .context .changed ≡ b
-            → (modulesLeft (T .facts) (x .end .context) < fuel → Lined (roundsFrom g v fuel (made + 1) (length (p .lines)) (round g v k p) .end .lines) → AllRounds (x .end)) → AllRounds r
+            → (modulesLeft (T .facts) (x .end .context) < fuel → Lined (roundsFrom g v keepsModule fuel (made + 1) (length (p .lines)) (round g v k p) .end .lines) → AllRounds (x .end)) → AllRounds r
         go true e more =
             let z = more (omega (arith, u, less e)) (subst (λ (y : Ended). Lined (y .end .lines)) (goes numbers ok fuel made k p (kept ∙ e)) l) in
             record { count = suc (z .count); end = z .end; done = goes-on (z .count) r (x .end) (z .end) (x .done) e (z .done); follows = (x .follows, z .follows) }
@@ -251,16 +252,16 @@ module _ (numbers : List ℕ) (ok : answerOf (checkOf numbers) ≡ Accepted) (T 
               };
         }
 
-    begun-lined : Lined (begun g v .lines)
-    begun-lined f h =
+    begun-lined : AsRust g → Lined (begun g v .lines)
+    begun-lined off f h =
         prefix-line (begun g v .lines) main
-        (subst (λ (x : Ended). Prefix (begun g v .lines) (x .end .lines)) (rounds-settle (loaded numbers ok) 0) (rounds-prefix (g .header .modules + 1 + 0) 0 0 (begun g v))) f h
+        (subst (λ (x : Ended). Prefix (begun g v .lines) (x .end .lines)) (rounds-without (loaded numbers ok) (off .no-settling) 0) (rounds-prefix (roundsFuel g + 0) 0 0 (begun g v))) f h
 
-    pub made : Every (HasLine (begun (graphIn numbers) (lastVerdicts (graphIn numbers)) .lines)) (usersStarts (graphIn numbers) (userEntries (graphIn numbers))) → Made
-    made a =
+    pub made : AsRust (graphIn numbers) → Every (HasLine (begun (graphIn numbers) (lastVerdicts (graphIn numbers)) .lines)) (usersStarts (graphIn numbers) (userEntries (graphIn numbers))) → Made
+    made off a =
         let u = loops.users (loaded numbers ok) (mainOver g) T ch (userEntries g) empty first-fine
-        (every-onto (HasLine (begun g v .lines)) (HasLine main) begun-lined (usersStarts g (userEntries g)) a) in
+        (every-onto (HasLine (begun g v .lines)) (HasLine main) (begun-lined off) (usersStarts g (userEntries g)) a) in
         let n = suc (modulesLeft (T .facts) (u .end)) in
-        let z = all-rounds (g .header .modules + 1 + n) 0 0 (rounding (u .end) [] []) (begun g v) (at-first-round numbers ok cycled cycles (u .end) (u .done)) (u .ready) (omega arith)
-        (λ f h. subst (λ (x : Ended). HasLine (x .end .lines) f) (rounds-settle (loaded numbers ok) n) h) in
+        let z = all-rounds (roundsFuel g + n) 0 0 (rounding (u .end) [] []) (begun g v) (at-first-round numbers ok cycled cycles (u .end) (u .done)) (u .ready) (omega arith)
+        (λ f h. subst (λ (x : Ended). HasLine (x .end .lines) f) (rounds-without (loaded numbers ok) (off .no-settling) n) h) in
         record { users = u .end; includes-users = u .done; users-follow = u .follows; rounds = z .count; end = z .end; makes-rounds = z .done; rounds-follow = z .follows }

@@ -25,7 +25,7 @@ use Rattle.run_rows.specs.Run.{withRuntime, runOf}
 use Rattle.closed_choices.specs.Choice.{Choice, Closed, Smallest, HasLine}
 use Rattle.closed_choices.proofs.Every.{Every, every-by}
 use Rattle.closed_choices.proofs.Smallest.{drain-smallest}
-use Rattle.run_choices.proofs.GoodStarts.{runtime-starts-good}
+use Rattle.run_choices.proofs.GoodStarts.{users-starts-good, runtime-starts-good}
 use Rattle.run_choices.proofs.Growing.{run-starts-good, main-lines, main-whole}
 use Rattle.rust_effects.proofs.Returns.{effects-return}
 use Rattle.rust_engine.specs.Context.{Context, empty, newContext}
@@ -35,13 +35,14 @@ use Rattle.rust_order.specs.DynamicEntries.{SortDynamicEntriesByTopologicalOrde
 use Rattle.rust_order.proofs.SameOrder.{rust-order}
 use Rattle.rust_run.specs.Passes.{IncludeRuntimeSymbol, collectDependedRuntimeHelpers}
 use Rattle.rust_run.specs.IncludeStatements.{Outcome, Returns, rounding, Rounds, liveEntries, dependedRuntimeHelper, IncludesUserDefined, userDefinedEntries}
+use Rattle.rust_run.specs.Agreement.{AsRust}
 use Rattle.rust_run.proofs.Stage.{HasStage, stage-prefix, stage-smallest}
 use Rattle.rust_run.proofs.Grouping.{users-same, dynamics-same}
 use Rattle.rust_run.proofs.Helping.{union-same}
 use Rattle.rust_run.proofs.Level.{Level, loaded, level-first, starts-hold}
 use Rattle.rust_run.proofs.Tried.{statement-bit}
 use Rattle.rust_run.proofs.Round.{prefix-line}
-use Rattle.rust_run.proofs.Main.{RoundsEnd, users-good, main-beside}
+use Rattle.rust_run.proofs.Main.{RoundsEnd, main-beside}
 use Rattle.rust_run.proofs.Runtime.{module-bit, base-is}
 use Rattle.rust_returns.specs.Following.{Choosing, UsersBy, RoundsBy, RuntimeBy, Follows}
 use Rattle.rust_returns.specs.Circle.{GivesUse, CircleIn, Circle, ReturnsBy, ReturnsUnlessCircles}
@@ -121,7 +122,7 @@ module _ (numbers : List ℕ) (ok : answerOf (checkOf numbers) ≡ Accepted) whe
           uses-go e = false≢true e
 
   -- where each use of the lines ends
-  module _ (all-end : (s x : ℕ) → HasLine all (useFact s x) → Ends (graphIn numbers) s x) (ch : Choosing (graphIn numbers)) where
+  module _ (off : AsRust (graphIn numbers)) (all-end : (s x : ℕ) → HasLine all (useFact s x) → Ends (graphIn numbers) s x) (ch : Choosing (graphIn numbers)) where
     main-tame : Tame g (mainOver g)
     main-tame =
         record {
@@ -141,16 +142,16 @@ module _ (numbers : List ℕ) (ok : answerOf (checkOf numbers) ≡ Accepted) whe
 
     users-lined : Every (HasLine (begun g v .lines)) (usersStarts g (userEntries g))
     unfolding begun starting
-    users-lined = starts-hold numbers ok (level-first numbers ok) (usersStarts g (userEntries g)) (users-good numbers ok (ch .cycled) cycles (userEntries g))
+    users-lined = starts-hold numbers ok (level-first numbers ok) (usersStarts g (userEntries g)) (users-starts-good (loaded numbers ok) (userEntries g))
 
     first : Made numbers ok main-tame ch (ch .cycled) cycles
-    first = made numbers ok main-tame ch (ch .cycled) cycles users-lined
+    first = made numbers ok main-tame ch (ch .cycled) cycles off users-lined
 
     abbrev c : Context
     c = first .end .context
 
     ended : RoundsEnd numbers ok (first .rounds) (first .end) 0 (mainPart g v)
-    ended = main-beside numbers ok (ch .cycled) cycles (first .users) (first .rounds) (first .end) (first .includes-users) (first .makes-rounds)
+    ended = main-beside numbers ok (ch .cycled) cycles off (first .users) (first .rounds) (first .end) (first .includes-users) (first .makes-rounds)
 
     level : Level numbers ok c main (ended .taken)
     level = ended .beside .level
@@ -247,12 +248,12 @@ module _ (numbers : List ℕ) (ok : answerOf (checkOf numbers) ≡ Accepted) whe
     unfolding returned
     it-returns = (outcome, returned, ((refl, refl), (with-users .1, (with-rounds .1, with-runtime .1))))
 
-  pub either-way : ReturnsBy (graphIn numbers) ⊎ Circle (graphIn numbers)
-  either-way = go (search g (HasLine all) onward (usesOf all) (λ p h. uses-lined all p h) (λ p h. lined-uses all p h))
+  pub either-way : AsRust (graphIn numbers) → ReturnsBy (graphIn numbers) ⊎ Circle (graphIn numbers)
+  either-way off = go (search g (HasLine all) onward (usesOf all) (λ p h. uses-lined all p h) (λ p h. lined-uses all p h))
     where
       go : ((s x : ℕ) → HasLine all (useFact s x) → Ends g s x) ⊎ CircleIn g (HasLine all) → ReturnsBy g ⊎ Circle g
-      go (inl e) = inl (λ ch. it-returns e ch)
+      go (inl e) = inl (λ ch. it-returns off e ch)
       go (inr c) = inr (subst (λ (l : List Line). CircleIn g (HasLine l)) (sym lines-are) c)
 
 pub returns-unless-circles : ReturnsUnlessCircles
-returns-unless-circles numbers ok = either-way numbers ok
+returns-unless-circles numbers ok off = either-way numbers ok off

@@ -37,7 +37,7 @@ use Rattle.rust_run.proofs.Starting.{Onward}
 use Rattle.rust_run.proofs.Level.{Level, level-exactly}
 use Rattle.rust_run.proofs.Main.{RoundsEnd, main-beside}
 use Rattle.rust_run.proofs.Runtime.{base-is, runtime-onward, runtime-exactly}
-use Rattle.rust_run.specs.Agreement.{Agrees}
+use Rattle.rust_run.specs.Agreement.{AsRust, Agrees}
 use Rattle.rust_run.proofs.OfRuns as agree
 use Rattle.rust_returns.specs.Following.{Follows}
 use Rattle.rust_returns.specs.Circle.{GivesUse, CircleIn, Circle, HasChoices, ReturnsBy, NeverOnCircles, ReturnsExactly, ReturnsAndAgrees}
@@ -63,13 +63,13 @@ module _ (numbers : List ℕ) (ok : answerOf (checkOf numbers) ≡ Accepted) whe
   abbrev v : List ℕ
   v = lastVerdicts (graphIn numbers)
 
-  module _ (o : Outcome) (x : IncludeStatements (graphIn numbers) (lastVerdicts (graphIn numbers)) o) where
+  module _ (off : AsRust (graphIn numbers)) (o : Outcome) (x : IncludeStatements (graphIn numbers) (lastVerdicts (graphIn numbers)) o) where
     order : (x .sorted ≡ sortedEntries g) × ((m : ℕ) → elem m (x .cycled) ≡ onCycle g m)
     order = rust-order numbers ok (x .sorted) (x .cycled) (subst (λ (l : List ℕ). SortDynamicEntriesByTopologicalOrder g l (x .sorted) (x .cycled)) (dynamics-same numbers ok) (x .sorts))
 
     e : RoundsEnd numbers ok (o .rounds) (rounding (o .main) (o .included) (o .dead)) 0 (mainPart g v)
     e =
-        main-beside numbers ok (x .cycled) (order .1) (x .users) (o .rounds) (rounding (o .main) (o .included) (o .dead))
+        main-beside numbers ok (x .cycled) (order .1) off (x .users) (o .rounds) (rounding (o .main) (o .included) (o .dead))
         (subst (λ (l : List ℕ). IncludesUserDefined g v l empty (x .users)) (users-same numbers ok) (x .includes-users))
         (subst (λ (l : List ℕ). Rounds g v (x .cycled) l (o .rounds) (rounding (x .users) [] []) (rounding (o .main) (o .included) (o .dead))) (order .0) (x .makes-rounds))
 
@@ -139,9 +139,9 @@ module _ (numbers : List ℕ) (ok : answerOf (checkOf numbers) ≡ Accepted) whe
         (all-end (p .first) (p .second) (subst (λ (l : List Line). HasLine l (useFact (p .first) (p .second))) (lines-are numbers ok) (k .chosen p (k .is-in)))) p refl refl (k .is-in)
 
 pub never-on-circles : NeverOnCircles
-never-on-circles numbers ok k o x =
+never-on-circles numbers ok off k o x =
     let w = rust-effects (graphIn numbers) (o .verdicts) (x .side-effects) in
-    no-circle numbers ok o (subst (λ (l : List ℕ). IncludeStatements (graphIn numbers) l o) w (x .include-statements)) k
+    no-circle numbers ok off o (subst (λ (l : List ℕ). IncludeStatements (graphIn numbers) l o) w (x .include-statements)) k
 
 -- the lists' own orders, and the sorted entries of the run
 pub has-choices : HasChoices
@@ -163,16 +163,16 @@ has-choices numbers ok =
     }
 
 pub returns-exactly : ReturnsExactly
-returns-exactly numbers ok = (λ r k. never-on-circles numbers ok k (r .0) (r .1), λ n. go n (returns-unless-circles numbers ok))
+returns-exactly numbers ok off = (λ r k. never-on-circles numbers ok off k (r .0) (r .1), λ n. go n (returns-unless-circles numbers ok off))
   where
     go : (Circle (graphIn numbers) → ⊥) → ReturnsBy (graphIn numbers) ⊎ Circle (graphIn numbers) → (o : Outcome) × Returns (graphIn numbers) o
     go n (inl r) = let z = r (has-choices numbers ok) in (z .0, z .1)
     go n (inr k) = absurd (n k)
 
 pub returns-and-agrees : ReturnsAndAgrees
-returns-and-agrees numbers ok n ch = go (returns-unless-circles numbers ok)
+returns-and-agrees numbers ok off n ch = go (returns-unless-circles numbers ok off)
   where
     go : ReturnsBy (graphIn numbers) ⊎ Circle (graphIn numbers)
         → (o : Outcome) × (r : Returns (graphIn numbers) o) × Follows (graphIn numbers) ch o r × Agrees (graphIn numbers) o (runOf (graphIn numbers))
-    go (inl r) = let z = r ch in (z .0, z .1, z .2, agree.rust-agrees numbers ok (z .0) (z .1))
+    go (inl r) = let z = r ch in (z .0, z .1, z .2, agree.rust-agrees numbers ok off (z .0) (z .1))
     go (inr k) = absurd (n k)

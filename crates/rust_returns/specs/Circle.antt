@@ -13,7 +13,7 @@ use Rattle.closed_choices.specs.Choice.{Choice, HasLine}
 use Rattle.rule_relation.specs.Relation.{Gives}
 use Rattle.rust_values.specs.Values.{Pair, In}
 use Rattle.rust_run.specs.IncludeStatements.{Outcome, Returns}
-use Rattle.rust_run.specs.Agreement.{Agrees}
+use Rattle.rust_run.specs.Agreement.{AsRust, Agrees}
 use Rattle.rust_returns.specs.Following.{Choosing, Follows}
 
 -- the use of s for reason x gives the use of t for reason y; no other rule gives a use from a use
@@ -41,20 +41,22 @@ HasChoices = (numbers : List ℕ) → answerOf (checkOf numbers) ≡ Accepted �
 abbrev pub ReturnsBy : Graph → Type 0
 ReturnsBy g = (ch : Choosing g) → (o : Outcome) × (r : Returns g o) × Follows g ch o r
 
--- on every accepted graph it does so, or there is a circle
+-- On every accepted graph it does so, or there is a circle. A run whose options ask for more rounds has more lines, and a circle may be among those alone.
 abbrev pub ReturnsUnlessCircles : Type 0
-ReturnsUnlessCircles = (numbers : List ℕ) → answerOf (checkOf numbers) ≡ Accepted → ReturnsBy (graphIn numbers) ⊎ Circle (graphIn numbers)
+ReturnsUnlessCircles = (numbers : List ℕ) → answerOf (checkOf numbers) ≡ Accepted → AsRust (graphIn numbers) → ReturnsBy (graphIn numbers) ⊎ Circle (graphIn numbers)
 
 -- and where there is one, it returns by none
 abbrev pub NeverOnCircles : Type 0
-NeverOnCircles = (numbers : List ℕ) → answerOf (checkOf numbers) ≡ Accepted → Circle (graphIn numbers) → (o : Outcome) → Returns (graphIn numbers) o → ⊥
+NeverOnCircles =
+    (numbers : List ℕ) → answerOf (checkOf numbers) ≡ Accepted → AsRust (graphIn numbers) → Circle (graphIn numbers) → (o : Outcome) → Returns (graphIn numbers) o → ⊥
 
 -- so it returns exactly where there is none
 abbrev pub ReturnsExactly : Type 0
-ReturnsExactly = (numbers : List ℕ) → answerOf (checkOf numbers) ≡ Accepted → ((o : Outcome) × Returns (graphIn numbers) o) ↔ (Circle (graphIn numbers) → ⊥)
+ReturnsExactly =
+    (numbers : List ℕ) → answerOf (checkOf numbers) ≡ Accepted → AsRust (graphIn numbers) → ((o : Outcome) × Returns (graphIn numbers) o) ↔ (Circle (graphIn numbers) → ⊥)
 
 -- with T11: without a circle the Rust returns, whatever the orders, and its outcome is the run's
 abbrev pub ReturnsAndAgrees : Type 0
 ReturnsAndAgrees =
-    (numbers : List ℕ) → answerOf (checkOf numbers) ≡ Accepted → (Circle (graphIn numbers) → ⊥) → (ch : Choosing (graphIn numbers))
+    (numbers : List ℕ) → answerOf (checkOf numbers) ≡ Accepted → AsRust (graphIn numbers) → (Circle (graphIn numbers) → ⊥) → (ch : Choosing (graphIn numbers))
     → (o : Outcome) × (r : Returns (graphIn numbers) o) × Follows (graphIn numbers) ch o r × Agrees (graphIn numbers) o (runOf (graphIn numbers))

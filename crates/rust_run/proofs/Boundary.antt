@@ -183,7 +183,7 @@ not-refused totals n p e = let z : _≡_ {A = ℕ} 0 1 = cc in omega arith
 
 pub run-shows-rust : RunShowsRust
 unfolding answered
-run-shows-rust numbers lent after totals runs o x = go (outcomeOf numbers (roomsOf lent)) refl
+run-shows-rust numbers lent after totals runs a o x = go (outcomeOf numbers (roomsOf lent)) refl
   where
     go : (w : operation.Outcome) → outcomeOf numbers (roomsOf lent) ≡ w → RowsAgree (graphIn numbers) o (totals .rounds) (totals .entries) after
     go (before n p) e = absurd (not-refused totals n p (runs .answer ∙ ap answered e))
@@ -193,4 +193,4 @@ run-shows-rust numbers lent after totals runs o x = go (outcomeOf numbers (rooms
         let w : done g r ≡ done (graphIn numbers) (runOf (graphIn numbers)) = ap (λ h. done h r) (d .graph-is) ∙ ap (λ (y : Run). done (graphIn numbers) y) (d .run-is) in
         rows-agree (graphIn numbers) (runOf (graphIn numbers)) lent after totals
         (subst (λ (y : operation.Outcome). Ends y (Done totals) lent after) (e ∙ w) runs)
-        (lines-good numbers (d .accepted)) o (rust-agrees numbers (d .accepted) o x)
+        (lines-good numbers (d .accepted)) o (rust-agrees numbers (d .accepted) a o x)

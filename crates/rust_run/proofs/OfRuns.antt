@@ -40,7 +40,7 @@ use Rattle.rust_order.specs.DynamicEntries.{SortDynamicEntriesByTopologicalOrde
 use Rattle.rust_order.proofs.SameOrder.{rust-order}
 use Rattle.rust_run.specs.Passes.{IncludeRuntimeSymbol, collectDependedRuntimeHelpers}
 use Rattle.rust_run.specs.IncludeStatements.{Outcome, IncludeStatements, Returns, rounding, liveEntries, dependedRuntimeHelper, IncludesUserDefined, Rounds}
-use Rattle.rust_run.specs.Agreement.{Agrees, RustAgrees, EveryRunAgrees, RunAnswers}
+use Rattle.rust_run.specs.Agreement.{Agrees, AsRust, RustAgrees, EveryRunAgrees, RunAnswers}
 use Rattle.rust_run.proofs.Stage.{HasStage, Prefix, stage-prefix}
 use Rattle.rust_run.proofs.Grouping.{users-same, dynamics-same, final-same}
 use Rattle.rust_run.proofs.Helping.{helpers-same, union-same}
@@ -193,9 +193,9 @@ module _ (numbers : List ℕ) (ok : answerOf (checkOf numbers) ≡ Accepted) whe
         (λ q. r .1 (d .0 q), λ q. d .1 (r .0 q))
 
   -- all of it
-  agrees : (o : Outcome) → o .verdicts ≡ v → IncludeStatements g v o → Agrees g o (runOf g)
+  agrees : AsRust g → (o : Outcome) → o .verdicts ≡ v → IncludeStatements g v o → Agrees g o (runOf g)
   unfolding runOf withRuntime
-  agrees o w x =
+  agrees a o w x =
       record {
         verdicts-are = w;
         rounds-are = sym (e .rounds-are ∙ (let z : 0 + o .rounds ≡ o .rounds = omega arith in z));
@@ -215,7 +215,7 @@ module _ (numbers : List ℕ) (ok : answerOf (checkOf numbers) ≡ Accepted) whe
 
       e : RoundsEnd numbers ok (o .rounds) (rounding (o .main) (o .included) (o .dead)) 0 (mainPart g v)
       e =
-          main-beside numbers ok (x .cycled) (order .1) (x .users) (o .rounds) (rounding (o .main) (o .included) (o .dead))
+          main-beside numbers ok (x .cycled) (order .1) a (x .users) (o .rounds) (rounding (o .main) (o .included) (o .dead))
           (subst (λ (l : List ℕ). IncludesUserDefined g v l empty (x .users)) (users-same numbers ok) (x .includes-users))
           (subst (λ (l : List ℕ). Rounds g v (x .cycled) l (o .rounds) (rounding (x .users) [] []) (rounding (o .main) (o .included) (o .dead))) (order .0) (x .makes-rounds))
 
@@ -226,14 +226,14 @@ module _ (numbers : List ℕ) (ok : answerOf (checkOf numbers) ≡ Accepted) whe
 
 -- T11
 pub rust-agrees : RustAgrees
-rust-agrees numbers ok o x =
+rust-agrees numbers ok a o x =
     let w = rust-effects (graphIn numbers) (o .verdicts) (x .side-effects) in
-    agrees numbers ok o w (subst (λ (l : List ℕ). IncludeStatements (graphIn numbers) l o) w (x .include-statements))
+    agrees numbers ok a o w (subst (λ (l : List ℕ). IncludeStatements (graphIn numbers) l o) w (x .include-statements))
 
 pub every-run-agrees : EveryRunAgrees
-every-run-agrees numbers room g r e o x =
+every-run-agrees numbers room g r e a o x =
     let d = run-done numbers room g r e in
-    rw (d .graph-is, d .run-is) (rust-agrees numbers (d .accepted) o (subst (λ (h : Graph). Returns h o) (d .graph-is) x))
+    rw (d .graph-is, d .run-is) (rust-agrees numbers (d .accepted) (subst (λ (h : Graph). AsRust h) (d .graph-is) a) o (subst (λ (h : Graph). Returns h o) (d .graph-is) x))
 
 pub run-answers : RunAnswers
 run-answers numbers room ok long l =

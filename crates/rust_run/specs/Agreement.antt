@@ -2,13 +2,13 @@
 use Prim.Native.Nat.{ℕ, _+_, _*_, _<_, _≤_}
 use mathlib.Core.Path.{_≡_}
 use mathlib.Core.Logic.{_⊎_, _↔_}
-use mathlib.Core.Bool.{true}
+use mathlib.Core.Bool.{true, false}
 use mathlib.Core.List.{List}
 use lib.ListN.{length}
 use Rattle.graph.specs.declared.Checked.the-variants.{Accepted}
 use Rattle.graph.specs.Check.{Graph, graphIn, checkOf, answerOf}
 use Rattle.graph_access.specs.Names.{owner, importRecords}
-use Rattle.graph_access.specs.Words.{symbolOf, moduleOf}
+use Rattle.graph_access.specs.Words.{symbolOf, moduleOf, option}
 use Rattle.facts.specs.Facts.{moduleFact, statementFact, markCount}
 use Rattle.determine_side_effects.specs.Effects.{lastVerdicts}
 use Rattle.keep_record.specs.Lines.{has}
@@ -39,13 +39,20 @@ pub record Agrees (g : Graph) (o : Outcome) (r : Run) : Type 0 where
   pub dead-are : (m k : ℕ) → m < g .header .modules → k < length (importRecords (moduleOf g m)) → In (pair m k) (o .dead) ↔ (isDeadRecord g (r .dead) (recordsBefore (g .modules) m + k) ≡ true)
   pub helpers-are : (m : ℕ) → m < g .header .modules → o .helpers m ≡ helperWord g (has g 0 (r .main)) m
 
--- T11, for all numbers, with no other hypothesis than that they are accepted and that the Rust returns
+-- The options ask for no other rounds than the Rust's, which knows no bit 7. Bit 6 it does not know either, and only the dead records depend on that one.
+pub record AsRust (g : Graph) : Type 0 where
+  pub no-settling : option g 7 ≡ false
+
+-- T11, for all numbers, with no other hypothesis than that they are accepted, ask for no other rounds, and that the Rust returns
 abbrev pub RustAgrees : Type 0
-RustAgrees = (numbers : List ℕ) → answerOf (checkOf numbers) ≡ Accepted → (o : Outcome) → Returns (graphIn numbers) o → Agrees (graphIn numbers) o (runOf (graphIn numbers))
+RustAgrees =
+    (numbers : List ℕ) → answerOf (checkOf numbers) ≡ Accepted → AsRust (graphIn numbers)
+    → (o : Outcome) → Returns (graphIn numbers) o → Agrees (graphIn numbers) o (runOf (graphIn numbers))
 
 -- the same over the operation: for every run that is not refused
 abbrev pub EveryRunAgrees : Type 0
-EveryRunAgrees = (numbers : List ℕ) (room : Rooms) (g : Graph) (r : Run) → outcomeOf numbers room ≡ done g r → (o : Outcome) → Returns g o → Agrees g o r
+EveryRunAgrees =
+    (numbers : List ℕ) (room : Rooms) (g : Graph) (r : Run) → outcomeOf numbers room ≡ done g r → AsRust g → (o : Outcome) → Returns g o → Agrees g o r
 
 -- and a run answers on every accepted graph, with rows that are long enough, whether the Rust returns or not
 abbrev pub RunAnswers : Type 0

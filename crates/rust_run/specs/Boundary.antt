@@ -17,6 +17,7 @@ use Rattle.run_parts.specs.declared.Ran.the-variants.{Done}
 use Rattle.run_parts.specs.Operation.{Rows, Runs}
 use Rattle.rust_values.specs.Values.{pair, In}
 use Rattle.rust_run.specs.IncludeStatements.{Outcome, Returns}
+use Rattle.rust_run.specs.Agreement.{AsRust}
 
 -- bits by module, by statement from a whole byte for each module, by symbol, eight by module for its reasons (1 Unknown, 2
 -- ReExportDynamicExports), by import record; a word of helpers by module; and the final entries by number. The Rust knows no bit 6 of the options,
@@ -39,4 +40,4 @@ pub record RowsAgree (g : Graph) (o : Outcome) (rounds entries : ℕ) (after : R
 abbrev pub RunShowsRust : Type 0
 RunShowsRust =
     (numbers : List ℕ) (lent after : Rows) (totals : Totals) → Runs numbers (Done totals) lent after
-    → (o : Outcome) → Returns (graphIn numbers) o → RowsAgree (graphIn numbers) o (totals .rounds) (totals .entries) after
+    → AsRust (graphIn numbers) → (o : Outcome) → Returns (graphIn numbers) o → RowsAgree (graphIn numbers) o (totals .rounds) (totals .entries) after

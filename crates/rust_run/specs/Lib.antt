@@ -1,6 +1,6 @@
 -- The main definitions of each file.
 -- `IncludeStatements`: `IncludeStatements`, `Returns`, `Outcome`.
--- `Agreement`: `Agrees`.
+-- `Agreement`: `Agrees`, `AsRust`.
 -- `Boundary`: `RunShowsRust`, `RowsAgree`.
 pub mod DynamicEntries
 pub mod Passes

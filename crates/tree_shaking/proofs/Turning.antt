@@ -24,8 +24,8 @@ use Rattle.passes.specs.Bailouts.{bailoutsStarts}
 use Rattle.tree_shaking.specs.declared.Reached.{Reached}
 use Rattle.tree_shaking.specs.declared.Work.{Work}
 use Rattle.tree_shaking.specs.declared.Work.the-variants.{Done, Full as Short}
-use Rattle.tree_shaking.specs.Rounds.{bailed, round, keptModule, Ended, endedAt, roundsFrom, usersStarts, noOne, begun, mainPart}
-use Rattle.tree_shaking.specs.Parts.{Progressed, reachedBy, MainEnds}
+use Rattle.tree_shaking.specs.Rounds.{bailed, round, goesOn, Ended, endedAt, roundsFrom, usersStarts, noOne, begun, mainPart}
+use Rattle.tree_shaking.specs.Parts.{Progressed, CountsLive, TellsFurther, reachedBy, MainEnds}
 use Rattle.tree_shaking.proofs.Longer.{bailed-longer, round-longer, rounds-longer, first-longer, rounds-next, rounds-last}
 use Rattle.tree_shaking.proofs.Trying.{progress-started}
 
@@ -57,13 +57,13 @@ pub record Turning (g : Graph) (users : ℕ) (out : Ended) (partners marks row p
   pub working : Working g 0 partners marks row c
   pub planned : Planned g plan users
   pub taken-inside : taken ≤ c
-  pub few : made ≤ g .header .modules + 1
-  pub on : roundsFrom g (lastVerdicts g) (g .header .modules + 1 - made) made taken (progressIn (g .header) (linesOf c row) plan) ≡ out
+  pub few : made ≤ 2 * g .header .modules + 1
+  pub on : roundsFrom g (lastVerdicts g) (goesOn g) (2 * g .header .modules + 1 - made) made taken (progressIn (g .header) (linesOf c row) plan) ≡ out
 
 pub turning-start : (g : Graph) (users : ℕ) (partners marks row plan : List ℕ) (c : ℕ) → Working g 0 partners marks row c → Planned g plan users
-    → Turning g users (roundsFrom g (lastVerdicts g) (g .header .modules + 1) 0 0 (progressIn (g .header) (linesOf c row) plan)) partners marks row plan c 0 0
+    → Turning g users (roundsFrom g (lastVerdicts g) (goesOn g) (2 * g .header .modules + 1) 0 0 (progressIn (g .header) (linesOf c row) plan)) partners marks row plan c 0 0
 turning-start g users partners marks row plan c w p =
-    let e : g .header .modules + 1 - 0 ≡ g .header .modules + 1 = omega arith in
+    let e : 2 * g .header .modules + 1 - 0 ≡ 2 * g .header .modules + 1 = omega arith in
     record { working = w; planned = p; taken-inside = omega arith; few = omega arith; on = rw e }
 
 -- rows that hold what the main part comes to
@@ -104,19 +104,19 @@ too-short g users out partners marks row plan l =
 
 module _ (g : Graph) (users : ℕ) (out : Ended) (partners marks row plan : List ℕ) (c taken made : ℕ) (t : Turning g users out partners marks row plan c taken made) where
   -- all rounds were made that may be
-  pub turning-end : g .header .modules < made → {x : Reached} → x ≡ record { users = users; rounds = made; taken = taken; main = c; total = c } → MainEnds g users out partners marks row plan (Done x)
+  pub turning-end : 2 * g .header .modules < made → {x : Reached} → x ≡ record { users = users; rounds = made; taken = taken; main = c; total = c } → MainEnds g users out partners marks row plan (Done x)
   unfolding roundsFrom
-  turning-end h i = let e : g .header .modules + 1 - made ≡ 0 = omega arith in ended-as g users out partners marks row plan made taken c (t .working) (t .planned) (rw e at (t .on)) i
+  turning-end h i = let e : 2 * g .header .modules + 1 - made ≡ 0 = omega arith in ended-as g users out partners marks row plan made taken c (t .working) (t .planned) (rw e at (t .on)) i
 
   -- one more
-  module _ (h : made ≤ g .header .modules) (partners′ marks′ row′ plan′ : List ℕ) where
-    one-less : roundsFrom g (lastVerdicts g) (suc (g .header .modules + 1 - (made + 1))) made taken (progressIn (g .header) (linesOf c row) plan) ≡ out
-    one-less = let e : suc (g .header .modules + 1 - (made + 1)) ≡ g .header .modules + 1 - made = omega arith in rw e (t .on)
+  module _ (h : made ≤ 2 * g .header .modules) (partners′ marks′ row′ plan′ : List ℕ) where
+    one-less : roundsFrom g (lastVerdicts g) (goesOn g) (suc (2 * g .header .modules + 1 - (made + 1))) made taken (progressIn (g .header) (linesOf c row) plan) ≡ out
+    one-less = let e : suc (2 * g .header .modules + 1 - (made + 1)) ≡ 2 * g .header .modules + 1 - made = omega arith in rw e (t .on)
 
     pub turn-short : Progressed g users (round g (lastVerdicts g) taken (progressIn (g .header) (linesOf c row) plan)) partners′ marks′ row′ plan′ Full → MainEnds g users out partners′ marks′ row′ plan′ Short
     turn-short s =
         too-short g users out partners′ marks′ row′ plan′
-        (omega (arith, s .full refl, first-longer g (lastVerdicts g) (g .header .modules + 1 - (made + 1)) made taken (progressIn (g .header) (linesOf c row) plan), ap (λ (x : Ended). length (x .end .lines)) one-less))
+        (omega (arith, s .full refl, first-longer g (lastVerdicts g) (goesOn g) (2 * g .header .modules + 1 - (made + 1)) made taken (progressIn (g .header) (linesOf c row) plan), ap (λ (x : Ended). length (x .end .lines)) one-less))
 
     module _ (n : ℕ) (s : Progressed g users (round g (lastVerdicts g) taken (progressIn (g .header) (linesOf c row) plan)) partners′ marks′ row′ plan′ (Lines n)) where
       lines-are : linesOf n row′ ≡ round g (lastVerdicts g) taken (progressIn (g .header) (linesOf c row) plan) .lines
@@ -131,30 +131,35 @@ module _ (g : Graph) (users : ℕ) (out : Ended) (partners marks row plan : List
       turn-more =
           omega (arith, count-is, bailed-longer g (lastVerdicts g) taken (progressIn (g .header) (linesOf c row) plan), round-longer g (lastVerdicts g) taken (progressIn (g .header) (linesOf c row) plan), ap length lines-are, lines-length n row′)
 
-      kept-is : (b : Bool) → b ≡ keptModule c (linesOf n row′) → keptModule (length (progressIn (g .header) (linesOf c row) plan .lines)) (round g (lastVerdicts g) taken (progressIn (g .header) (linesOf c row) plan) .lines) ≡ b
-      kept-is b e = rw (count-is, ← lines-are) (sym e)
+      module _ (live : ℕ) (count : CountsLive g (liveIn (g .header) plan) live) where
+        goes-is : (b : Bool) → TellsFurther g c live (progressIn (g .header) (linesOf n row′) plan′) b
+            → goesOn g (progressIn (g .header) (linesOf c row) plan) (round g (lastVerdicts g) taken (progressIn (g .header) (linesOf c row) plan)) ≡ b
+        unfolding progressIn
+        goes-is b e =
+            let p = progressIn (g .header) (linesOf c row) plan in
+            ap (λ (q : Progress). goesOn g p q) (sym (s .is n refl)) ∙ sym (e p count-is count)
 
-      pub turn-last : (b : Bool) → b ≡ keptModule c (linesOf n row′) → b ≡ false
-          → {x : Reached} → x ≡ record { users = users; rounds = made + 1; taken = c; main = n; total = n } → MainEnds g users out partners′ marks′ row′ plan′ (Done x)
-      turn-last b e f i =
-          ended-as g users out partners′ marks′ row′ plan′ (made + 1) c n (s .working n refl) (s .planned n refl)
-          ((λ k. endedAt (made + 1) (sym count-is k) (s .is n refl k))
-          ∙ sym (rounds-last g (lastVerdicts g) (g .header .modules + 1 - (made + 1)) made taken (progressIn (g .header) (linesOf c row) plan) (kept-is b e ∙ f))
-          ∙ one-less) i
+        pub turn-last : (b : Bool) → TellsFurther g c live (progressIn (g .header) (linesOf n row′) plan′) b → b ≡ false
+            → {x : Reached} → x ≡ record { users = users; rounds = made + 1; taken = c; main = n; total = n } → MainEnds g users out partners′ marks′ row′ plan′ (Done x)
+        turn-last b e f i =
+            ended-as g users out partners′ marks′ row′ plan′ (made + 1) c n (s .working n refl) (s .planned n refl)
+            ((λ k. endedAt (made + 1) (sym count-is k) (s .is n refl k))
+            ∙ sym (rounds-last g (lastVerdicts g) (goesOn g) (2 * g .header .modules + 1 - (made + 1)) made taken (progressIn (g .header) (linesOf c row) plan) (goes-is b e ∙ f))
+            ∙ one-less) i
 
-      pub turn-next : (b : Bool) → b ≡ keptModule c (linesOf n row′) → b ≡ true → Turning g users out partners′ marks′ row′ plan′ n c (made + 1)
-      turn-next b e f =
-          record {
-            working = s .working n refl;
-            planned = s .planned n refl;
-            taken-inside = turn-more;
-            few = omega arith;
-            on =
-                ap (roundsFrom g (lastVerdicts g) (g .header .modules + 1 - (made + 1)) (made + 1) c) (s .is n refl)
-                ∙ ap (λ (k : ℕ). roundsFrom g (lastVerdicts g) (g .header .modules + 1 - (made + 1)) (made + 1) k (round g (lastVerdicts g) taken (progressIn (g .header) (linesOf c row) plan))) (sym count-is)
-                ∙ sym (rounds-next g (lastVerdicts g) (g .header .modules + 1 - (made + 1)) made taken (progressIn (g .header) (linesOf c row) plan) (kept-is b e ∙ f))
-                ∙ one-less;
-          }
+        pub turn-next : (b : Bool) → TellsFurther g c live (progressIn (g .header) (linesOf n row′) plan′) b → b ≡ true → Turning g users out partners′ marks′ row′ plan′ n c (made + 1)
+        turn-next b e f =
+            record {
+              working = s .working n refl;
+              planned = s .planned n refl;
+              taken-inside = turn-more;
+              few = omega arith;
+              on =
+                  ap (roundsFrom g (lastVerdicts g) (goesOn g) (2 * g .header .modules + 1 - (made + 1)) (made + 1) c) (s .is n refl)
+                  ∙ ap (λ (k : ℕ). roundsFrom g (lastVerdicts g) (goesOn g) (2 * g .header .modules + 1 - (made + 1)) (made + 1) k (round g (lastVerdicts g) taken (progressIn (g .header) (linesOf c row) plan))) (sym count-is)
+                  ∙ sym (rounds-next g (lastVerdicts g) (goesOn g) (2 * g .header .modules + 1 - (made + 1)) made taken (progressIn (g .header) (linesOf c row) plan) (goes-is b e ∙ f))
+                  ∙ one-less;
+            }
 
 -- a place beyond a part of the plan is not set
 set-beyond : (at count : ℕ) (plan : List ℕ) (i : ℕ) → count ≤ i → isSet at count plan i ≡ false
@@ -185,13 +190,13 @@ module _ (g : Graph) (users : ℕ) (partners marks row plan : List ℕ) where
           go (no h) = set-beyond (deadAt (g .header)) (g .header .entries) plan x (omega arith)
 
   pub main-is : (d : ℕ) → Unlived g plan → Started g 0 (usersStarts g (userEntries g)) [] partners marks row (Lines d)
-      → roundsFrom g (lastVerdicts g) (g .header .modules + 1) 0 0 (progressIn (g .header) (linesOf d row) plan) ≡ mainPart g (lastVerdicts g)
+      → roundsFrom g (lastVerdicts g) (goesOn g) (2 * g .header .modules + 1) 0 0 (progressIn (g .header) (linesOf d row) plan) ≡ mainPart g (lastVerdicts g)
   unfolding mainPart
-  main-is d u s = ap (roundsFrom g (lastVerdicts g) (g .header .modules + 1) 0 0) (begun-is d u s)
+  main-is d u s = ap (roundsFrom g (lastVerdicts g) (goesOn g) (2 * g .header .modules + 1) 0 0) (begun-is d u s)
 
   pub main-full : (plan′ : List ℕ) → Started g 0 (usersStarts g (userEntries g)) [] partners marks row Full → MainEnds g users (mainPart g (lastVerdicts g)) partners marks row plan′ Short
   unfolding mainPart begun starting
-  main-full plan′ s = too-short g users (mainPart g (lastVerdicts g)) partners marks row plan′ (omega (arith, s .grown .full refl, rounds-longer g (lastVerdicts g) (g .header .modules + 1) 0 0 (begun g (lastVerdicts g))))
+  main-full plan′ s = too-short g users (mainPart g (lastVerdicts g)) partners marks row plan′ (omega (arith, s .grown .full refl, rounds-longer g (lastVerdicts g) (goesOn g) (2 * g .header .modules + 1) 0 0 (begun g (lastVerdicts g))))
 
 pub main-ended : (g : Graph) (users : ℕ) (a b : Ended) → a ≡ b → (partners marks row plan : List ℕ) (r : Work) → MainEnds g users a partners marks row plan r → MainEnds g users b partners marks row plan r
 main-ended g users a b e partners marks row plan r s = subst (λ (x : Ended). MainEnds g users x partners marks row plan r) e s

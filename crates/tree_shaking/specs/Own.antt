@@ -11,7 +11,7 @@ use Rattle.entry_starts.specs.Starts.{moduleStarts, userStarts}
 use Rattle.dynamic_entries.specs.Sorted.{sortedEntries}
 use Rattle.passes.specs.Bailouts.{bailoutsStarts}
 use Rattle.dynamic_entries.specs.Tries.{Progress, lives, tried}
-use Rattle.tree_shaking.specs.Rounds.{bailed, round, keptModule, usersStarts, begun}
+use Rattle.tree_shaking.specs.Rounds.{bailed, round, goesOn, roundsFuel, usersStarts, begun}
 
 -- the parties of a run's main part
 pub data Party : Type 0 where
@@ -47,11 +47,11 @@ unfoldable pub ofRounds : Graph → List ℕ → ℕ → ℕ → Progress → Li
 ofRounds g v zero taken p = []
 ofRounds g v (suc fuel) taken p =
     ofRound g v taken p
-    ++ elim (keptModule (length (p .lines)) (round g v taken p .lines)) [ true ↦ ofRounds g v fuel (length (p .lines)) (round g v taken p) | false ↦ [] ]
+    ++ elim (goesOn g p (round g v taken p)) [ true ↦ ofRounds g v fuel (length (p .lines)) (round g v taken p) | false ↦ [] ]
 
 -- all of them in their order, and their facts
 unfoldable pub ownStarts : Graph → List ℕ → List Start
-ownStarts g v = ofUsers g (userEntries g) ++ ofRounds g v (g .header .modules + 1) 0 (begun g v)
+ownStarts g v = ofUsers g (userEntries g) ++ ofRounds g v (roundsFuel g) 0 (begun g v)
 
 unfoldable pub runStarts : Graph → List ℕ → List Fact
 runStarts g v = map (λ s. s .fact) (ownStarts g v)

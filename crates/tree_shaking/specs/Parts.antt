@@ -1,9 +1,11 @@
 -- What the parts of a run leave in the lent rows.
 use Prim.Native.Nat.{ℕ, _+_, _*_, _<_}
 use mathlib.Core.Path.{_≡_}
+use mathlib.Core.Bool.{Bool, true}
 use mathlib.Core.List.{List}
 use lib.ListN.{length, getD}
 use Rattle.graph.specs.Check.{Graph}
+use Rattle.graph_access.specs.Words.{option}
 use Rattle.determine_side_effects.specs.Effects.{lastVerdicts}
 use Rattle.keep_record.specs.declared.Line.{Line}
 use Rattle.keep_record.specs.declared.Added.{Added}
@@ -17,7 +19,7 @@ use Rattle.passes.specs.Helpers.{helperWord, helperUnion, runtimeStarts}
 use Rattle.tree_shaking.specs.declared.Reached.{Reached}
 use Rattle.tree_shaking.specs.declared.Work.{Work}
 use Rattle.tree_shaking.specs.declared.Work.the-variants.{Done, Full as Short}
-use Rattle.tree_shaking.specs.Rounds.{Ended}
+use Rattle.tree_shaking.specs.Rounds.{liveCount, goesOn, Ended}
 
 -- the rows hold this progress, or its lines are too many for the record
 pub record Progressed (g : Graph) (users : ℕ) (p : Progress) (partners marks row plan : List ℕ) (r : Added) : Type 0 where
@@ -25,6 +27,14 @@ pub record Progressed (g : Graph) (users : ℕ) (p : Progress) (partners marks r
   pub is : (c : ℕ) → r ≡ Lines c → progressIn (g .header) (linesOf c row) plan ≡ p
   pub planned : (c : ℕ) → r ≡ Lines c → Planned g plan users
   pub full : r ≡ Full → length row < 6 * length (p .lines)
+
+-- n modules are live before a round; they are counted where the options ask for it
+abbrev pub CountsLive : Graph → (ℕ → Bool) → ℕ → Type 0
+CountsLive g live n = option g 7 ≡ true → n ≡ liveCount g live
+
+-- whether a further round follows one that came to q, said of whatever it began with that has so many lines and live modules
+abbrev pub TellsFurther : Graph → ℕ → ℕ → Progress → Bool → Type 0
+TellsFurther g count live q r = (p : Progress) → length (p .lines) ≡ count → CountsLive g (p .live) live → r ≡ goesOn g p q
 
 -- what the main part has reached, with no line of a runtime stage
 abbrev pub reachedBy : ℕ → Ended → Reached

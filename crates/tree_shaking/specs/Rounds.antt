@@ -1,11 +1,11 @@
 -- The run's main part and its runtime stage (docs/RULES.md, The run; 000, `include_statements`).
-use Prim.Native.Nat.{ℕ, zero, suc, _+_}
-use mathlib.Core.Bool.{Bool, true, false}
+use Prim.Native.Nat.{ℕ, zero, suc, _+_, _*_}
+use mathlib.Core.Bool.{Bool, true, false, _||_}
 use mathlib.Core.List.{List, [], _∷_, _++_}
-use lib.Dec.{eqb}
+use lib.Dec.{eqb, ltb}
 use lib.ListN.{length, drop}
 use Rattle.graph.specs.Check.{Graph}
-use Rattle.graph_access.specs.Words.{some, option}
+use Rattle.graph_access.specs.Words.{some, tabulate, option}
 use Rattle.facts.specs.declared.Fact.{Fact}
 use Rattle.facts.specs.Facts.{kindOf}
 use Rattle.keep_record.specs.declared.Line.{Line}
@@ -28,6 +28,23 @@ round g v taken p = tries g v (sortedEntries g) (bailed g v taken p)
 unfoldable pub keptModule : ℕ → List Line → Bool
 keptModule k lines = some (λ l. eqb (kindOf (l .fact)) 1) (drop k lines)
 
+-- how many modules are live
+unfoldable pub liveCount : Graph → (ℕ → Bool) → ℕ
+liveCount g live = length (those live (tabulate (λ m. m) 0 (g .header .modules)))
+
+-- What a round from p to q brought. A module became kept (000:370-372: without one the Rust ends its rounds).
+unfoldable pub keepsModule : Progress → Progress → Bool
+keepsModule p q = keptModule (length (p .lines)) (q .lines)
+
+-- A line was written or a module came alive: there are more of them, since lines are only appended and no module ceases to be live. A bailout that a
+-- round leaves untaken is among the lines written in it, so it is no test of its own (docs/RULES.md, Step 3; `idle-exactly` in `settled_runs`).
+unfoldable pub hasMoved : Graph → Progress → Progress → Bool
+hasMoved g p q = ltb (length (p .lines)) (length (q .lines)) || ltb (liveCount g (p .live)) (liveCount g (q .live))
+
+-- Whether a further round follows. Option 7: rounds go on until nothing moves.
+unfoldable pub goesOn : Graph → Progress → Progress → Bool
+goesOn g p q = elim (option g 7) [ true ↦ hasMoved g p q | false ↦ keepsModule p q ]
+
 -- how many rounds were made, how many lines there were when the last one began (their bailouts are taken), and what the run came to
 pub record Ended : Type 0 where
   pub rounds : ℕ
@@ -37,13 +54,17 @@ pub record Ended : Type 0 where
 abbrev pub endedAt : ℕ → ℕ → Progress → Ended
 endedAt n taken p = record { rounds = n; taken = taken; end = p }
 
--- A round that keeps no further module is the last. Each round but the last keeps one more, so one round more than there are modules
--- suffice (`rounds-settle` in `run_choices`).
-unfoldable pub roundsFrom : Graph → List ℕ → ℕ → ℕ → ℕ → Progress → Ended
-roundsFrom g v zero made taken p = endedAt made taken p
-roundsFrom g v (suc fuel) made taken p =
-    elim (keptModule (length (p .lines)) (round g v taken p .lines)) [
-      | true ↦ roundsFrom g v fuel (made + 1) (length (p .lines)) (round g v taken p)
+-- Each round but the last takes the bailout of a module for the first time or makes a module live, and a module can do either once; so these rounds suffice,
+-- with the option and without it (`fuel-never` in `settled_runs`).
+abbrev pub roundsFuel : Graph → ℕ
+roundsFuel g = 2 * g .header .modules + 1
+
+-- Rounds, of which another follows one from p to q if the test says so.
+unfoldable pub roundsFrom : Graph → List ℕ → (Progress → Progress → Bool) → ℕ → ℕ → ℕ → Progress → Ended
+roundsFrom g v test zero made taken p = endedAt made taken p
+roundsFrom g v test (suc fuel) made taken p =
+    elim (test p (round g v taken p)) [
+      | true ↦ roundsFrom g v test fuel (made + 1) (length (p .lines)) (round g v taken p)
       | false ↦ endedAt (made + 1) (length (p .lines)) (round g v taken p)
     ]
 
@@ -60,7 +81,7 @@ begun g v = starting g v (usersStarts g (userEntries g)) (record { lines = []; l
 
 -- the main part: everything before step 6
 unfoldable pub mainPart : Graph → List ℕ → Ended
-mainPart g v = roundsFrom g v (g .header .modules + 1) 0 0 (begun g v)
+mainPart g v = roundsFrom g v (goesOn g) (roundsFuel g) 0 0 (begun g v)
 
 -- Step 5. Option 5: splitting is off.
 unfoldable pub finalEntries : Graph → (ℕ → Bool) → List ℕ

@@ -10,18 +10,21 @@ ghost use Rattle.keep_rules.specs.Prepared.{Prepared};
 ghost use Rattle.keep_record.specs.Held.{linesOf};
 ghost use Rattle.entry_order.specs.Order.{moduleOfEntry, userEntries};
 ghost use Rattle.entry_order.specs.Chains.{Entries};
-ghost use Rattle.entry_order.specs.Plan.{planSize};
+ghost use Rattle.entry_order.specs.Plan.{liveIn, planSize};
 ghost use Rattle.entry_starts.specs.Starts.{moduleStarts};
 ghost use Rattle.entry_starts.specs.Working.{Working, Started};
 ghost use Rattle.dynamic_entries.specs.Sorted.{sortedEntries};
 ghost use Rattle.dynamic_entries.specs.Tries.{tries, progressIn, Planned, Unlived};
-ghost use Rattle.tree_shaking.specs.Rounds.{usersStarts, round as roundOf, keptModule, roundsFrom, mainPart};
-ghost use Rattle.tree_shaking.specs.Parts.{Progressed, MainEnds, StageEnds};
+ghost use Rattle.tree_shaking.specs.Rounds.{usersStarts, round as roundOf, keptModule, liveCount, goesOn, roundsFrom, mainPart};
+ghost use Rattle.tree_shaking.specs.Parts.{Progressed, CountsLive, TellsFurther, MainEnds, StageEnds};
 use entry_liveness::next_live;
 use graph_access::entries;
 use index::EntryIdx;
 use keep_record::Added;
 use keep_record::Stage;
+
+// The bit of the options by which rounds go on until nothing moves.
+const SETTLE: usize = 7;
 
 // What a run has reached: how many user-defined entries there are, how many rounds were made, how many lines there were when the last one began, how
 // many lines the main part has, and how many there are in all.
@@ -179,6 +182,58 @@ fn has_module(lines: &[u32], from: usize, to: usize) -> bool
     false
 }
 
+// How many modules are live.
+fn live_count(numbers: &[u32], plan: &[usize]) -> usize
+    requires { ⌜ (7 ≤ length (now numbers)) × (planSize (headerIn (now numbers)) ≤ length (now plan)) × (length (now plan) < 4294967296) ⌝ }
+    ensures { λ r. ⌜ r ≡ liveCount (graphIn (now (numbers .entry))) (liveIn (headerIn (now (numbers .entry))) (now (plan .entry))) ⌝ }
+{
+    let h = graph::header_of(numbers);
+    let first = entry_order::live_at(h);
+    let mut live: usize = 0;
+    let mut m: usize = 0;
+    while m < h.modules {
+        if plan[first + m] == 1 {
+            live += 1;
+        }
+        m += 1;
+    }
+    live
+}
+
+// How many modules are live before a round, for `goes_on`. Only a run that settles asks for it, so another does not count.
+fn live_before(numbers: &[u32], plan: &[usize]) -> usize
+    requires { ⌜ (7 ≤ length (now numbers)) × (planSize (headerIn (now numbers)) ≤ length (now plan)) × (length (now plan) < 4294967296) ⌝ }
+    ensures { λ r. ⌜ CountsLive (graphIn (now (numbers .entry))) (liveIn (headerIn (now (numbers .entry))) (now (plan .entry))) r ⌝ }
+{
+    if keep_rules::option(numbers, SETTLE) {
+        return live_count(numbers, plan);
+    }
+    0
+}
+
+// Whether a further round follows one that began with `from` lines and `live` live modules and came to `to` lines. An external entry that comes
+// alive writes no line, so lines alone do not tell that nothing moved.
+fn goes_on(
+    numbers: &[u32],
+    lines: &[u32],
+    plan: &[usize],
+    from: usize,
+    to: usize,
+    live: usize,
+) -> bool
+    requires { ⌜ (from ≤ to) × (6 * to ≤ length (now lines)) ⌝ }
+    requires { ⌜ (7 ≤ length (now numbers)) × (planSize (headerIn (now numbers)) ≤ length (now plan)) × (length (now plan) < 4294967296) ⌝ }
+    ensures { λ r. ⌜ TellsFurther (graphIn (now (numbers .entry))) from live (progressIn (headerIn (now (numbers .entry))) (linesOf to (now (lines .entry))) (now (plan .entry))) r ⌝ }
+{
+    if !keep_rules::option(numbers, SETTLE) {
+        return has_module(lines, from, to);
+    }
+    if from < to {
+        return true;
+    }
+    live < live_count(numbers, plan)
+}
+
 // What a main part of `main` lines has reached.
 fn ended_with(users: usize, rounds: usize, taken: usize, main: usize) -> Reached
     ensures { λ r. ⌜ r ≡ record { users = users; rounds = rounds; taken = taken; main = main; total = main } ⌝ }
@@ -192,7 +247,7 @@ fn ended_with(users: usize, rounds: usize, taken: usize, main: usize) -> Reached
     }
 }
 
-// The rounds, up to one in which no module became kept; at most one more than there are modules.
+// The rounds, up to the first after which none follows: one in which no module became kept, or, with the bit, one in which nothing moved.
 fn rounds(
     numbers: &[u32],
     tables: &[usize],
@@ -205,13 +260,14 @@ fn rounds(
 ) -> Work
     requires { ⌜ Prepared (now numbers) (now tables) ⌝ }
     requires { ⌜ Working (graphIn (now numbers)) 0 (now partners) (now marks) (now lines) count × Planned (graphIn (now numbers)) (now plan) users ⌝ }
-    ensures { λ r. ⌜ MainEnds (graphIn (now (numbers .entry))) users (roundsFrom (graphIn (now (numbers .entry))) (lastVerdicts (graphIn (now (numbers .entry)))) (headerIn (now (numbers .entry)) .modules + 1) 0 0 (progressIn (headerIn (now (numbers .entry))) (linesOf count (now (lines .entry))) (now (plan .entry)))) (now (partners .exit)) (now (marks .exit)) (now (lines .exit)) (now (plan .exit)) r ⌝ }
+    ensures { λ r. ⌜ MainEnds (graphIn (now (numbers .entry))) users (roundsFrom (graphIn (now (numbers .entry))) (lastVerdicts (graphIn (now (numbers .entry)))) (goesOn (graphIn (now (numbers .entry)))) (2 * headerIn (now (numbers .entry)) .modules + 1) 0 0 (progressIn (headerIn (now (numbers .entry))) (linesOf count (now (lines .entry))) (now (plan .entry)))) (now (partners .exit)) (now (marks .exit)) (now (lines .exit)) (now (plan .exit)) r ⌝ }
 {
     let h = graph::header_of(numbers);
     let mut total = count;
     let mut taken: usize = 0;
     let mut made: usize = 0;
-    while made <= h.modules {
+    while made <= 2 * h.modules {
+        let live = live_before(numbers, plan);
         match round(
             numbers,
             tables,
@@ -228,7 +284,7 @@ fn rounds(
             }
             Added::Lines(n) => {
                 made += 1;
-                if !has_module(lines, total, n) {
+                if !goes_on(numbers, lines, plan, total, n, live) {
                     return Work::Done(ended_with(users, made, total, n));
                 }
                 taken = total;

@@ -131,7 +131,7 @@ impl DrainRows {
 mod runs {
     use super::compare;
     use compare::library;
-    use peer::loads::{LOADS, LOADS_AT_END};
+    use peer::loads::all_loads;
     use peer::model::Graph;
     use peer::reference::drain::LINE;
     use peer::reference::run::{self, Run};
@@ -139,7 +139,7 @@ mod runs {
     use std::hint::black_box;
 
     pub fn bench_runs() {
-        for load in LOADS.iter().chain(&LOADS_AT_END) {
+        for load in all_loads() {
             let graph = load.graph();
             let numbers = graph.numbers();
             bench_run(&format!("run, {}", load.name), &numbers);

@@ -1,12 +1,13 @@
 //! `once LOAD OPERATION` calls an operation of the library on a main load: run, drain, judge or starts; on a load with
-//! dead imports at the end, which no other operation works out, a run. Others are called only as far as it needs what
-//! they write, and none of them twice: what is counted inside its function is of one call. Without arguments the loads
-//! and their operations are listed.
+//! dead imports at the end, which no other operation works out, a run; on one with rounds that settle, a run or starts,
+//! since no other operation makes rounds. Others are called only as far as it needs what they write, and none of them
+//! twice: what is counted inside its function is of one call. Without arguments the loads and their operations are
+//! listed.
 
 use compare::library::judge;
 use compare::{own_starts, DrainBuffers, RunBuffers};
 use lizdakk::with_stack;
-use peer::loads::{main_loads, LOADS_AT_END};
+use peer::loads::{all_loads, main_loads, Load, LOADS_AT_END, LOADS_SETTLED};
 use peer::{Refusal, Refused};
 use std::process::ExitCode;
 
@@ -27,16 +28,21 @@ fn main() -> ExitCode {
 }
 
 fn list() -> Option<()> {
-    for load in main_loads() {
-        OPERATIONS.iter().for_each(|operation| println!("{} {operation}", load.key));
-    }
-    LOADS_AT_END.iter().for_each(|load| println!("{} run", load.key));
+    list_of(main_loads(), &OPERATIONS);
+    list_of(&LOADS_AT_END, &["run"]);
+    list_of(&LOADS_SETTLED, &["run", "starts"]);
     Some(())
+}
+
+fn list_of(loads: &[Load], operations: &[&str]) {
+    for load in loads {
+        operations.iter().for_each(|operation| println!("{} {operation}", load.key));
+    }
 }
 
 /// None if there is no such load or operation.
 fn call_on(key: &str, operation: &str) -> Option<()> {
-    let load = main_loads().iter().chain(&LOADS_AT_END).find(|load| load.key == key)?;
+    let load = all_loads().find(|load| load.key == key)?;
     let numbers = load.graph().numbers();
     with_stack(|| call(&numbers, operation)).expect("a load is a graph")
 }

@@ -27,30 +27,50 @@ fn dynamic_entries(graph: &Graph) -> Vec<usize> {
     (0..graph.entries.len()).filter(|&entry| graph.entries[entry].kind == DYNAMIC_IMPORT).collect()
 }
 
-/// A pure import of a new dynamic entry in a statement that comes with another entry. If that one's module is kept
-/// before, this makes no further round.
-fn place_late(random: &mut Random, graph: &mut Graph) {
+/// An entry of the module `to` that waits for a statement of `importer`, which comes with an entry of `by`.
+pub(super) struct Late {
+    pub importer: u32,
+    pub by: u32,
+    pub to: u32,
+    pub statement: u32,
+}
+
+/// An entry that waits for a statement which comes with another entry, itself imported by a user-defined entry's module;
+/// none if the graph has no such entries. If the other one's module is kept before, this makes no further round.
+pub(super) fn place_late(random: &mut Random, graph: &mut Graph) -> Option<Late> {
     let normal = |entry: &&Entry| graph.modules[entry.module as usize].normal;
     let (dynamic, user_defined): (Vec<&Entry>, Vec<&Entry>) =
         graph.entries.iter().filter(normal).partition(|entry| entry.kind == DYNAMIC_IMPORT);
     if dynamic.is_empty() || user_defined.is_empty() {
-        return;
+        return None;
     }
     let (importer, by) = (random.pick(&user_defined).module, random.pick(&dynamic).module);
     let bringing = import(random, graph, importer, by, SIDE_EFFECT);
     graph.entries.push(Entry { module: by, kind: DYNAMIC_IMPORT, related: vec![bringing] });
     let to = random.below(graph.modules.len() as u32);
+    let late = place_waiting(random, graph, [importer, by, to]);
+    if random.chance(50) {
+        keep_before(graph, importer, by);
+    }
+    Some(late)
+}
+
+/// A pure import of a new dynamic entry in the last statement of an importer, which comes with the entries of `by`.
+pub(super) fn place_waiting(random: &mut Random, graph: &mut Graph, [importer, by, to]: [u32; 3]) -> Late {
     let waiting = import(random, graph, importer, to, 0);
     let place = random.index(graph.entries.len());
     graph.entries.insert(place, Entry { module: to, kind: DYNAMIC_IMPORT, related: vec![waiting] });
-    let symbol = graph.symbols.len() as u32;
-    graph.symbols.push(Symbol { owner: importer, root: symbol, declaring: vec![waiting[1]], ..Symbol::default() });
-    let module = &mut graph.modules[by as usize];
-    module.entry_references.push(symbol);
-    if random.chance(50) {
-        (module.effects, module.scan_effects) = (1, 1);
-        graph.modules[importer as usize].dependencies.push(by);
-    }
+    let (symbol, [_, statement, ..]) = (graph.symbols.len() as u32, waiting);
+    graph.symbols.push(Symbol { owner: importer, root: symbol, declaring: vec![statement], ..Symbol::default() });
+    graph.modules[by as usize].entry_references.push(symbol);
+    Late { importer, by, to, statement }
+}
+
+/// A module is kept with its importer, for its effects.
+pub(super) fn keep_before(graph: &mut Graph, importer: u32, module: u32) {
+    let kept = &mut graph.modules[module as usize];
+    (kept.effects, kept.scan_effects) = (1, 1);
+    graph.modules[importer as usize].dependencies.push(module);
 }
 
 /// A new statement of an importer with a pure import, as a related statement.

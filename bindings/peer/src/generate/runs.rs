@@ -70,7 +70,7 @@ fn thin(random: &mut Random, modules: u32) -> Graph {
 }
 
 /// A dynamic entry that is related to the last statement of an importer.
-fn link_dynamically(random: &mut Random, graph: &mut Graph, importer: u32, module: u32) {
+pub(super) fn link_dynamically(random: &mut Random, graph: &mut Graph, importer: u32, module: u32) {
     let from = &mut graph.modules[importer as usize];
     let related = vec![[importer, from.statements.len() as u32 - 1, from.records.len() as u32, 0]];
     let kind = random.weighted(&[65, 20, 15]);
@@ -298,7 +298,7 @@ fn place_bailouts(random: &mut Random, graph: &mut Graph, first: u32) {
 }
 
 /// A statement that requires a CommonJS module, whose namespace is one of its exports and keeps its last statement.
-fn place_bailout(random: &mut Random, graph: &mut Graph, from: u32, to: u32) {
+pub(super) fn place_bailout(random: &mut Random, graph: &mut Graph, from: u32, to: u32) {
     let module = &mut graph.modules[from as usize];
     let last = module.statements.len() - 1;
     module.statements[last].records.push(module.records.len() as u32);

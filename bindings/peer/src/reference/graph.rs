@@ -153,7 +153,7 @@ struct Walk<'a> {
 impl Walk<'_> {
     fn header(&mut self) -> Checked {
         let cursor = &mut self.cursor;
-        cursor.below(128)?; // options
+        cursor.below(256)?; // options
         let runtime = cursor.next()?;
         let modules = count_from_one(cursor, MODULES)?;
         let symbols = count_from_one(cursor, SYMBOLS)?;

@@ -18,6 +18,7 @@ pub mod rules;
 pub mod run;
 pub mod run_by_sets;
 mod seen;
+pub mod settled;
 pub mod starts;
 
 pub use drain::drain;

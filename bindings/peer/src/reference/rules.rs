@@ -50,6 +50,7 @@ pub mod option {
     pub const DEV_MODE: u32 = 16;
     pub const SPLITTING_OFF: u32 = 32;
     pub const DEAD_IMPORTS_AT_END: u32 = 64;
+    pub const SETTLE: u32 = 128;
 }
 
 /// Bits of a reason.

@@ -53,6 +53,8 @@ pub struct Course {
     pub found_dead: Vec<bool>,
     /// By round: how many lines there were when it took its bailouts.
     pub begins: Vec<usize>,
+    /// By round: how many modules were live when it began.
+    pub live_before: Vec<usize>,
 }
 
 /// The main stage while it goes on, and as the rounds leave it.
@@ -67,6 +69,8 @@ pub(super) struct Main<'a> {
     order: Sorted,
     /// By round: how many lines there were when it took its bailouts.
     pub(super) begins: Vec<usize>,
+    /// By round: how many modules were live when it began.
+    live_before: Vec<usize>,
     /// By module: whether a dynamic entry of it is live.
     pub(super) live: Vec<bool>,
     /// By entry: whether a try found it dead.
@@ -104,6 +108,7 @@ impl<'a> Main<'a> {
             user_defined,
             order: sorted(rules.graph, &dynamic),
             begins: Vec::new(),
+            live_before: Vec::new(),
             live: vec![false; modules],
             found_dead: vec![false; rules.graph.entries.len()],
             dead: bit_row(first_records[modules]),
@@ -120,16 +125,29 @@ impl<'a> Main<'a> {
         }
     }
 
-    /// Rounds until one keeps no further module.
     fn all_rounds(&mut self) {
         loop {
-            let before = self.queue.lines().len();
+            let (lines, live) = (self.queue.lines().len(), self.live_modules());
+            self.live_before.push(live);
             self.round();
-            let new = &self.queue.lines()[before..];
-            if !new.iter().any(|line| matches!(line.fact, Fact::Module(_))) {
+            if !self.goes_on(lines, live) {
                 return;
             }
         }
+    }
+
+    /// Whether a round follows one that began with so many lines and live modules: if it kept a further module or, with
+    /// the option, if anything moved. A bailout that it left is among its lines.
+    fn goes_on(&self, lines: usize, live: usize) -> bool {
+        let new = &self.queue.lines()[lines..];
+        match self.rules.has(option::SETTLE) {
+            true => !new.is_empty() || self.live_modules() > live,
+            false => new.iter().any(|line| matches!(line.fact, Fact::Module(_))),
+        }
+    }
+
+    fn live_modules(&self) -> usize {
+        self.live.iter().filter(|live| **live).count()
     }
 
     /// Uses what was gathered in bailouts, then tries the entries of modules that are not live yet.
@@ -201,7 +219,7 @@ impl Run {
 
     /// The runtime stage, and the rows of both.
     fn end(main: Main) -> Run {
-        let Main { rules, queue, starts, user_defined, order, dead, live, found_dead, begins, .. } = main;
+        let Main { rules, queue, starts, user_defined, order, dead, live, found_dead, begins, live_before, .. } = main;
         let entries = final_entries(rules, &user_defined, &order.entries, &live);
         let helpers = words(rules, |fact| queue.has(fact));
         let runtime_starts = runtime_starts(rules, &helpers, |fact| queue.has(fact));
@@ -226,10 +244,19 @@ impl Run {
             reason: first.reason,
             dead,
             helpers,
-            course: Course { order: order.entries, on_cycle: order.on_cycle, live, found_dead, begins },
+            course: Course { order: order.entries, on_cycle: order.on_cycle, live, found_dead, begins, live_before },
             lines: first.lines,
             runtime_lines: second.lines,
         }
+    }
+
+    /// By round: how many lines of the main stage it wrote, and how many modules became live in it.
+    pub fn moves(&self) -> Vec<[usize; 2]> {
+        let Course { begins, live_before, live, .. } = &self.course;
+        let mut reached: Vec<[usize; 2]> =
+            begins.iter().zip(live_before).map(|(&lines, &live)| [lines, live]).collect();
+        reached.push([self.lines.len(), live.iter().filter(|live| **live).count()]);
+        reached.windows(2).map(|pair| [pair[1][0] - pair[0][0], pair[1][1] - pair[0][1]]).collect()
     }
 
     /// The numbers of the record, both stages.

@@ -39,10 +39,14 @@ pub fn run_by_sets(graph: &Graph) -> Decided {
     }
     let (mut rounds, mut live, mut dead) = (0, BTreeSet::new(), BTreeSet::new());
     loop {
-        let before = state.kept_modules();
+        let (before, live_before) = (state.facts.clone(), live.clone());
         state.round(&order, &mut live, &mut dead);
         rounds += 1;
-        if state.kept_modules() == before {
+        let kept = modules_in(&state.facts) != modules_in(&before);
+        // A round takes the bailouts that it begins with, so it leaves the others.
+        let moved = state.facts != before || live != live_before || bailouts_in(&state.facts) != bailouts_in(&before);
+        let goes_on = if graph.options & 128 == 0 { kept } else { moved };
+        if !goes_on {
             break;
         }
     }
@@ -53,6 +57,14 @@ pub fn run_by_sets(graph: &Graph) -> Decided {
     let lived = order.entries.iter().copied().filter(is_final);
     let entries = by_first_of_module(graph, &user_defined.into_iter().chain(lived).collect::<Vec<u32>>());
     state.end(rounds, entries, dead)
+}
+
+fn modules_in(facts: &HashSet<Fact>) -> BTreeSet<Fact> {
+    facts.iter().copied().filter(|fact| matches!(fact, Fact::Module(_))).collect()
+}
+
+fn bailouts_in(facts: &HashSet<Fact>) -> BTreeSet<Fact> {
+    facts.iter().copied().filter(|fact| matches!(fact, Fact::Bailout(_))).collect()
 }
 
 /// Entries of one module beside each other, where its first one stands.
@@ -207,10 +219,6 @@ impl State<'_> {
             }
         }
         self.start(Fact::Module(module));
-    }
-
-    fn kept_modules(&self) -> BTreeSet<Fact> {
-        self.facts.iter().copied().filter(|fact| matches!(fact, Fact::Module(_))).collect()
     }
 
     fn round(&mut self, order: &Order, live: &mut BTreeSet<u32>, dead: &mut BTreeSet<(u32, u32)>) {

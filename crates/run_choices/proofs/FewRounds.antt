@@ -1,68 +1,30 @@
--- The rounds end because no module became kept, not for want of fuel: each round but the last has a module's line more, and there are at most
--- as many of these as modules.
+-- Without the option each round but the last has a module's line more, and there are at most as many of these as modules.
 use Prim.Native.Nat.{ℕ, zero, suc, _+_, _<_, _≤_}
-use mathlib.Core.Path.{_≡_, refl, ap, _∙_, sym, subst}
+use mathlib.Core.Path.{_≡_, refl, ap, _∙_}
 use mathlib.Core.Bool.{Bool, true, false, false≢true}
-use mathlib.Core.List.{List, [], _∷_, _++_, append-assoc, append-nil}
+use mathlib.Core.List.{List, [], _∷_, _++_}
 use native.Mathlib.Omega.{arith}
-use lib.Dec.{eqb, ltb}
+use lib.Dec.{eqb}
 use lib.ListN.{length, drop}
 use lib.Seq.{drop-append-seam}
 use Rattle.graph.specs.Check.{Graph, graphIn}
 use Rattle.graph.specs.Loaded.{Loaded}
-use Rattle.graph_access.specs.Words.{some}
+use Rattle.graph_access.specs.Words.{some, option}
 use Rattle.facts.specs.declared.Fact.{Fact}
 use Rattle.facts.specs.declared.Fact.the-variants.{Module, Statement, Use, CheckedUse, Forward, Bailout}
-use Rattle.facts.specs.Facts.{kindOf, Good, markOf, markCount}
+use Rattle.facts.specs.Facts.{kindOf, Good, markOf}
 use Rattle.determine_side_effects.specs.Effects.{lastVerdicts}
 use Rattle.keep_record.specs.declared.Line.{Line}
-use Rattle.keep_record.specs.Lines.{elem, marksOf, marksFrom, added, adds}
+use Rattle.keep_record.specs.Lines.{elem, marksOf, marksFrom}
 use Rattle.keep_record.specs.Held.{Distinct}
-use Rattle.keep_record.proofs.Adding.{neither, left-false, right-false, added-prefix, adds-prefix}
+use Rattle.keep_record.proofs.Adding.{neither, left-false, right-false}
 use Rattle.keep_record.proofs.Counting.{distinct-below}
-use Rattle.worklist.specs.Drain.{line, news, drained, started, drainedAll}
 use Rattle.dynamic_entries.specs.Tries.{Progress}
-use Rattle.tree_shaking.specs.Rounds.{round, keptModule, Ended, endedAt, roundsFrom, begun, mainPart}
+use Rattle.tree_shaking.specs.Rounds.{round, keptModule, keepsModule, goesOn, roundsFuel, Ended, endedAt, roundsFrom, begun, mainPart}
 use Rattle.closed_choices.proofs.Every.{Every, every-at}
 use Rattle.run_choices.proofs.Stages.{Whole}
-use Rattle.run_choices.proofs.Growing.{round-starts, round-whole, begun-whole}
-
--- lines are only appended
-record Goes (before after : List Line) : Type 0 where
-  rest : List Line
-  is : after ≡ before ++ rest
-
-goes-none : (a : List Line) → Goes a a
-goes-none a = record { rest = []; is = sym (append-nil a) }
-
-goes-on : (a b c : List Line) → Goes a b → Goes b c → Goes a c
-goes-on a b c p q =
-    record { rest = p .rest ++ q .rest; is = q .is ∙ ap (λ (l : List Line). l ++ q .rest) (p .is) ∙ append-assoc a (p .rest) (q .rest) }
-
-module _ (g : Graph) (v : List ℕ) (base : ℕ) where
-  drained-goes : (fuel k : ℕ) (lines : List Line) → Goes lines (drained g v base fuel k lines)
-  unfolding drained
-  drained-goes zero k lines = goes-none lines
-  drained-goes (suc fuel) k lines = go (ltb k (length lines)) (drained-goes fuel (k + 1) more)
-    where
-      more : List Line
-      more = adds g base lines (news g v base lines k)
-
-      go : (b : Bool) → Goes more (drained g v base fuel (k + 1) more) → Goes lines (elim b [ true ↦ drained g v base fuel (k + 1) more | false ↦ lines ])
-      go true r = let p = adds-prefix g base lines (news g v base lines k) in goes-on lines more (drained g v base fuel (k + 1) more) (record { rest = p .0; is = p .1 }) r
-      go false r = goes-none lines
-
-  started-goes : (lines : List Line) (f : Fact) → Goes lines (started g v base lines f)
-  unfolding started
-  started-goes lines f =
-      let p = added-prefix g base lines (line f 0 0 0) in
-      let more = added g base lines (line f 0 0 0) in
-      goes-on lines more (drained g v base (markCount g) (length lines) more) (record { rest = p .0; is = p .1 }) (drained-goes (markCount g) (length lines) more)
-
-  all-goes : (fs : List Fact) (lines : List Line) → Goes lines (drainedAll g v base fs lines)
-  unfolding drainedAll
-  all-goes [] lines = goes-none lines
-  all-goes (f ∷ fs) lines = goes-on lines (started g v base lines f) (drainedAll g v base fs (started g v base lines f)) (started-goes lines f) (all-goes fs (started g v base lines f))
+use Rattle.run_choices.proofs.Growing.{round-whole, begun-whole}
+use Rattle.run_choices.proofs.Further.{Goes, round-further}
 
 -- the marks of the modules' lines
 abbrev isModuleLine : Line → Bool
@@ -151,35 +113,40 @@ module _ (g : Graph) where
       let m : length (moduleMarks b) ≡ length (moduleMarks a) + length (moduleMarks (p .rest)) = ap (λ (l : List Line). length (moduleMarks l)) (p .is) ∙ modules-more a (p .rest) in
       omega (arith, o, m)
 
--- more fuel changes nothing
-module _ {numbers tables : List ℕ} (t : Loaded numbers tables) where
+-- a test by which a further round follows only one that kept a module
+module _ {numbers tables : List ℕ} (t : Loaded numbers tables) (test : Progress → Progress → Bool) (keeps : (p q : Progress) → test p q ≡ true → keepsModule p q ≡ true) where
   abbrev g : Graph
   g = graphIn numbers
 
   abbrev v : List ℕ
   v = lastVerdicts (graphIn numbers)
 
-  round-goes : (taken : ℕ) (p : Progress) → Whole g 0 (p .lines) → Goes (p .lines) (round g v taken p .lines)
-  round-goes taken p w = let s = round-starts t taken p w in subst (λ (l : List Line). Goes (p .lines) l) (sym (s .1)) (all-goes g v 0 (s .0) (p .lines))
-
-  settles : (fuel more made taken : ℕ) (p : Progress) → Whole g 0 (p .lines) → g .header .modules < length (moduleMarks g (p .lines)) + fuel
-      → roundsFrom g v (fuel + more) made taken p ≡ roundsFrom g v fuel made taken p
-  unfolding roundsFrom
-  settles zero more made taken p w h = absurd (omega (arith, h, modules-few g (p .lines) w))
-  settles (suc fuel) more made taken p w h =
-      let z : suc fuel + more ≡ suc (fuel + more) = omega arith in
-      ap (λ k. roundsFrom g v k made taken p) z
-      ∙ go (keptModule (length (p .lines)) (round g v taken p .lines)) refl
-      (λ e. settles fuel more (made + 1) (length (p .lines)) (round g v taken p) (round-whole t taken p w) (omega (arith, h, kept-more g (p .lines) (round g v taken p .lines) (round-goes taken p w) e)))
+  -- by the modules that have a line before the round and those that have none
+  few-from : (fuel made taken : ℕ) (p : Progress) → Whole g 0 (p .lines) → roundsFrom g v test fuel made taken p .rounds + length (moduleMarks g (p .lines)) ≤ made + g .header .modules + 1
+  unfolding roundsFrom keepsModule
+  few-from zero made taken p w = omega (arith, modules-few g (p .lines) w)
+  few-from (suc fuel) made taken p w = go (test p next) refl (few-from fuel (made + 1) (length (p .lines)) next (round-whole t taken p w))
     where
-      next : ℕ → Ended
-      next k = roundsFrom g v k (made + 1) (length (p .lines)) (round g v taken p)
+      next : Progress
+      next = round g v taken p
 
-      go : (b : Bool) → keptModule (length (p .lines)) (round g v taken p .lines) ≡ b → (keptModule (length (p .lines)) (round g v taken p .lines) ≡ true → next (fuel + more) ≡ next fuel)
-          → _≡_ {A = Ended} (elim b [ true ↦ next (fuel + more) | false ↦ endedAt (made + 1) (length (p .lines)) (round g v taken p) ]) (elim b [ true ↦ next fuel | false ↦ endedAt (made + 1) (length (p .lines)) (round g v taken p) ])
-      go true e r = r e
-      go false e r = refl
+      later : Ended
+      later = roundsFrom g v test fuel (made + 1) (length (p .lines)) next
 
-  pub rounds-settle : (more : ℕ) → roundsFrom g v (g .header .modules + 1 + more) 0 0 (begun g v) ≡ mainPart g v
-  unfolding mainPart
-  rounds-settle more = settles (g .header .modules + 1) more 0 0 (begun g v) (begun-whole t) (omega arith)
+      roundsOf : Ended → ℕ
+      roundsOf e = e .rounds
+
+      go : (b : Bool) → test p next ≡ b → later .rounds + length (moduleMarks g (next .lines)) ≤ made + 1 + g .header .modules + 1
+          → roundsOf (elim b [ true ↦ later | false ↦ endedAt (made + 1) (length (p .lines)) next ]) + length (moduleMarks g (p .lines)) ≤ made + g .header .modules + 1
+      go true e r = omega (arith, r, kept-more g (p .lines) (next .lines) (round-further g v taken p .lines-go) (keeps p next e))
+      go false e r = omega (arith, modules-few g (p .lines) w)
+
+-- without the option a run makes at most one round more than there are modules
+pub few-without : {numbers tables : List ℕ} → Loaded numbers tables → option (graphIn numbers) 7 ≡ false
+    → mainPart (graphIn numbers) (lastVerdicts (graphIn numbers)) .rounds ≤ graphIn numbers .header .modules + 1
+unfolding mainPart goesOn
+few-without {numbers} t o =
+    let g = graphIn numbers in
+    let v = lastVerdicts g in
+    let keeps : (p q : Progress) → goesOn g p q ≡ true → keepsModule p q ≡ true = λ p q e. rw (o, goesOn) at e in
+    omega (arith, few-from t (goesOn g) keeps (roundsFuel g) 0 0 (begun g v) (begun-whole t))

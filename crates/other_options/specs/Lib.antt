@@ -1,0 +1,2 @@
+-- The main definitions: `withOptions`, `SameButBit`.
+pub mod Options

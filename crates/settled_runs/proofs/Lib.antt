@@ -1,0 +1,9 @@
+pub mod Running
+pub mod Tests
+pub mod Ending
+pub mod Smallest
+pub mod Idling
+pub mod Beginning
+pub mod SameGraph
+pub mod Order
+pub mod OfRuns
