@@ -25,7 +25,7 @@ use tables::FIRST_BYTE_OF;
 
 // The rows of an answer: modules kept, statements kept, symbols used, external symbols used, Json symbols used from outside,
 // and for each module why its namespace is included.
-#[derive(Drop)]
+#[derive(Clone, Copy)]
 pub enum Row {
     Modules,
     Statements,
@@ -36,7 +36,7 @@ pub enum Row {
 }
 
 // The lengths of the six answer rows.
-#[derive(Drop)]
+#[derive(Clone, Copy)]
 pub struct Lengths {
     pub modules: usize,
     pub statements: usize,

@@ -11,7 +11,7 @@ use run_starts::StartsRead;
 
 // A refusal's number and its place; number 0: not refused.
 #[repr(C)]
-#[derive(Drop)]
+#[derive(Clone, Copy)]
 pub struct Refusal {
     pub number: u32,
     pub place: u64,
@@ -19,7 +19,7 @@ pub struct Refusal {
 
 // The same, and how many numbers were read.
 #[repr(C)]
-#[derive(Drop)]
+#[derive(Clone, Copy)]
 pub struct ReadAnswer {
     pub number: u32,
     pub place: u64,
@@ -28,7 +28,7 @@ pub struct ReadAnswer {
 
 // A refusal, and how many lines were written.
 #[repr(C)]
-#[derive(Drop)]
+#[derive(Clone, Copy)]
 pub struct DrainAnswer {
     pub number: u32,
     pub place: u64,
@@ -37,7 +37,7 @@ pub struct DrainAnswer {
 
 // A refusal, and how many rounds there were, how many lines the main part and the runtime stage have, and how many final entries there are.
 #[repr(C)]
-#[derive(Drop)]
+#[derive(Clone, Copy)]
 pub struct RunAnswer {
     pub number: u32,
     pub place: u64,

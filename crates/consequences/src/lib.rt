@@ -12,7 +12,7 @@ use keep_rules::Candidate;
 
 // Where a search through the consequences of a fact stands: a segment, a candidate in it, and, in the segment of a reference, the
 // reference's place among the graph's numbers.
-#[derive(Drop)]
+#[derive(Clone, Copy)]
 pub struct Cursor {
     pub segment: usize,
     pub index: usize,

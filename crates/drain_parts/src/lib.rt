@@ -22,7 +22,7 @@ use keep_record::Added;
 use rows::Walk;
 
 // How a drain ends: with so many lines, or with a refusal's number and its place.
-#[derive(Drop)]
+#[derive(Clone, Copy)]
 pub enum Drained {
     Lines(usize),
     Refused(u32, usize),

@@ -16,7 +16,7 @@ use graph_access::entries;
 use index::{EntryIdx, ModuleIdx};
 
 // Whether the dynamic entries are sorted; or a module has more successors than there is room for.
-#[derive(Drop)]
+#[derive(Clone, Copy)]
 pub enum Ordered {
     Done,
     Full,

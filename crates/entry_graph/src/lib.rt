@@ -14,14 +14,14 @@ use graph_access::{entries, modules};
 use index::{EntryIdx, ImportRecordIdx, ModuleIdx};
 
 // How many nodes the graph has; or a module has more successors than there is room for.
-#[derive(Drop)]
+#[derive(Clone, Copy)]
 pub enum Built {
     Nodes(usize),
     Full,
 }
 
 // What an import record asks for: nothing; a walk from a module under the present root; an edge to a module.
-#[derive(Drop)]
+#[derive(Clone, Copy)]
 enum Import {
     Unresolved,
     SameRoot(ModuleIdx),
@@ -29,7 +29,7 @@ enum Import {
 }
 
 // What is left of an import record when its edge is added: a walk under a root from a module, or nothing. Both have the number of nodes.
-#[derive(Drop)]
+#[derive(Clone, Copy)]
 enum Step {
     Walk(ModuleIdx, ModuleIdx, usize),
     Stay(usize),
@@ -37,7 +37,7 @@ enum Step {
 }
 
 // How far the import records of a module were taken: up to a record, with a walk under a root from a module left, or all. Both have the number of nodes.
-#[derive(Drop)]
+#[derive(Clone, Copy)]
 enum Taken {
     UpTo(usize, ModuleIdx, ModuleIdx, usize),
     All(usize),

@@ -11,13 +11,13 @@ use index::{ModuleIdx, StmtIdx, SymbolIdx};
 
 // Why a symbol is used: Normal 1, EntryExport 2, ReExportDynamicExports 4, JsonDefaultExportSelfReference 8,
 // SimulatedFacadeChunk 16, added up.
-#[derive(Drop)]
+#[derive(Clone, Copy)]
 pub struct Reason {
     pub bits: usize,
 }
 
 // A work item of the Rust, or one of the three further kinds that our record names.
-#[derive(Drop)]
+#[derive(Clone, Copy)]
 pub enum Fact {
     Module(ModuleIdx),
     Statement(ModuleIdx, StmtIdx),

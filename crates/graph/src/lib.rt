@@ -14,7 +14,7 @@ use rows::Walk;
 use tables::{LARGE_PLACES, LARGEST_PLACES, MIDDLE_PLACES, MODULES, SMALL_PLACES, SYMBOLS, Size};
 
 // How the check of a graph ends: accepted, or with a refusal's number and its place.
-#[derive(Drop)]
+#[derive(Clone, Copy)]
 pub enum Checked {
     Accepted,
     Refused(u32, usize),

@@ -11,7 +11,7 @@ use index::{EntryIdx, ImportRecordIdx, ModuleIdx, StmtIdx};
 use tables::ENTRIES;
 
 // A statement that is related to an entry: where it stands, its import record, and 1 if it can't be reached.
-#[derive(Drop)]
+#[derive(Clone, Copy)]
 pub struct RelatedStmt {
     pub module: ModuleIdx,
     pub statement: StmtIdx,

@@ -6,7 +6,7 @@ ghost use Rattle.graph_format.specs.Format.{module_rules, namespace_limit, least
 use rows::Walk;
 
 // The header's numbers.
-#[derive(Drop)]
+#[derive(Clone, Copy)]
 pub struct Header {
     pub options: usize,
     pub runtime: usize,
@@ -18,7 +18,7 @@ pub struct Header {
 }
 
 // How far the modules are read: the statements that are no module's yet, and the modules that are not read.
-#[derive(Drop)]
+#[derive(Clone, Copy)]
 pub struct Left {
     pub statements: usize,
     pub modules: usize,

@@ -1,17 +1,17 @@
 // Typed indexes, as the source's: an index of one kind does not stand for one of another.
-#[derive(Drop)]
+#[derive(Clone, Copy)]
 pub struct ModuleIdx(pub usize);
 
-#[derive(Drop)]
+#[derive(Clone, Copy)]
 pub struct SymbolIdx(pub usize);
 
 // A statement among those of its module.
-#[derive(Drop)]
+#[derive(Clone, Copy)]
 pub struct StmtIdx(pub usize);
 
 // An import record among those of its module.
-#[derive(Drop)]
+#[derive(Clone, Copy)]
 pub struct ImportRecordIdx(pub usize);
 
-#[derive(Drop)]
+#[derive(Clone, Copy)]
 pub struct EntryIdx(pub usize);

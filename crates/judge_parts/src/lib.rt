@@ -14,7 +14,7 @@ use graph_format::Header;
 use rows::Walk;
 
 // What the judge says of a record: it is passed, or refused with a number and a place.
-#[derive(Drop)]
+#[derive(Clone, Copy)]
 pub enum Judged {
     Passed,
     Refused(u32, usize),

@@ -15,14 +15,14 @@ use index::SymbolIdx;
 use keep_rules::Candidate;
 
 // Where a fact stands among candidates.
-#[derive(Drop)]
+#[derive(Clone, Copy)]
 pub enum Found {
     At(usize),
     Nowhere,
 }
 
 // Segments of a premise: from one up to, not with, another; and where the reference of the first one stands, if it has one.
-#[derive(Drop)]
+#[derive(Clone, Copy)]
 pub struct Span {
     pub from: usize,
     pub to: usize,
@@ -30,7 +30,7 @@ pub struct Span {
 }
 
 // A fact follows, and the search can go on from this cursor; or it does not.
-#[derive(Drop)]
+#[derive(Clone, Copy)]
 pub enum Search {
     Justified(Cursor),
     Unjustified,

@@ -11,21 +11,21 @@ use libc::{STDIN_FILENO, STDOUT_FILENO};
 // A text is printed by parts of so many bytes. If it is longer it is formed again for each further part.
 const WINDOW: usize = 8192;
 
-#[derive(Drop)]
+#[derive(Clone, Copy)]
 pub enum Filled {
     // So many bytes were read, until the buffer was full or the input ended.
     Bytes(usize),
     Failed,
 }
 
-#[derive(Drop)]
+#[derive(Clone, Copy)]
 pub enum Input {
     // So many bytes were read into the first buffer, and so many into the second.
     Read(usize, usize),
     Unread,
 }
 
-#[derive(Drop)]
+#[derive(Clone, Copy)]
 pub enum Part {
     // The row is full, and so many bytes of the text stand before the next part.
     Next(usize),

@@ -10,7 +10,7 @@ ghost use Rattle.keep_record.specs.Held.{line_at, lines_of, Held, Grown, Writabl
 use facts::Fact;
 
 // A record line: a fact, the rule that gives it (0 for a start), and 1 more than the numbers of the lines that it follows from.
-#[derive(Drop)]
+#[derive(Clone, Copy)]
 pub struct Line {
     pub fact: Fact,
     pub rule: usize,
@@ -19,14 +19,14 @@ pub struct Line {
 }
 
 // How many lines the record has: the first `base` of them of an earlier stage, `count` in all.
-#[derive(Drop)]
+#[derive(Clone, Copy)]
 pub struct Stage {
     pub base: usize,
     pub count: usize,
 }
 
 // How many lines there are now, or the record is too short.
-#[derive(Drop)]
+#[derive(Clone, Copy)]
 pub enum Added {
     Lines(usize),
     Full,

@@ -13,7 +13,7 @@ use graph_access::symbols;
 use index::SymbolIdx;
 
 // What one candidate of a rule gives.
-#[derive(Drop)]
+#[derive(Clone, Copy)]
 pub enum Candidate {
     Gives(Fact),
     Nothing,

@@ -4,14 +4,14 @@ ghost use Rattle.leb128.specs.Read.{IsRead, read_of, answer_of, lent_of};
 ghost use Rattle.leb128.specs.Number.{number_of, accepted};
 
 // How reading a file ends: with a count of numbers, or with a refusal's number and its place.
-#[derive(Drop)]
+#[derive(Clone, Copy)]
 pub enum Answer {
     Numbers(usize),
     Refused(u32, usize),
 }
 
 // A number and the place behind it, or no number in shortest form below 2^32.
-#[derive(Drop)]
+#[derive(Clone, Copy)]
 enum Number {
     Is(u32, usize),
     Bad,

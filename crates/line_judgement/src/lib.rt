@@ -17,7 +17,7 @@ use justification::{Found, Search};
 use marked::is_marked;
 
 // Where the search for the last line's justification ended: the line's rule and names, and a cursor to go on from. Rule 0: there was no search.
-#[derive(Drop)]
+#[derive(Clone, Copy)]
 pub struct Trail {
     pub rule: usize,
     pub because: usize,
@@ -28,7 +28,7 @@ pub struct Trail {
 }
 
 // A line stands, and where its search ended; or it is bad.
-#[derive(Drop)]
+#[derive(Clone, Copy)]
 pub enum Standing {
     Stands(Trail),
     Bad,

@@ -4,7 +4,7 @@ ghost use Rattle.rows.specs.Walk.{Parsed, walk_of, number, value, count, cells, 
 ghost use Rattle.rows.specs.Chain.{Linked, Chained};
 
 // Where a walk stands: at the place of the next number, or at a fault with a refusal's number and its place.
-#[derive(Drop)]
+#[derive(Clone, Copy)]
 pub enum Walk {
     At(usize),
     Fault(u32, usize),

@@ -21,7 +21,7 @@ use keep_record::Added;
 use tree_shaking::{Reached, Work};
 
 // What a run comes to: how many rounds it made, how many lines the main part and the runtime stage have, and how many final entries there are.
-#[derive(Drop)]
+#[derive(Clone, Copy)]
 pub struct Totals {
     pub rounds: usize,
     pub lines: usize,
@@ -30,21 +30,21 @@ pub struct Totals {
 }
 
 // How a run ends; or a refusal's number and its place.
-#[derive(Drop)]
+#[derive(Clone, Copy)]
 pub enum Ran {
     Done(Totals),
     Refused(u32, usize),
 }
 
 // Which part of a run is made: all of it, or what comes before the runtime stage.
-#[derive(Drop)]
+#[derive(Clone, Copy)]
 pub enum Part {
     Whole,
     Main,
 }
 
 // The lengths of marks and answer rows.
-#[derive(Drop)]
+#[derive(Clone, Copy)]
 pub struct Lengths {
     pub marks: usize,
     pub modules: usize,

@@ -21,7 +21,7 @@ use tables::{LARGE, LARGEST, MIDDLE, SMALL, Size};
 use tree_shaking::{Reached, Work};
 
 // How many numbers the starts have, or a refusal's number and its place.
-#[derive(Drop)]
+#[derive(Clone, Copy)]
 pub enum StartsRead {
     Numbers(usize),
     Refused(u32, usize),

@@ -47,7 +47,7 @@ pub const LARGEST_PLACES: usize = 35851;
 pub const LARGEST: usize = 71691;
 
 // Which tables hold a graph.
-#[derive(Drop)]
+#[derive(Clone, Copy)]
 pub enum Size {
     Small,
     Middle,

@@ -25,7 +25,7 @@ const SETTLE: usize = 7;
 
 // What a run has reached: how many user-defined entries there are, how many rounds were made, how many lines there were when the last one began, how
 // many lines the main part has, and how many there are in all.
-#[derive(Drop)]
+#[derive(Clone, Copy)]
 pub struct Reached {
     pub users: usize,
     pub rounds: usize,
@@ -35,7 +35,7 @@ pub struct Reached {
 }
 
 // How the work of a run ends; or the record is too short.
-#[derive(Drop)]
+#[derive(Clone, Copy)]
 pub enum Work {
     Done(Reached),
     Full,

@@ -7,7 +7,7 @@ pub type Row = [u32; ROOM];
 
 // A graph's counts, which of its lists is long, and that list's count. Lists are numbered as they stand in the file:
 // 0 to 9 a module's, 10 to 12 a symbol's, 13 and 14 a statement's, 15 a reference's, 16 an entry's; 17 is none.
-#[derive(Drop)]
+#[derive(Clone, Copy)]
 pub struct Shape {
     modules: u32,
     symbols: u32,
