@@ -5,9 +5,9 @@ use mathlib.Core.Bool.{true, false}
 use mathlib.Core.List.{List, [], ◌++◌}
 use native.Mathlib.Omega.{arith}
 use lib.ListN.{length, get_or, drop, take-append-drop}
-use Rattle.graph.specs.Check.{Graph, graph_in}
-use Rattle.graph.specs.Loaded.{Loaded}
-use Rattle.facts.specs.Facts.{Good}
+use Rattle.determine_side_effects.specs.graph_crate.Check.{Graph, graph_in}
+use Rattle.determine_side_effects.specs.graph_crate.Loaded.{Loaded}
+use Rattle.determine_side_effects.specs.facts_crate.Facts.{Good}
 use Rattle.keep_record.specs.declared.Line.{Line}
 use Rattle.keep_record.specs.Held.{line_at, lines_of}
 use Rattle.keep_record.proofs.Rows.{lines-take}

@@ -10,19 +10,19 @@ use lib.ListN.{length, get_or, set}
 use lib.Seq.{get_or-set_same, get_or-set_other}
 use Rattle.bit_row.specs.Row.{bytes_for}
 use Rattle.bit_row.proofs.Size.{bytes_hold, bytes_at_most}
-use Rattle.rows.specs.Walk.{Item}
-use Rattle.graph_format.specs.declared.Header.{Header}
-use Rattle.tables.specs.Layout.{sizes, start_of, first_bytes_in, Laid, Kept, at_first_bytes, all_sections}
-use Rattle.tables.proofs.Sections.{ends_inside, section-length, kept_none, kept_set, laid_kept, laid_less}
-use Rattle.tables.proofs.Writing.{section-set}
-use Rattle.graph_tables.specs.Tables.{header_in}
-use Rattle.graph.specs.Check.{graph_in}
-use Rattle.graph.specs.Loaded.{Loaded}
-use Rattle.graph.proofs.Kept.{loaded_kept}
-use Rattle.graph.proofs.LaterRules.{runtime_none}
-use Rattle.graph.proofs.WellFormed.{runtime_is_normal}
-use Rattle.graph_access.specs.Words.{statement_list}
-use Rattle.graph_access.proofs.Indexes.{statements_few}
+use Rattle.determine_side_effects.specs.rows_crate.Walk.{Item}
+use Rattle.determine_side_effects.specs.graph_format_crate.declared.Header.{Header}
+use Rattle.determine_side_effects.specs.tables_crate.Layout.{sizes, start_of, first_bytes_in, Laid, Kept, at_first_bytes, all_sections}
+use Rattle.determine_side_effects.proofs.tables_crate.Sections.{ends_inside, section-length, kept_none, kept_set, laid_kept, laid_less}
+use Rattle.determine_side_effects.proofs.tables_crate.Writing.{section-set}
+use Rattle.determine_side_effects.specs.graph_tables_crate.Tables.{header_in}
+use Rattle.determine_side_effects.specs.graph_crate.Check.{graph_in}
+use Rattle.determine_side_effects.specs.graph_crate.Loaded.{Loaded}
+use Rattle.determine_side_effects.proofs.graph_crate.Kept.{loaded_kept}
+use Rattle.determine_side_effects.proofs.graph_crate.LaterRules.{runtime_none}
+use Rattle.determine_side_effects.proofs.graph_crate.WellFormed.{runtime_is_normal}
+use Rattle.determine_side_effects.specs.graph_access_crate.Words.{statement_list}
+use Rattle.determine_side_effects.proofs.graph_access_crate.Indexes.{statements_few}
 use Rattle.answer_rows.specs.declared.Row.TheVariants.{Statements}
 use Rattle.answer_rows.specs.Shown.{bytes_before, row_bytes}
 use Rattle.answer_rows.specs.Tabled.{FirstByteTable}

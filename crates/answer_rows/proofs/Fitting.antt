@@ -6,7 +6,7 @@ use native.Mathlib.Omega.{arith}
 use borrow.Author.Tests.{leb-true}
 use lib.Dec.{leb}
 use Rattle.bit_row.proofs.Size.{bytes_hold}
-use Rattle.graph.specs.Check.{Graph}
+use Rattle.determine_side_effects.specs.graph_crate.Check.{Graph}
 use Rattle.determine_side_effects.proofs.Lists.{both}
 use Rattle.answer_rows.specs.declared.Lengths.{Lengths}
 use Rattle.answer_rows.specs.declared.Row.TheVariants.{Modules, Statements, Used, External, Json, NamespaceReason}

@@ -10,20 +10,20 @@ use lib.ListN.{length, get_or, drop, replicate}
 use Rattle.bit_row.specs.Row.{bytes_for, bit_at, cleared}
 use Rattle.bit_row.proofs.Size.{bytes_hold}
 use Rattle.bit_row.proofs.Cleared.{cleared_unset, cleared_kept}
-use Rattle.graph_tables.specs.Tables.{header_in}
-use Rattle.graph.specs.Check.{Graph, graph_in}
-use Rattle.graph_access.specs.Names.{module_type, owner, alias_namespace}
-use Rattle.graph_access.specs.Words.{root_of}
-use Rattle.facts.specs.declared.Fact.{Fact}
-use Rattle.facts.specs.declared.Fact.TheVariants.{Module, Statement, Use, CheckedUse, Forward, Bailout}
-use Rattle.index.specs.declared.SymbolIdx.{SymbolIdx}
-use Rattle.facts.specs.declared.Reason.{Reason}
-use Rattle.index.specs.declared.ModuleIdx.{ModuleIdx}
-use Rattle.index.specs.declared.StmtIdx.{StmtIdx}
-use Rattle.graph_access.specs.Words.{flag, tabulate, some, statement_list, module_of, symbol_of, normal}
-use Rattle.facts.specs.Facts.{Good}
-use Rattle.graph.specs.Loaded.{Loaded}
-use Rattle.graph_access.proofs.Indexes.{owner_below, root_below, alias_below}
+use Rattle.determine_side_effects.specs.graph_tables_crate.Tables.{header_in}
+use Rattle.determine_side_effects.specs.graph_crate.Check.{Graph, graph_in}
+use Rattle.determine_side_effects.specs.graph_access_crate.Names.{module_type, owner, alias_namespace}
+use Rattle.determine_side_effects.specs.graph_access_crate.Words.{root_of}
+use Rattle.determine_side_effects.specs.facts_crate.declared.Fact.{Fact}
+use Rattle.determine_side_effects.specs.facts_crate.declared.Fact.TheVariants.{Module, Statement, Use, CheckedUse, Forward, Bailout}
+use Rattle.determine_side_effects.specs.index_crate.declared.SymbolIdx.{SymbolIdx}
+use Rattle.determine_side_effects.specs.facts_crate.declared.Reason.{Reason}
+use Rattle.determine_side_effects.specs.index_crate.declared.ModuleIdx.{ModuleIdx}
+use Rattle.determine_side_effects.specs.index_crate.declared.StmtIdx.{StmtIdx}
+use Rattle.determine_side_effects.specs.graph_access_crate.Words.{flag, tabulate, some, statement_list, module_of, symbol_of, normal}
+use Rattle.determine_side_effects.specs.facts_crate.Facts.{Good}
+use Rattle.determine_side_effects.specs.graph_crate.Loaded.{Loaded}
+use Rattle.determine_side_effects.proofs.graph_access_crate.Indexes.{owner_below, root_below, alias_below}
 use Rattle.linking_metadata.specs.Namespaces.{is_namespace, target_of}
 use Rattle.keep_rules.specs.Rules.{bypassed, dev_namespace}
 use Rattle.keep_record.specs.Lines.{elem}

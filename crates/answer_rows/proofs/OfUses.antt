@@ -4,9 +4,9 @@ use mathlib.Core.Path.{◌≡◌, refl, ap, ◌∙◌, sym}
 use mathlib.Core.Bool.{Bool, true, false, ◌&&◌, ◌||◌, not}
 use mathlib.Core.List.{List, [], ◌∷◌, ◌++◌}
 use lib.Dec.{eqb}
-use Rattle.graph.specs.Check.{Graph}
-use Rattle.graph_access.specs.Names.{module_type, owner}
-use Rattle.graph_access.specs.Words.{flag, module_of, symbol_of, normal}
+use Rattle.determine_side_effects.specs.graph_crate.Check.{Graph}
+use Rattle.determine_side_effects.specs.graph_access_crate.Names.{module_type, owner}
+use Rattle.determine_side_effects.specs.graph_access_crate.Words.{flag, module_of, symbol_of, normal}
 use Rattle.linking_metadata.specs.Namespaces.{is_namespace, target_of}
 use Rattle.keep_rules.specs.Rules.{bypassed}
 use Rattle.answer_rows.specs.Shown.{only_if, used_by, external_by, json_by, reason_by}

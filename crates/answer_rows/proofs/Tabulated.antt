@@ -4,9 +4,9 @@ use mathlib.Core.Path.{◌≡◌, refl, ap, ◌∙◌}
 use mathlib.Core.Bool.{Bool, true, false, ◌||◌}
 use mathlib.Core.List.{List, [], ◌∷◌, ◌++◌}
 use native.Mathlib.Omega.{arith}
-use Rattle.graph_access.specs.Words.{some, tabulate}
+use Rattle.determine_side_effects.specs.graph_access_crate.Words.{some, tabulate}
 pub use Rattle.determine_side_effects.proofs.Lists.{length-tabulate, get_d_tabulate}
-use Rattle.facts.proofs.Folds.{tabulate_next, tabulate-none}
+use Rattle.determine_side_effects.proofs.facts_crate.Folds.{tabulate_next, tabulate-none}
 
 -- the first of those that are left, and the others
 module _ {A : Type 0} (test : A → Bool) (f : ℕ → A) (n i : ℕ) where

@@ -2,12 +2,12 @@
 -- K6).
 use Rattle.std.specs.Prelude.{ℕ, zero, suc, ◌+◌, ◌*◌, ◌^◌, Bool, true, false, ◌&&◌, ◌||◌, not, List, [], ◌∷◌, ◌++◌, eqb, leb, length, drop}
 use Rattle.bit_row.specs.Row.{bytes_for}
-use Rattle.rows.specs.Walk.{Item}
-use Rattle.graph.specs.Check.{Graph}
-use Rattle.graph_access.specs.Names.{module_type, owner}
-use Rattle.facts.specs.declared.Fact.{Fact}
-use Rattle.facts.specs.declared.Fact.TheVariants.{Module, Statement, Use, CheckedUse, Forward, Bailout}
-use Rattle.graph_access.specs.Words.{flag, tabulate, some, module_of, symbol_of, normal}
+use Rattle.determine_side_effects.specs.rows_crate.Walk.{Item}
+use Rattle.determine_side_effects.specs.graph_crate.Check.{Graph}
+use Rattle.determine_side_effects.specs.graph_access_crate.Names.{module_type, owner}
+use Rattle.determine_side_effects.specs.facts_crate.declared.Fact.{Fact}
+use Rattle.determine_side_effects.specs.facts_crate.declared.Fact.TheVariants.{Module, Statement, Use, CheckedUse, Forward, Bailout}
+use Rattle.determine_side_effects.specs.graph_access_crate.Words.{flag, tabulate, some, module_of, symbol_of, normal}
 use Rattle.linking_metadata.specs.Namespaces.{is_namespace, target_of}
 use Rattle.keep_rules.specs.Rules.{bypassed, dev_namespace}
 use Rattle.keep_record.specs.declared.Line.{Line}

@@ -1,8 +1,8 @@
 -- The section of the modules' first bytes in the statement row.
 use Rattle.std.specs.Prelude.{ℕ, ◌<◌, ◌≤◌, ◌≡◌, List, length, get_or}
-use Rattle.tables.specs.Layout.{Laid, first_bytes_in, all_sections}
-use Rattle.graph_tables.specs.Tables.{header_in}
-use Rattle.graph.specs.Check.{Graph, graph_in}
+use Rattle.determine_side_effects.specs.tables_crate.Layout.{Laid, first_bytes_in, all_sections}
+use Rattle.determine_side_effects.specs.graph_tables_crate.Tables.{header_in}
+use Rattle.determine_side_effects.specs.graph_crate.Check.{Graph, graph_in}
 use Rattle.answer_rows.specs.Shown.{bytes_before}
 
 pub record FirstByteTable (g : Graph) (table : List ℕ) : Type 0 where

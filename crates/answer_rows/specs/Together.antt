@@ -1,8 +1,8 @@
 -- The six answer rows together, as a drain and a run write them.
 use Rattle.std.specs.Prelude.{ℕ, ◌≡◌, Bool, true, ◌&&◌, ◌||◌, List, length}
-use Rattle.graph.specs.Check.{Graph}
+use Rattle.determine_side_effects.specs.graph_crate.Check.{Graph}
 use Rattle.bit_row.specs.Row.{bit_at}
-use Rattle.facts.specs.declared.Fact.{Fact}
+use Rattle.determine_side_effects.specs.facts_crate.declared.Fact.{Fact}
 use Rattle.keep_record.specs.declared.Line.{Line}
 use Rattle.keep_record.specs.Lines.{elem}
 use Rattle.answer_rows.specs.declared.Row.{Row}

@@ -1,27 +1,27 @@
 // The answer rows of a drain: the bits that the facts of its lines show.
 ghost use Rattle.std.specs.Prelude.{◌≡◌, ℕ, ◌+◌, ◌*◌, ◌-◌, ◌<◌, ◌≤◌, true, false, ◌||◌, not, [], length, drop};
 ghost use Rattle.bit_row.specs.Row.{bit_at};
-ghost use Rattle.graph_tables.specs.Tables.{header_in};
-ghost use Rattle.graph.specs.Check.{graph_in};
-ghost use Rattle.graph_access.specs.Words.{normal};
-ghost use Rattle.facts.specs.Facts.{Good};
-ghost use Rattle.graph.specs.Loaded.{Loaded};
+ghost use Rattle.determine_side_effects.specs.graph_tables_crate.Tables.{header_in};
+ghost use Rattle.determine_side_effects.specs.graph_crate.Check.{graph_in};
+ghost use Rattle.determine_side_effects.specs.graph_access_crate.Words.{normal};
+ghost use Rattle.determine_side_effects.specs.facts_crate.Facts.{Good};
+ghost use Rattle.determine_side_effects.specs.graph_crate.Loaded.{Loaded};
 ghost use Rattle.keep_rules.specs.Prepared.{Prepared};
 ghost use Rattle.keep_record.specs.Lines.{elem};
 ghost use Rattle.keep_record.specs.Held.{line_at, lines_of};
 ghost use Rattle.answer_rows.specs.Shown.{bytes_before, used_by, external_by, json_by, reason_by, row_bytes, only_if, rows_enough};
 ghost use Rattle.answer_rows.specs.Together.{six_rows, lengths_of, Shows, FactShown, LinesShown, RowsShown};
 ghost use Rattle.answer_rows.specs.Tabled.{FirstByteTable, FirstBytes};
-ghost use Rattle.tables.specs.Layout.{start_of, Laid, Kept, first_bytes_in, at_first_bytes, all_sections};
-ghost use Rattle.graph_access.specs.Names.{owner as ownerIn};
-ghost use Rattle.graph_access.specs.Words.{symbol_of};
-ghost use Rattle.facts.specs.declared.Fact.TheVariants.{Module, Use};
+ghost use Rattle.determine_side_effects.specs.tables_crate.Layout.{start_of, Laid, Kept, first_bytes_in, at_first_bytes, all_sections};
+ghost use Rattle.determine_side_effects.specs.graph_access_crate.Names.{owner as owner_in};
+ghost use Rattle.determine_side_effects.specs.graph_access_crate.Words.{symbol_of};
+ghost use Rattle.determine_side_effects.specs.facts_crate.declared.Fact.TheVariants.{Module, Use};
 ghost use Rattle.answer_rows.specs.declared.Row.TheVariants.{Modules, Statements, Used, External, Json, NamespaceReason};
 
-use facts::{Fact, Reason};
-use graph_access::{modules, symbols};
-use index::{ModuleIdx, SymbolIdx};
-use tables::FIRST_BYTE_OF;
+use determine_side_effects::facts_crate::{Fact, Reason};
+use determine_side_effects::graph_access_crate::{modules, symbols};
+use determine_side_effects::index_crate::{ModuleIdx, SymbolIdx};
+use determine_side_effects::tables_crate::FIRST_BYTE_OF;
 
 // The rows of an answer: modules kept, statements kept, symbols used, external symbols used, Json symbols used from outside,
 // and for each module why its namespace is included.
@@ -52,7 +52,7 @@ pub fn fill_first_bytes(numbers: &[u32], tables: &mut [usize])
     requires laid { Laid (header_in numbers.now) all_sections tables.old }
     ensures { FirstByteTable (graph_in numbers.now) (first_bytes_in tables.new) × Kept (start_of (header_in numbers.now) at_first_bytes) tables.old tables.new }
 {
-    let h = graph::header_of(numbers);
+    let h = determine_side_effects::graph_crate::header_of(numbers);
     let base = tables[FIRST_BYTE_OF];
     let mut total: usize = 0;
     let mut m: usize = 0;
@@ -69,7 +69,7 @@ fn first_byte_of(numbers: &[u32], tables: &[usize], m: ModuleIdx) -> usize
     requires m_bound { m.0 < (header_in numbers.now).modules }
     ensures { result ≡ bytes_before (graph_in numbers.now).statements m.0 }
 {
-    let bytes = tables::section(tables, FIRST_BYTE_OF);
+    let bytes = determine_side_effects::tables_crate::section(tables, FIRST_BYTE_OF);
     let i = m.0;
     bytes[i]
 }
@@ -92,7 +92,7 @@ fn show_used(numbers: &[u32], tables: &[usize], s: SymbolIdx, x: Reason, bits: &
 fn show_if_external(numbers: &[u32], tables: &[usize], s: SymbolIdx, bits: &mut [u8])
     requires prepared { Prepared numbers.now tables.now }
     requires s_bound { (s.0 < (header_in numbers.now).symbols) × ((header_in numbers.now).symbols ≤ 8 * length bits.old) }
-    ensures { (j : ℕ) → bit_at bits.new j ≡ (elem j (only_if (not (normal (graph_in numbers.now) (ownerIn (symbol_of (graph_in numbers.now) s.0)))) s.0) || bit_at bits.old j) }
+    ensures { (j : ℕ) → bit_at bits.new j ≡ (elem j (only_if (not (normal (graph_in numbers.now) (owner_in (symbol_of (graph_in numbers.now) s.0)))) s.0) || bit_at bits.old j) }
 {
     let owner = symbols::owner(numbers, tables, s);
     if modules::is_normal(numbers, tables, owner) {
@@ -142,7 +142,7 @@ fn note_json_self_reference(
     if modules::module_type(numbers, tables, owner) != 2 {
         return;
     }
-    if facts::flag(x.bits, 3) {
+    if determine_side_effects::facts_crate::flag(x.bits, 3) {
         return;
     }
     bit_row::set(bits, t.0);
@@ -168,15 +168,15 @@ fn note_namespace_inclusion_reason(
         return;
     }
     let owner = symbols::owner(numbers, tables, t);
-    if facts::flag(x.bits, 0) {
+    if determine_side_effects::facts_crate::flag(x.bits, 0) {
         bit_row::set(bits, 8 * owner.0);
         return;
     }
-    if facts::flag(x.bits, 1) {
+    if determine_side_effects::facts_crate::flag(x.bits, 1) {
         bit_row::set(bits, 8 * owner.0);
         return;
     }
-    if facts::flag(x.bits, 2) {
+    if determine_side_effects::facts_crate::flag(x.bits, 2) {
         bit_row::set(bits, 8 * owner.0 + 1);
     }
 }
@@ -300,7 +300,7 @@ fn statement_bytes(numbers: &[u32], tables: &[usize]) -> usize
     requires { Loaded numbers.now tables.now × FirstBytes numbers.now tables.now }
     ensures { result ≡ row_bytes (graph_in numbers.now) Statements }
 {
-    let h = graph::header_of(numbers);
+    let h = determine_side_effects::graph_crate::header_of(numbers);
     let last = ModuleIdx(h.modules - 1);
     first_byte_of(numbers, tables, last)
         + bit_row::bytes_for(modules::statement_count(numbers, tables, last))
@@ -311,7 +311,7 @@ pub fn row_bytes(numbers: &[u32], tables: &[usize], row: Row) -> usize
     requires { Loaded numbers.now tables.now × FirstBytes numbers.now tables.now }
     ensures { result ≡ row_bytes (graph_in numbers.now) row }
 {
-    let h = graph::header_of(numbers);
+    let h = determine_side_effects::graph_crate::header_of(numbers);
     match row {
         Row::Modules => bit_row::bytes_for(h.modules),
         Row::Statements => statement_bytes(numbers, tables),

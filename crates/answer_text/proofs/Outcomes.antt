@@ -6,8 +6,8 @@ use mathlib.Core.List.{List}
 use native.Mathlib.Omega.{arith}
 use lib.Dec.{ltb}
 use lib.ListN.{length}
-use Rattle.graph.specs.declared.Checked.TheVariants.{Accepted, Refused as Rejected}
-use Rattle.graph.specs.Check.{Graph, graph_in, check_of, answer_of}
+use Rattle.determine_side_effects.specs.graph_crate.declared.Checked.TheVariants.{Accepted, Refused as Rejected}
+use Rattle.determine_side_effects.specs.graph_crate.Check.{Graph, graph_in, check_of, answer_of}
 use Rattle.tree_shaking.specs.Rounds.{final_entries}
 use Rattle.run_rows.specs.Run.{run_of}
 use Rattle.run_parts.specs.declared.Totals.{Totals}

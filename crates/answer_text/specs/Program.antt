@@ -1,7 +1,7 @@
 -- What the program prints for a file (docs/OPERATIONS.md, Program keep).
 use Rattle.std.specs.Prelude.{ℕ, ◌≡◌, true, false, List, [], ◌∷◌, ltb, length, replicate, take, drop}
 use Rattle.leb128.specs.Read.{Decoded, all, refused, read_of}
-use Rattle.graph.specs.Check.{Graph}
+use Rattle.determine_side_effects.specs.graph_crate.Check.{Graph}
 use Rattle.determine_side_effects.specs.Effects.{last_verdicts}
 use Rattle.answer_rows.specs.declared.Row.TheVariants.{Modules, Statements, Used, External, Json, NamespaceReason}
 use Rattle.tree_shaking.specs.Rounds.{final_entries}

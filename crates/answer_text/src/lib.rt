@@ -1,19 +1,19 @@
 // What the program prints for a file.
 ghost use Rattle.std.specs.Prelude.{◌≡◌, ℕ, ◌+◌, ◌*◌, ◌<◌, length};
 ghost use Rattle.leb128.specs.Read.{read_of};
-ghost use Rattle.graph.specs.Check.{graph_in};
-ghost use Rattle.graph.specs.Loaded.{Loaded};
+ghost use Rattle.determine_side_effects.specs.graph_crate.Check.{graph_in};
+ghost use Rattle.determine_side_effects.specs.graph_crate.Loaded.{Loaded};
 ghost use Rattle.determine_side_effects.specs.Effects.{last_verdicts};
 ghost use Rattle.run_parts.specs.Operation.{outcome_of};
 ghost use Rattle.listing.specs.Text.{shown_in};
 ghost use Rattle.listing.specs.Listing.{shown, Fits, listing_of};
 ghost use Rattle.answer_text.specs.Program.{program_rooms, outcome_text, decoded_text, program_text};
 
-use graph::Checked;
+use determine_side_effects::graph_crate::Checked;
 use leb128::Answer;
-use rows::Walk;
+use determine_side_effects::rows_crate::Walk;
 use run_parts::Ran;
-use tables::LARGEST_PLACES;
+use determine_side_effects::tables_crate::LARGEST_PLACES;
 
 // The listing of a run's answer, with the verdicts of the graph.
 fn listed(
@@ -39,7 +39,7 @@ fn listed(
 {
     let mut verdicts = [0u32; 1024];
     determine_side_effects::effects(numbers, &mut verdicts);
-    let h = graph::header_of(numbers);
+    let h = determine_side_effects::graph_crate::header_of(numbers);
     let size = h.modules;
     listing::form(
         numbers,
@@ -116,12 +116,12 @@ fn ran(numbers: &[u32], tables: &[usize], skip: usize, out: &mut [u8]) -> usize
 fn checked(numbers: &[u32], skip: usize, out: &mut [u8]) -> usize
     ensures { (result ≡ length (outcome_text (outcome_of numbers.now program_rooms))) × (out.new ≡ shown_in skip (outcome_text (outcome_of numbers.now program_rooms)) out.old) }
 {
-    match graph::header(numbers) {
+    match determine_side_effects::graph_crate::header(numbers) {
         Walk::Fault(n, _) => listing::refuse(n, skip, out),
         Walk::At(_) => {
-            let h = graph::header_of(numbers);
+            let h = determine_side_effects::graph_crate::header_of(numbers);
             let mut tables = [0usize; LARGEST_PLACES];
-            match graph::load(numbers, h, &mut tables) {
+            match determine_side_effects::graph_crate::load(numbers, h, &mut tables) {
                 Checked::Refused(n, _) => listing::refuse(n, skip, out),
                 Checked::Accepted => ran(numbers, &tables, skip, out),
             }

@@ -6,25 +6,25 @@ use native.Mathlib.Nat.{one-mul}
 use native.Mathlib.Omega.{arith}
 use lib.ListN.{length, get_or, drop, replicate, length-append, length-map, length-replicate, get_or-append}
 use lib.Seq.{get_or-append-add, get_or-drop, drop-drop, drop_at}
-use Rattle.rows.specs.Walk.{Parsed, got, many, Item, no_item, walk_of, cells}
-use Rattle.rows.specs.declared.Walk.TheVariants.{At}
-use Rattle.rows.proofs.Cells.{then_got}
-use Rattle.rows.proofs.Items.{many_first, many-length, rows_end, plain_plain}
-use Rattle.graph_format.specs.declared.Header.{Header}
-use Rattle.graph_format.specs.Format.{header_rules, modules_at, symbols_at, statements_at, entries_at, module_statements, statements_of}
-use Rattle.tables.specs.Layout.{sizes, start_from, start_of, first_statements, statement_places, Laid, at_modules, at_symbols, at_first_statements, at_statements, at_entries, at_verdicts}
-use Rattle.tables.proofs.Sections.{start_five, section_has}
-use Rattle.graph_tables.specs.Tables.{items_of, end_of, header_in, modules_read, modules_in, symbols_read, statements_read, first_of}
-use Rattle.graph_tables.specs.Places.{Filled, StatementsPlaced, StatementsFilled, ModuleTable}
-use Rattle.graph_tables.proofs.Sections.{placed_section}
-use Rattle.graph_tables.proofs.ByModule.{first_step, first_fits}
-use Rattle.graph.specs.declared.Checked.TheVariants.{Accepted}
-use Rattle.graph.specs.Check.{Graph, helpers_at, graph_at, walked, check_of, answer_of, HeaderRead}
-use Rattle.graph.specs.Loaded.{Loaded}
-use Rattle.graph.proofs.Checking.{walked_is, bounded}
-use Rattle.graph.proofs.Loading.{module-table, symbol-table, statement-table, entry-table, loaded}
-use Rattle.graph.proofs.WellFormed.{accepted_is}
-use Rattle.graph_access.specs.Words.{tabulate}
+use Rattle.determine_side_effects.specs.rows_crate.Walk.{Parsed, got, many, Item, no_item, walk_of, cells}
+use Rattle.determine_side_effects.specs.rows_crate.declared.Walk.TheVariants.{At}
+use Rattle.determine_side_effects.proofs.rows_crate.Cells.{then_got}
+use Rattle.determine_side_effects.proofs.rows_crate.Items.{many_first, many-length, rows_end, plain_plain}
+use Rattle.determine_side_effects.specs.graph_format_crate.declared.Header.{Header}
+use Rattle.determine_side_effects.specs.graph_format_crate.Format.{header_rules, modules_at, symbols_at, statements_at, entries_at, module_statements, statements_of}
+use Rattle.determine_side_effects.specs.tables_crate.Layout.{sizes, start_from, start_of, first_statements, statement_places, Laid, at_modules, at_symbols, at_first_statements, at_statements, at_entries, at_verdicts}
+use Rattle.determine_side_effects.proofs.tables_crate.Sections.{start_five, section_has}
+use Rattle.determine_side_effects.specs.graph_tables_crate.Tables.{items_of, end_of, header_in, modules_read, modules_in, symbols_read, statements_read, first_of}
+use Rattle.determine_side_effects.specs.graph_tables_crate.Places.{Filled, StatementsPlaced, StatementsFilled, ModuleTable}
+use Rattle.determine_side_effects.proofs.graph_tables_crate.Sections.{placed_section}
+use Rattle.determine_side_effects.proofs.graph_tables_crate.ByModule.{first_step, first_fits}
+use Rattle.determine_side_effects.specs.graph_crate.declared.Checked.TheVariants.{Accepted}
+use Rattle.determine_side_effects.specs.graph_crate.Check.{Graph, helpers_at, graph_at, walked, check_of, answer_of, HeaderRead}
+use Rattle.determine_side_effects.specs.graph_crate.Loaded.{Loaded}
+use Rattle.determine_side_effects.proofs.graph_crate.Checking.{walked_is, bounded}
+use Rattle.determine_side_effects.proofs.graph_crate.Loading.{module-table, symbol-table, statement-table, entry-table, loaded}
+use Rattle.determine_side_effects.proofs.graph_crate.WellFormed.{accepted_is}
+use Rattle.determine_side_effects.specs.graph_access_crate.Words.{tabulate}
 use Rattle.answer_rows.proofs.Tabulated.{length-tabulate, get_d_tabulate}
 
 -- the places of items, and of statements by module

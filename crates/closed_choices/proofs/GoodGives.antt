@@ -8,16 +8,16 @@ use borrow.Author.Tests.{eqb-true, eqb-false, ltb-true}
 use lib.Dec.{eqb, ltb}
 use lib.ListN.{length, get_or, drop, length-drop}
 use lib.Seq.{get_or-drop}
-use Rattle.graph_tables.specs.Tables.{header_in}
-use Rattle.graph.specs.Check.{Graph, graph_in}
-use Rattle.graph_access.specs.Names.{module_type, wrap, wrapper, import_records, dependencies, named_imports, common_js_export_symbols, resolved_exports, only, import_record_target, export_name, export_symbol, owner, alias_namespace, alias_name, export_chain, declaring_statements, written_property_statements, statement_bits, statement_import_records, references, reference_kind, reference_symbol, reference_flag, depended_on, namespace_symbol, namespace_module, common_js_namespaces}
-use Rattle.graph_access.proofs.StatementRanges.{ReferenceGood}
-use Rattle.facts.specs.declared.Fact.{Fact}
-use Rattle.facts.specs.declared.Fact.TheVariants.{Module, Statement, Use, CheckedUse, Forward, Bailout}
-use Rattle.facts.specs.Facts.{module_fact, statement_fact, use_fact, checked_fact, forward_fact, bailout_fact, Good}
-use Rattle.graph_access.specs.Words.{flag, module_of, symbol_of, root_of, statement_list, statement_of, normal, option}
-use Rattle.graph.specs.Loaded.{Loaded}
-use Rattle.graph_access.proofs.Indexes as index
+use Rattle.determine_side_effects.specs.graph_tables_crate.Tables.{header_in}
+use Rattle.determine_side_effects.specs.graph_crate.Check.{Graph, graph_in}
+use Rattle.determine_side_effects.specs.graph_access_crate.Names.{module_type, wrap, wrapper, import_records, dependencies, named_imports, common_js_export_symbols, resolved_exports, only, import_record_target, export_name, export_symbol, owner, alias_namespace, alias_name, export_chain, declaring_statements, written_property_statements, statement_bits, statement_import_records, references, reference_kind, reference_symbol, reference_flag, depended_on, namespace_symbol, namespace_module, common_js_namespaces}
+use Rattle.determine_side_effects.proofs.graph_access_crate.StatementRanges.{ReferenceGood}
+use Rattle.determine_side_effects.specs.facts_crate.declared.Fact.{Fact}
+use Rattle.determine_side_effects.specs.facts_crate.declared.Fact.TheVariants.{Module, Statement, Use, CheckedUse, Forward, Bailout}
+use Rattle.determine_side_effects.specs.facts_crate.Facts.{module_fact, statement_fact, use_fact, checked_fact, forward_fact, bailout_fact, Good}
+use Rattle.determine_side_effects.specs.graph_access_crate.Words.{flag, module_of, symbol_of, root_of, statement_list, statement_of, normal, option}
+use Rattle.determine_side_effects.specs.graph_crate.Loaded.{Loaded}
+use Rattle.determine_side_effects.proofs.graph_access_crate.Indexes as index
 use Rattle.determine_side_effects.specs.Effects.{has_effects}
 use Rattle.determine_side_effects.proofs.Lists.{both}
 use Rattle.on_demand.specs.Demand.{gated, claims, claimed, body_of}

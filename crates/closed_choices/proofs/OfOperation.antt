@@ -11,20 +11,20 @@ use borrow.Author.Tests.{le-ltb, eq-eqb}
 use lib.Dec.{ltb}
 use lib.ListN.{length, get_or}
 use Rattle.bit_row.specs.Row.{bit_at}
-use Rattle.rows.specs.Walk.{no_item}
-use Rattle.graph_format.specs.Format.{module_rules, statement_limit}
-use Rattle.graph_tables.specs.Tables.{modules_in}
-use Rattle.graph_tables.proofs.Facts.{its-read, number_same}
-use Rattle.graph.specs.declared.Checked.TheVariants.{Accepted}
-use Rattle.graph.specs.Check.{Graph, graph_in, check_of, answer_of}
-use Rattle.graph_access.specs.Names.{kind}
-use Rattle.facts.specs.declared.Fact.{Fact}
-use Rattle.facts.specs.declared.Fact.TheVariants.{Module, Statement}
-use Rattle.facts.specs.Facts.{Good, mark_of, mark_count}
-use Rattle.graph_access.specs.Words.{tabulate, module_of, statement_list, normal}
-use Rattle.graph.specs.Loaded.{Loaded}
-use Rattle.graph_access.proofs.StatementNumbers.{all_long}
-use Rattle.facts.proofs.Marks.{mark_below}
+use Rattle.determine_side_effects.specs.rows_crate.Walk.{no_item}
+use Rattle.determine_side_effects.specs.graph_format_crate.Format.{module_rules, statement_limit}
+use Rattle.determine_side_effects.specs.graph_tables_crate.Tables.{modules_in}
+use Rattle.determine_side_effects.proofs.graph_tables_crate.Facts.{its-read, number_same}
+use Rattle.determine_side_effects.specs.graph_crate.declared.Checked.TheVariants.{Accepted}
+use Rattle.determine_side_effects.specs.graph_crate.Check.{Graph, graph_in, check_of, answer_of}
+use Rattle.determine_side_effects.specs.graph_access_crate.Names.{kind}
+use Rattle.determine_side_effects.specs.facts_crate.declared.Fact.{Fact}
+use Rattle.determine_side_effects.specs.facts_crate.declared.Fact.TheVariants.{Module, Statement}
+use Rattle.determine_side_effects.specs.facts_crate.Facts.{Good, mark_of, mark_count}
+use Rattle.determine_side_effects.specs.graph_access_crate.Words.{tabulate, module_of, statement_list, normal}
+use Rattle.determine_side_effects.specs.graph_crate.Loaded.{Loaded}
+use Rattle.determine_side_effects.proofs.graph_access_crate.StatementNumbers.{all_long}
+use Rattle.determine_side_effects.proofs.facts_crate.Marks.{mark_below}
 use Rattle.linking_metadata.specs.Namespaces.{target_of}
 use Rattle.determine_side_effects.specs.Effects.{last_verdicts}
 use Rattle.keep_record.specs.declared.Line.{Line}

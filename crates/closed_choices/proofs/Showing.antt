@@ -10,8 +10,8 @@ use lib.Seq.{drop-append_seam}
 use Rattle.bit_row.specs.Row.{bit_of, bit_at}
 use Rattle.bit_row.proofs.Number.{bit_of_zero}
 use Rattle.bit_row.proofs.Place.{bit_in_byte}
-use Rattle.graph.specs.Check.{Graph}
-use Rattle.facts.specs.declared.Fact.{Fact}
+use Rattle.determine_side_effects.specs.graph_crate.Check.{Graph}
+use Rattle.determine_side_effects.specs.facts_crate.declared.Fact.{Fact}
 use Rattle.determine_side_effects.proofs.Lists.{some_found, some_holds}
 use Rattle.keep_record.specs.declared.Line.{Line}
 use Rattle.keep_record.specs.Lines.{elem}

@@ -9,15 +9,15 @@ use borrow.Author.Tests.{eqb-true, eq-eqb}
 use lib.Dec.{eqb, ltb}
 use lib.ListN.{length, get_or, take}
 use lib.Seq.{get_or-take, length-take-le}
-use Rattle.graph_tables.specs.Tables.{header_in}
-use Rattle.graph.specs.Check.{Graph, graph_in}
-use Rattle.graph_access.specs.Names.{owner, declaring_statements, only}
-use Rattle.facts.specs.declared.Fact.{Fact}
-use Rattle.facts.specs.Facts.{module_fact, statement_fact, forward_fact, first_part, kind_of, Good, mark_of, mark_count}
-use Rattle.graph_access.specs.Words.{symbol_of}
-use Rattle.graph.specs.Loaded.{Loaded}
-use Rattle.graph_access.proofs.Indexes as index
-use Rattle.facts.proofs.Marks.{mark_below, mark_injective}
+use Rattle.determine_side_effects.specs.graph_tables_crate.Tables.{header_in}
+use Rattle.determine_side_effects.specs.graph_crate.Check.{Graph, graph_in}
+use Rattle.determine_side_effects.specs.graph_access_crate.Names.{owner, declaring_statements, only}
+use Rattle.determine_side_effects.specs.facts_crate.declared.Fact.{Fact}
+use Rattle.determine_side_effects.specs.facts_crate.Facts.{module_fact, statement_fact, forward_fact, first_part, kind_of, Good, mark_of, mark_count}
+use Rattle.determine_side_effects.specs.graph_access_crate.Words.{symbol_of}
+use Rattle.determine_side_effects.specs.graph_crate.Loaded.{Loaded}
+use Rattle.determine_side_effects.proofs.graph_access_crate.Indexes as index
+use Rattle.determine_side_effects.proofs.facts_crate.Marks.{mark_below, mark_injective}
 use Rattle.determine_side_effects.specs.Effects.{last_verdicts}
 use Rattle.keep_rules.specs.Rules.{gives}
 use Rattle.keep_record.specs.declared.Line.{Line}

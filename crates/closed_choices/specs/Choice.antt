@@ -2,11 +2,11 @@
 -- Keep rules).
 use Rattle.std.specs.Prelude.{ℕ, ◌*◌, ◌<◌, ◌≡◌, true, List, [], length, get_or, drop}
 use Rattle.bit_row.specs.Row.{bit_at}
-use Rattle.graph.specs.Check.{Graph}
-use Rattle.graph_access.specs.Names.{owner, declaring_statements, only}
-use Rattle.facts.specs.declared.Fact.{Fact}
-use Rattle.facts.specs.Facts.{module_fact, statement_fact, forward_fact}
-use Rattle.graph_access.specs.Words.{symbol_of}
+use Rattle.determine_side_effects.specs.graph_crate.Check.{Graph}
+use Rattle.determine_side_effects.specs.graph_access_crate.Names.{owner, declaring_statements, only}
+use Rattle.determine_side_effects.specs.facts_crate.declared.Fact.{Fact}
+use Rattle.determine_side_effects.specs.facts_crate.Facts.{module_fact, statement_fact, forward_fact}
+use Rattle.determine_side_effects.specs.graph_access_crate.Words.{symbol_of}
 use Rattle.determine_side_effects.specs.Effects.{last_verdicts}
 use Rattle.keep_rules.specs.Rules.{Given, gives}
 use Rattle.keep_record.specs.declared.Line.{Line}

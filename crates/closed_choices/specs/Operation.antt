@@ -2,14 +2,14 @@
 -- `drain_shows`, `drain_enough` and `no_starts` in proofs/OfOperation.antt.
 use Rattle.std.specs.Prelude.{ℕ, ◌+◌, ◌*◌, ◌/◌, ◌%◌, ◌<◌, ◌≤◌, ◌≡◌, ◌↔◌, true, false, List, [], length}
 use Rattle.bit_row.specs.Row.{bit_at}
-use Rattle.graph.specs.declared.Checked.TheVariants.{Accepted}
-use Rattle.graph.specs.Check.{Graph, graph_in, check_of, answer_of}
-use Rattle.index.specs.declared.ModuleIdx.{ModuleIdx}
-use Rattle.index.specs.declared.StmtIdx.{StmtIdx}
-use Rattle.facts.specs.declared.Fact.{Fact}
-use Rattle.facts.specs.declared.Fact.TheVariants.{Module, Statement}
-use Rattle.facts.specs.Facts.{Good, mark_of, mark_count}
-use Rattle.graph_access.specs.Words.{statement_list, normal}
+use Rattle.determine_side_effects.specs.graph_crate.declared.Checked.TheVariants.{Accepted}
+use Rattle.determine_side_effects.specs.graph_crate.Check.{Graph, graph_in, check_of, answer_of}
+use Rattle.determine_side_effects.specs.index_crate.declared.ModuleIdx.{ModuleIdx}
+use Rattle.determine_side_effects.specs.index_crate.declared.StmtIdx.{StmtIdx}
+use Rattle.determine_side_effects.specs.facts_crate.declared.Fact.{Fact}
+use Rattle.determine_side_effects.specs.facts_crate.declared.Fact.TheVariants.{Module, Statement}
+use Rattle.determine_side_effects.specs.facts_crate.Facts.{Good, mark_of, mark_count}
+use Rattle.determine_side_effects.specs.graph_access_crate.Words.{statement_list, normal}
 use Rattle.keep_record.specs.declared.Line.{Line}
 use Rattle.starts.specs.Starts.{starts_of, starts_fault}
 use Rattle.answer_rows.specs.declared.Row.{Row}

@@ -1,19 +1,19 @@
 // Whether anything is absent from a record: a start, or what follows from its lines.
 ghost use Rattle.std.specs.Prelude.{◌≡◌, ℕ, ◌+◌, ◌*◌, ◌/◌, ◌<◌, ◌≤◌, eqb, length, get_or};
-ghost use Rattle.graph_tables.specs.Tables.{header_in};
-ghost use Rattle.graph.specs.Check.{graph_in};
+ghost use Rattle.determine_side_effects.specs.graph_tables_crate.Tables.{header_in};
+ghost use Rattle.determine_side_effects.specs.graph_crate.Check.{graph_in};
 ghost use Rattle.determine_side_effects.specs.Effects.{last_verdicts};
-ghost use Rattle.facts.specs.Facts.{fact_of, Good, mark_count};
+ghost use Rattle.determine_side_effects.specs.facts_crate.Facts.{fact_of, Good, mark_count};
 ghost use Rattle.keep_rules.specs.Prepared.{Prepared};
 ghost use Rattle.keep_record.specs.Held.{line_at, lines_of};
 ghost use Rattle.starts.specs.Starts.{starts_of, StartsGood};
 ghost use Rattle.marked.specs.Marked.{marked};
 ghost use Rattle.completeness.specs.Complete.{all, is_closed_at, are_declared, is_closed_fact, are_closed};
 
-use facts::Fact;
-use graph_access::{modules, symbols};
+use determine_side_effects::facts_crate::Fact;
+use determine_side_effects::graph_access_crate::{modules, symbols};
 use include_context::IncludeContext;
-use index::SymbolIdx;
+use determine_side_effects::index_crate::SymbolIdx;
 use keep_rules::Candidate;
 use marked::is_marked;
 
@@ -23,10 +23,10 @@ pub fn start_at(starts: &[u32], i: usize) -> Fact
     ensures { result ≡ fact_of (get_or starts.now (3 * i) 0) (get_or starts.now (3 * i + 1) 0) (get_or starts.now (3 * i + 2) 0) }
 {
     let p = 3 * i;
-    facts::fact_of(
-        rows::wide(starts[p]),
-        rows::wide(starts[p + 1]),
-        rows::wide(starts[p + 2]),
+    determine_side_effects::facts_crate::fact_of(
+        determine_side_effects::rows_crate::wide(starts[p]),
+        determine_side_effects::rows_crate::wide(starts[p + 1]),
+        determine_side_effects::rows_crate::wide(starts[p + 2]),
     )
 }
 

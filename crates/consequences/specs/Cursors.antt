@@ -1,13 +1,13 @@
 -- How the code walks through the consequences of a fact.
 use Rattle.std.specs.Prelude.{ℕ, suc, ◌≡◌, List, get_or, drop}
-use Rattle.graph.specs.Check.{graph_in}
-use Rattle.graph_access.specs.Names.{references}
-use Rattle.graph_access.specs.References.{ReferencesAt}
-use Rattle.index.specs.declared.ModuleIdx.{ModuleIdx}
-use Rattle.index.specs.declared.StmtIdx.{StmtIdx}
-use Rattle.facts.specs.declared.Fact.{Fact}
-use Rattle.facts.specs.declared.Fact.TheVariants.{Statement}
-use Rattle.graph_access.specs.Words.{statement_of}
+use Rattle.determine_side_effects.specs.graph_crate.Check.{graph_in}
+use Rattle.determine_side_effects.specs.graph_access_crate.Names.{references}
+use Rattle.determine_side_effects.specs.graph_access_crate.References.{ReferencesAt}
+use Rattle.determine_side_effects.specs.index_crate.declared.ModuleIdx.{ModuleIdx}
+use Rattle.determine_side_effects.specs.index_crate.declared.StmtIdx.{StmtIdx}
+use Rattle.determine_side_effects.specs.facts_crate.declared.Fact.{Fact}
+use Rattle.determine_side_effects.specs.facts_crate.declared.Fact.TheVariants.{Statement}
+use Rattle.determine_side_effects.specs.graph_access_crate.Words.{statement_of}
 use Rattle.determine_side_effects.specs.Effects.{last_verdicts}
 use Rattle.keep_rules.specs.Rules.{Segment, no_segment, segments_of, Given, given_by}
 

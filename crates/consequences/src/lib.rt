@@ -1,13 +1,13 @@
 // The consequences of a fact by K2 to K14, by segment and candidate (include_statements.rs), over the rules of the crates include_*. The judge
 // searches them and asks whether all of them are there; the drain goes over the same rules in loops of its own (include_statements).
 ghost use Rattle.std.specs.Prelude.{◌≡◌, ◌+◌, ◌<◌, length};
-ghost use Rattle.graph.specs.Check.{graph_in};
-ghost use Rattle.facts.specs.Facts.{Good};
+ghost use Rattle.determine_side_effects.specs.graph_crate.Check.{graph_in};
+ghost use Rattle.determine_side_effects.specs.facts_crate.Facts.{Good};
 ghost use Rattle.keep_rules.specs.Prepared.{Prepared, GoodCandidate};
 ghost use Rattle.consequences.specs.Cursors.{segments_in, segment_in, Placed};
 
-use facts::Fact;
-use graph_access::statements;
+use determine_side_effects::facts_crate::Fact;
+use determine_side_effects::graph_access_crate::statements;
 use keep_rules::Candidate;
 
 // Where a search through the consequences of a fact stands: a segment, a candidate in it, and, in the segment of a reference, the

@@ -6,15 +6,15 @@ use mathlib.Core.List.{List, []}
 use native.Mathlib.Omega.{arith}
 use lib.Dec.{eqb}
 use lib.ListN.{length, get_or}
-use Rattle.graph_tables.specs.Tables.{header_in}
-use Rattle.graph.specs.Check.{Graph, graph_in}
-use Rattle.graph.specs.Loaded.{Loaded}
-use Rattle.graph_access.specs.Names.{related, related_module, related_statement, unreachable}
-use Rattle.graph_access.specs.Words.{some, tabulate, entry_of, statement_list}
-use Rattle.graph_access.specs.Related.{RelatedHere}
-use Rattle.graph_access.proofs.Indexes.{related_here}
-use Rattle.facts.specs.declared.Fact.{Fact}
-use Rattle.facts.specs.Facts.{statement_fact}
+use Rattle.determine_side_effects.specs.graph_tables_crate.Tables.{header_in}
+use Rattle.determine_side_effects.specs.graph_crate.Check.{Graph, graph_in}
+use Rattle.determine_side_effects.specs.graph_crate.Loaded.{Loaded}
+use Rattle.determine_side_effects.specs.graph_access_crate.Names.{related, related_module, related_statement, unreachable}
+use Rattle.determine_side_effects.specs.graph_access_crate.Words.{some, tabulate, entry_of, statement_list}
+use Rattle.determine_side_effects.specs.graph_access_crate.Related.{RelatedHere}
+use Rattle.determine_side_effects.proofs.graph_access_crate.Indexes.{related_here}
+use Rattle.determine_side_effects.specs.facts_crate.declared.Fact.{Fact}
+use Rattle.determine_side_effects.specs.facts_crate.Facts.{statement_fact}
 use Rattle.determine_side_effects.specs.Effects.{last_verdicts}
 use Rattle.determine_side_effects.proofs.Lists.{some_same, length-tabulate, get_d_tabulate}
 use Rattle.keep_record.specs.Lines.{elem}

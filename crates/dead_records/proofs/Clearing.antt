@@ -8,12 +8,12 @@ use borrow.Author.Tests.{eq-eqb, ne_eqb, lt-ltb}
 use lib.Dec.{eqb}
 use lib.ListN.{length, get_or}
 use Rattle.bit_row.specs.Row.{bit_at}
-use Rattle.graph_format.specs.declared.Header.{Header}
-use Rattle.graph_tables.specs.Tables.{header_in}
-use Rattle.graph.specs.Check.{Graph}
-use Rattle.graph_access.specs.Names.{related, entry_kind, entry_module}
-use Rattle.graph_access.specs.Words.{some, tabulate, entry_of}
-use Rattle.facts.specs.declared.Fact.{Fact}
+use Rattle.determine_side_effects.specs.graph_format_crate.declared.Header.{Header}
+use Rattle.determine_side_effects.specs.graph_tables_crate.Tables.{header_in}
+use Rattle.determine_side_effects.specs.graph_crate.Check.{Graph}
+use Rattle.determine_side_effects.specs.graph_access_crate.Names.{related, entry_kind, entry_module}
+use Rattle.determine_side_effects.specs.graph_access_crate.Words.{some, tabulate, entry_of}
+use Rattle.determine_side_effects.specs.facts_crate.declared.Fact.{Fact}
 use Rattle.answer_rows.proofs.Tabulated.{some_or, some_over}
 use Rattle.entry_order.specs.Order.{module_of_entry, is_dynamic}
 use Rattle.entry_order.specs.Plan.{live_at, is_set, live_in}

@@ -12,15 +12,15 @@ use lib.Seq.{drop-cons}
 use Rattle.bit_row.specs.Row.{bit_at, bytes_for, cleared}
 use Rattle.bit_row.proofs.Size.{bytes_hold}
 use Rattle.bit_row.proofs.Cleared.{cleared_unset, cleared_kept}
-use Rattle.graph_format.specs.declared.Header.{Header}
-use Rattle.graph_tables.specs.Tables.{header_in}
-use Rattle.graph.specs.Check.{Graph, graph_in}
-use Rattle.graph.specs.Loaded.{Loaded}
-use Rattle.graph_access.specs.Names.{related, related_module, related_import_record, unreachable}
-use Rattle.graph_access.specs.Words.{some, tabulate, entry_of}
-use Rattle.graph_access.specs.declared.entries.RelatedStmt.{RelatedStmt}
-use Rattle.graph_access.specs.Related.{RelatedHere, RelatedIs}
-use Rattle.graph_access.proofs.Indexes.{related_here}
+use Rattle.determine_side_effects.specs.graph_format_crate.declared.Header.{Header}
+use Rattle.determine_side_effects.specs.graph_tables_crate.Tables.{header_in}
+use Rattle.determine_side_effects.specs.graph_crate.Check.{Graph, graph_in}
+use Rattle.determine_side_effects.specs.graph_crate.Loaded.{Loaded}
+use Rattle.determine_side_effects.specs.graph_access_crate.Names.{related, related_module, related_import_record, unreachable}
+use Rattle.determine_side_effects.specs.graph_access_crate.Words.{some, tabulate, entry_of}
+use Rattle.determine_side_effects.specs.graph_access_crate.declared.entries.RelatedStmt.{RelatedStmt}
+use Rattle.determine_side_effects.specs.graph_access_crate.Related.{RelatedHere, RelatedIs}
+use Rattle.determine_side_effects.proofs.graph_access_crate.Indexes.{related_here}
 use Rattle.determine_side_effects.specs.Effects.{last_verdicts}
 use Rattle.keep_record.specs.Lines.{elem}
 use Rattle.answer_rows.specs.Shown.{bytes_of}

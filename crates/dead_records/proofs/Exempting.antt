@@ -10,16 +10,16 @@ use lib.Dec.{eqb}
 use lib.ListN.{length, get_or, drop, drop_of_length-le}
 use lib.Seq.{drop-cons}
 use Rattle.bit_row.specs.Row.{bit_at}
-use Rattle.graph_tables.specs.Tables.{header_in}
-use Rattle.graph.specs.Check.{Graph, graph_in}
-use Rattle.graph.specs.Loaded.{Loaded}
-use Rattle.graph_access.specs.Names.{related_module, related_statement, related_import_record, unreachable}
-use Rattle.graph_access.specs.Words.{some, statement_list}
-use Rattle.graph_access.specs.declared.entries.RelatedStmt.{RelatedStmt}
-use Rattle.graph_access.specs.Related.{RelatedIs}
-use Rattle.graph_access.proofs.Indexes.{statement_number_below}
-use Rattle.facts.specs.declared.Fact.{Fact}
-use Rattle.facts.specs.Facts.{mark_of, statement_fact}
+use Rattle.determine_side_effects.specs.graph_tables_crate.Tables.{header_in}
+use Rattle.determine_side_effects.specs.graph_crate.Check.{Graph, graph_in}
+use Rattle.determine_side_effects.specs.graph_crate.Loaded.{Loaded}
+use Rattle.determine_side_effects.specs.graph_access_crate.Names.{related_module, related_statement, related_import_record, unreachable}
+use Rattle.determine_side_effects.specs.graph_access_crate.Words.{some, statement_list}
+use Rattle.determine_side_effects.specs.graph_access_crate.declared.entries.RelatedStmt.{RelatedStmt}
+use Rattle.determine_side_effects.specs.graph_access_crate.Related.{RelatedIs}
+use Rattle.determine_side_effects.proofs.graph_access_crate.Indexes.{statement_number_below}
+use Rattle.determine_side_effects.specs.facts_crate.declared.Fact.{Fact}
+use Rattle.determine_side_effects.specs.facts_crate.Facts.{mark_of, statement_fact}
 use Rattle.dynamic_entries.specs.Alive.{records_before}
 use Rattle.marked.specs.Marked.{marked}
 use Rattle.dead_records.specs.Parts.{is_late, kept_before}

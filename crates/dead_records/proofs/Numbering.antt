@@ -7,14 +7,14 @@ use native.Mathlib.Numerals.{add-one}
 use native.Mathlib.Omega.{arith}
 use lib.ListN.{length, get_or, set, length-set}
 use lib.Seq.{get_or-set_same, get_or-set_other}
-use Rattle.rows.specs.Walk.{Item, no_item}
-use Rattle.graph_format.specs.declared.Header.{Header}
-use Rattle.graph_tables.specs.Tables.{header_in}
-use Rattle.graph.specs.Check.{Graph, graph_in}
-use Rattle.graph.specs.Loaded.{Loaded}
-use Rattle.graph_access.specs.Names.{import_records}
-use Rattle.graph_access.specs.Words.{module_of}
-use Rattle.graph_access.proofs.Indexes.{module_list_few}
+use Rattle.determine_side_effects.specs.rows_crate.Walk.{Item, no_item}
+use Rattle.determine_side_effects.specs.graph_format_crate.declared.Header.{Header}
+use Rattle.determine_side_effects.specs.graph_tables_crate.Tables.{header_in}
+use Rattle.determine_side_effects.specs.graph_crate.Check.{Graph, graph_in}
+use Rattle.determine_side_effects.specs.graph_crate.Loaded.{Loaded}
+use Rattle.determine_side_effects.specs.graph_access_crate.Names.{import_records}
+use Rattle.determine_side_effects.specs.graph_access_crate.Words.{module_of}
+use Rattle.determine_side_effects.proofs.graph_access_crate.Indexes.{module_list_few}
 use Rattle.dynamic_entries.specs.Alive.{records_before}
 use Rattle.dead_records.specs.Dead.{record_count}
 

@@ -1,11 +1,11 @@
 -- Which import records are dead (docs/RULES.md, Dead records), and the row that shows it.
 use Rattle.std.specs.Prelude.{ℕ, ◌+◌, Bool, true, false, not, ◌||◌, ◌&&◌, List, ◌++◌, eqb, drop}
 use Rattle.bit_row.specs.Row.{bytes_for}
-use Rattle.graph.specs.Check.{Graph}
-use Rattle.graph_access.specs.Names.{related, related_module, related_statement, related_import_record, unreachable}
-use Rattle.graph_access.specs.Words.{some, tabulate, option, entry_of}
-use Rattle.facts.specs.declared.Fact.{Fact}
-use Rattle.facts.specs.Facts.{statement_fact}
+use Rattle.determine_side_effects.specs.graph_crate.Check.{Graph}
+use Rattle.determine_side_effects.specs.graph_access_crate.Names.{related, related_module, related_statement, related_import_record, unreachable}
+use Rattle.determine_side_effects.specs.graph_access_crate.Words.{some, tabulate, option, entry_of}
+use Rattle.determine_side_effects.specs.facts_crate.declared.Fact.{Fact}
+use Rattle.determine_side_effects.specs.facts_crate.Facts.{statement_fact}
 use Rattle.determine_side_effects.specs.Effects.{last_verdicts}
 use Rattle.keep_record.specs.declared.Line.{Line}
 use Rattle.keep_record.specs.Lines.{has, elem}

@@ -1,9 +1,9 @@
 -- What the code's parts take and leave.
 use Rattle.std.specs.Prelude.{ℕ, ◌+◌, ◌*◌, ◌-◌, ◌<◌, ◌≤◌, ◌≡◌, Bool, not, ◌&&◌, List, eqb, length, get_or}
-use Rattle.graph.specs.Check.{Graph}
-use Rattle.graph_access.specs.Words.{statement_list, tabulate}
-use Rattle.facts.specs.declared.Fact.{Fact}
-use Rattle.facts.specs.Facts.{mark_of, mark_count, statement_fact}
+use Rattle.determine_side_effects.specs.graph_crate.Check.{Graph}
+use Rattle.determine_side_effects.specs.graph_access_crate.Words.{statement_list, tabulate}
+use Rattle.determine_side_effects.specs.facts_crate.declared.Fact.{Fact}
+use Rattle.determine_side_effects.specs.facts_crate.Facts.{mark_of, mark_count, statement_fact}
 use Rattle.keep_record.specs.declared.Line.{Line}
 use Rattle.keep_record.specs.Lines.{elem, marks_of}
 use Rattle.keep_record.specs.Held.{line_at, Held}

@@ -1,12 +1,12 @@
 // The row of dead import records: those that the tries of dynamic entries marked, or, with options bit 6, those that are dead after the last round.
 ghost use Rattle.std.specs.Prelude.{◌≡◌, ℕ, ◌+◌, ◌*◌, ◌<◌, ◌≤◌, ◌||◌, ◌&&◌, not, List, [], length, get_or};
 ghost use Rattle.bit_row.specs.Row.{bit_at, bytes_for};
-ghost use Rattle.graph_tables.specs.Tables.{header_in};
-ghost use Rattle.graph.specs.Check.{graph_in};
-ghost use Rattle.graph.specs.Loaded.{Loaded};
-ghost use Rattle.graph_access.specs.Names.{related};
-ghost use Rattle.graph_access.specs.Words.{entry_of, some, statement_list};
-ghost use Rattle.facts.specs.Facts.{statement_fact, Good};
+ghost use Rattle.determine_side_effects.specs.graph_tables_crate.Tables.{header_in};
+ghost use Rattle.determine_side_effects.specs.graph_crate.Check.{graph_in};
+ghost use Rattle.determine_side_effects.specs.graph_crate.Loaded.{Loaded};
+ghost use Rattle.determine_side_effects.specs.graph_access_crate.Names.{related};
+ghost use Rattle.determine_side_effects.specs.graph_access_crate.Words.{entry_of, some, statement_list};
+ghost use Rattle.determine_side_effects.specs.facts_crate.Facts.{statement_fact, Good};
 ghost use Rattle.determine_side_effects.specs.Effects.{last_verdicts};
 ghost use Rattle.keep_rules.specs.Prepared.{Prepared};
 ghost use Rattle.keep_record.specs.Lines.{elem, has};
@@ -17,10 +17,10 @@ ghost use Rattle.dynamic_entries.specs.Alive.{uses_no_export, lets_live, is_aliv
 ghost use Rattle.dead_records.specs.Dead.{record_count, is_dead_record, dead_now, exempts, exempted, dead_row};
 ghost use Rattle.dead_records.specs.Parts.{HasFirsts, lines_between, HasLate, kept_before, WordsFit, HasCycles, AfterStages};
 
-use facts::Fact;
-use graph_access::modules::DYNAMIC_IMPORTS_USE_NO_EXPORT;
-use graph_access::{entries, modules};
-use index::{EntryIdx, ModuleIdx, StmtIdx};
+use determine_side_effects::facts_crate::Fact;
+use determine_side_effects::graph_access_crate::modules::DYNAMIC_IMPORTS_USE_NO_EXPORT;
+use determine_side_effects::graph_access_crate::{entries, modules};
+use determine_side_effects::index_crate::{EntryIdx, ModuleIdx, StmtIdx};
 
 // The bit of the options by which dead records are worked out after the last round.
 const DEAD_AFTER_ROUNDS: usize = 6;
@@ -30,7 +30,7 @@ pub fn record_count(numbers: &[u32], tables: &[usize]) -> usize
     requires { Loaded numbers.now tables.now }
     ensures { (result ≡ record_count (graph_in numbers.now)) × (result ≤ 16777216) }
 {
-    let h = graph::header_of(numbers);
+    let h = determine_side_effects::graph_crate::header_of(numbers);
     let mut total: usize = 0;
     let mut m: usize = 0;
     while m < h.modules {
@@ -46,7 +46,7 @@ fn fill_first_records(numbers: &[u32], tables: &[usize], firsts: &mut [usize])
     requires numbers_in_bounds { (header_in numbers.now).modules ≤ length firsts.old }
     ensures { HasFirsts (graph_in numbers.now) firsts.new }
 {
-    let h = graph::header_of(numbers);
+    let h = determine_side_effects::graph_crate::header_of(numbers);
     let mut total: usize = 0;
     let mut m: usize = 0;
     while m < h.modules {
@@ -92,7 +92,7 @@ fn show_found_dead(
     requires numbers_in_bounds_2 { ((header_in numbers.now).modules ≤ length scratch.now) × HasFirsts (graph_in numbers.now) scratch.now }
     ensures { (j : ℕ) → bit_at bits.new j ≡ (is_dead_record (graph_in numbers.now) (dead_in (header_in numbers.now) plan.now) j || bit_at bits.old j) }
 {
-    let h = graph::header_of(numbers);
+    let h = determine_side_effects::graph_crate::header_of(numbers);
     let dead = entry_order::dead_at(h);
     let mut e: usize = 0;
     while e < h.entries {
@@ -108,7 +108,7 @@ fn clear_words(numbers: &[u32], scratch: &mut [usize])
     requires { (7 ≤ length numbers.now) × ((header_in numbers.now).modules + (header_in numbers.now).statements ≤ length scratch.old) }
     ensures { ((j : ℕ) → j < (header_in numbers.now).modules → get_or scratch.new j 0 ≡ get_or scratch.old j 0) × ((j : ℕ) → (header_in numbers.now).modules ≤ j → j < (header_in numbers.now).modules + (header_in numbers.now).statements → get_or scratch.new j 0 ≡ 0) }
 {
-    let h = graph::header_of(numbers);
+    let h = determine_side_effects::graph_crate::header_of(numbers);
     let mut j: usize = h.modules;
     while j < h.modules + h.statements {
         scratch[j] = 0;
@@ -130,12 +130,12 @@ fn note_late(
     requires numbers_in_bounds { ((header_in numbers.now).modules + (header_in numbers.now).statements ≤ length scratch.old) × ((j : ℕ) → (header_in numbers.now).modules ≤ j → j < (header_in numbers.now).modules + (header_in numbers.now).statements → get_or scratch.old j 0 ≡ 0) }
     ensures { ((j : ℕ) → j < (header_in numbers.now).modules → get_or scratch.new j 0 ≡ get_or scratch.old j 0) × HasLate (graph_in numbers.now) (lines_between from to lines.now) scratch.new }
 {
-    let h = graph::header_of(numbers);
+    let h = determine_side_effects::graph_crate::header_of(numbers);
     let mut k: usize = from;
     while k < to {
         match keep_record::fact_at(lines, k) {
             Fact::Statement(m, i) => {
-                let at = facts::mark_of(numbers, tables, Fact::Statement(m, i));
+                let at = determine_side_effects::facts_crate::mark_of(numbers, tables, Fact::Statement(m, i));
                 scratch[at - h.modules] = 1;
             }
             Fact::Module(_) => {}
@@ -161,8 +161,8 @@ fn is_kept(
     requires m_bound { (m.0 < (header_in numbers.now).modules) × (i.0 < length (statement_list (graph_in numbers.now) m.0)) × WordsFit (graph_in numbers.now) marks.now scratch.now }
     ensures { result ≡ kept_before (graph_in numbers.now) marks.now scratch.now (statement_fact m.0 i.0) }
 {
-    let h = graph::header_of(numbers);
-    let at = facts::mark_of(numbers, tables, Fact::Statement(m, i));
+    let h = determine_side_effects::graph_crate::header_of(numbers);
+    let at = determine_side_effects::facts_crate::mark_of(numbers, tables, Fact::Statement(m, i));
     if !bit_row::test(marks, at) {
         return false;
     }
@@ -206,7 +206,7 @@ fn is_alive(numbers: &[u32], tables: &[usize], marks: &[u8], scratch: &[usize], 
     ensures { result ≡ is_alive (graph_in numbers.now) (last_verdicts (graph_in numbers.now)) (kept_before (graph_in numbers.now) marks.now scratch.now) e.0 }
 {
     let m = entries::entry_module(numbers, tables, e);
-    let unused = facts::flag(
+    let unused = determine_side_effects::facts_crate::flag(
         modules::flags(numbers, tables, m),
         DYNAMIC_IMPORTS_USE_NO_EXPORT,
     );
@@ -235,7 +235,7 @@ fn is_dead_now(
     requires has_cycles { HasCycles (graph_in numbers.now) plan.now }
     ensures { result ≡ dead_now (graph_in numbers.now) (kept_before (graph_in numbers.now) marks.now scratch.now) (live_in (header_in numbers.now) plan.now) e.0 }
 {
-    let h = graph::header_of(numbers);
+    let h = determine_side_effects::graph_crate::header_of(numbers);
     if entries::entry_kind(numbers, tables, e) != 2 {
         return false;
     }
@@ -266,7 +266,7 @@ fn show_dead_now(
     requires has_cycles { HasCycles (graph_in numbers.now) plan.now × HasFirsts (graph_in numbers.now) scratch.now }
     ensures { (j : ℕ) → bit_at bits.new j ≡ (is_dead_record (graph_in numbers.now) (dead_now (graph_in numbers.now) (kept_before (graph_in numbers.now) marks.now scratch.now) (live_in (header_in numbers.now) plan.now)) j || bit_at bits.old j) }
 {
-    let h = graph::header_of(numbers);
+    let h = determine_side_effects::graph_crate::header_of(numbers);
     let mut e: usize = 0;
     while e < h.entries {
         if is_dead_now(numbers, tables, plan, marks, scratch, EntryIdx(e)) {
@@ -316,7 +316,7 @@ fn is_live(numbers: &[u32], tables: &[usize], plan: &[usize], e: EntryIdx) -> bo
     if entries::entry_kind(numbers, tables, e) != 2 {
         return false;
     }
-    let h = graph::header_of(numbers);
+    let h = determine_side_effects::graph_crate::header_of(numbers);
     let m = entries::entry_module(numbers, tables, e);
     let u = m.0;
     let live = entry_order::live_at(h);
@@ -337,7 +337,7 @@ fn exempt(
     requires has_firsts { HasFirsts (graph_in numbers.now) scratch.now }
     ensures { (j : ℕ) → bit_at bits.new j ≡ (not (exempted (graph_in numbers.now) (kept_before (graph_in numbers.now) marks.now scratch.now) (live_in (header_in numbers.now) plan.now) j) && bit_at bits.old j) }
 {
-    let h = graph::header_of(numbers);
+    let h = determine_side_effects::graph_crate::header_of(numbers);
     let mut e: usize = 0;
     while e < h.entries {
         if is_live(numbers, tables, plan, EntryIdx(e)) {
@@ -387,11 +387,11 @@ pub fn show_dead(
     requires numbers_in_bounds { ((header_in numbers.now).modules + (header_in numbers.now).statements ≤ length scratch.old) × (bytes_for (record_count (graph_in numbers.now)) ≤ length bits.old) }
     ensures { bits.new ≡ dead_row (graph_in numbers.now) (lines_of main lines.now) (live_in (header_in numbers.now) plan.now) (dead_in (header_in numbers.now) plan.now) bits.old }
 {
-    let h = graph::header_of(numbers);
+    let h = determine_side_effects::graph_crate::header_of(numbers);
     let records = record_count(numbers, tables);
     bit_row::clear(bits, bit_row::bytes_for(records));
     fill_first_records(numbers, tables, scratch);
-    if facts::flag(h.options, DEAD_AFTER_ROUNDS) {
+    if determine_side_effects::facts_crate::flag(h.options, DEAD_AFTER_ROUNDS) {
         show_dead_at_end(
             numbers, tables, plan, marks, lines, main, count, scratch, bits,
         );

@@ -9,13 +9,13 @@ use native.Mathlib.Omega.{arith}
 use lib.Dec.{eqb}
 use lib.Seq.{get_or-set_same, get_or-set_other, set_out}
 use lib.ListN.{length, get_or, take, set, get_or-eq_default}
-use Rattle.graph_format.specs.Format.{module_rules}
-use Rattle.graph_tables.specs.Tables.{header_in}
-use Rattle.graph_tables.proofs.Facts.{its-read}
-use Rattle.graph.specs.Check.{Graph, graph_in}
-use Rattle.graph.specs.Loaded.{Loaded}
-use Rattle.graph_access.specs.Names.{effects, flags, scan_effects, scan_statement_count, statement_bits}
-use Rattle.graph_access.specs.Words.{flag, some, module_of, normal, statement_list}
+use Rattle.facts.specs.graph_format_crate.Format.{module_rules}
+use Rattle.facts.specs.graph_tables_crate.Tables.{header_in}
+use Rattle.facts.proofs.graph_tables_crate.Facts.{its-read}
+use Rattle.facts.specs.graph_crate.Check.{Graph, graph_in}
+use Rattle.facts.specs.graph_crate.Loaded.{Loaded}
+use Rattle.facts.specs.graph_access_crate.Names.{effects, flags, scan_effects, scan_statement_count, statement_bits}
+use Rattle.facts.specs.graph_access_crate.Words.{flag, some, module_of, normal, statement_list}
 use Rattle.determine_side_effects.specs.Effects.{moves, moved, pass, passes, settle, rescanned, recomputed, relaxed, first_verdict, first_verdicts, last_verdicts}
 use Rattle.determine_side_effects.proofs.Lists.{length-tabulate, get_d_tabulate}
 use Rattle.determine_side_effects.proofs.Settled.{moved_true, moved_false}

@@ -11,9 +11,9 @@ use borrow.Author.Tests.{eqb-true, eqb-false, ne_eqb}
 use lib.Dec.{eqb}
 use lib.Seq.{get_or-set_same, get_or-set_other}
 use lib.ListN.{length, get_or}
-use Rattle.graph.specs.Check.{Graph}
-use Rattle.graph_access.specs.Names.{effects, import_records, import_record_target}
-use Rattle.graph_access.specs.Words.{module_of, normal}
+use Rattle.facts.specs.graph_crate.Check.{Graph}
+use Rattle.facts.specs.graph_access_crate.Names.{effects, import_records, import_record_target}
+use Rattle.facts.specs.graph_access_crate.Words.{module_of, normal}
 use Rattle.determine_side_effects.specs.Effects.{effectful, seeds, reaches, moves, moved, pass, passes, settle, relaxed, recomputed, first_verdict, first_verdicts, last_verdicts}
 use Rattle.determine_side_effects.specs.Paths.{Quiet, Leads, «effects» as begins, seeded, imports, ByPaths}
 use Rattle.determine_side_effects.specs.Sequence.{given_verdicts, recomputed_from, rust_verdicts, RustSequence, LastByPaths}

@@ -5,14 +5,14 @@ use mathlib.Core.Path.{◌≡◌, ap, ◌∙◌, sym}
 use mathlib.Core.List.{List}
 use native.Mathlib.Omega.{arith}
 use lib.ListN.{length, get_or, set}
-use Rattle.graph_format.specs.declared.Header.{Header}
-use Rattle.tables.specs.Layout.{sizes, start_of, section, Laid, Kept, verdicts_in, at_verdicts, at_on_demand}
-use Rattle.tables.proofs.Sections.{ends_inside, section-length, section_has, section_kept, kept_set, laid_kept, laid_more, laid_less}
-use Rattle.tables.proofs.Writing.{section-set}
-use Rattle.graph_tables.specs.Tables.{header_in}
-use Rattle.graph.specs.Check.{HeaderRead}
-use Rattle.graph.specs.Loaded.{Loaded}
-use Rattle.graph.proofs.Kept.{loaded_kept}
+use Rattle.facts.specs.graph_format_crate.declared.Header.{Header}
+use Rattle.facts.specs.tables_crate.Layout.{sizes, start_of, section, Laid, Kept, verdicts_in, at_verdicts, at_on_demand}
+use Rattle.facts.proofs.tables_crate.Sections.{ends_inside, section-length, section_has, section_kept, kept_set, laid_kept, laid_more, laid_less}
+use Rattle.facts.proofs.tables_crate.Writing.{section-set}
+use Rattle.facts.specs.graph_tables_crate.Tables.{header_in}
+use Rattle.facts.specs.graph_crate.Check.{HeaderRead}
+use Rattle.facts.specs.graph_crate.Loaded.{Loaded}
+use Rattle.facts.proofs.graph_crate.Kept.{loaded_kept}
 use Rattle.determine_side_effects.specs.Tabled.{HasVerdicts, Settled}
 
 -- word i of section k is written, where nothing in front of the section was

@@ -9,7 +9,7 @@ use native.Mathlib.Nat.{zero-add}
 use native.Mathlib.Omega.{arith}
 use lib.Seq.{drop-cons, ext_get_or}
 use lib.ListN.{length, get_or, drop, set, drop_of_length-le}
-use Rattle.graph_access.specs.Words.{some, tabulate}
+use Rattle.facts.specs.graph_access_crate.Words.{some, tabulate}
 
 pub both : (a b : Bool) → (a && b) ≡ true → (a ≡ true) × (b ≡ true)
 both true b e = (refl, e)

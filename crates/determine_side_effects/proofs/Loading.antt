@@ -8,13 +8,13 @@ use borrow.Author.Tests.{lt-ltb, le-ltb, ltb-false}
 use lib.Dec.{ltb}
 use lib.Seq.{drop_at}
 use lib.ListN.{length, drop, length-append, length-drop}
-use Rattle.rows.specs.Walk.{Parsed, got, fault}
-use Rattle.graph_tables.specs.Tables.{header_in}
-use Rattle.graph.specs.declared.Checked.{Checked}
-use Rattle.graph.specs.declared.Checked.TheVariants.{Accepted, Refused}
-use Rattle.graph.specs.Check.{Graph, check_of, answer_of, graph_in}
-use Rattle.graph.proofs.Checking.{once_refused}
-use Rattle.graph.proofs.WellFormed.{accepted_is}
+use Rattle.facts.specs.rows_crate.Walk.{Parsed, got, fault}
+use Rattle.facts.specs.graph_tables_crate.Tables.{header_in}
+use Rattle.facts.specs.graph_crate.declared.Checked.{Checked}
+use Rattle.facts.specs.graph_crate.declared.Checked.TheVariants.{Accepted, Refused}
+use Rattle.facts.specs.graph_crate.Check.{Graph, check_of, answer_of, graph_in}
+use Rattle.facts.proofs.graph_crate.Checking.{once_refused}
+use Rattle.facts.proofs.graph_crate.WellFormed.{accepted_is}
 use Rattle.determine_side_effects.specs.Effects.{first_verdict, first_verdicts, last_verdicts}
 use Rattle.determine_side_effects.specs.Operation.{effects_answer, effects_row}
 use Rattle.determine_side_effects.proofs.Lists.{length-tabulate}

@@ -11,10 +11,10 @@ use borrow.Author.Tests.{eq-eqb, ne_eqb}
 use lib.Dec.{eqb}
 use lib.Seq.{drop-cons, set_at, get_or-take, append_snoc}
 use lib.ListN.{length, get_or, drop, drop_of_length-le, take, set, length-take}
-use Rattle.rows.specs.Walk.{Item, no_item}
-use Rattle.graph.specs.Check.{Graph}
-use Rattle.graph_access.specs.Names.{effects, flags, wrap, scan_effects, scan_statement_count, import_records, import_record_target, import_record_kind, import_record_bits, statement_bits}
-use Rattle.graph_access.specs.Words.{flag, tabulate, some, module_of, statement_list, normal}
+use Rattle.facts.specs.rows_crate.Walk.{Item, no_item}
+use Rattle.facts.specs.graph_crate.Check.{Graph}
+use Rattle.facts.specs.graph_access_crate.Names.{effects, flags, wrap, scan_effects, scan_statement_count, import_records, import_record_target, import_record_kind, import_record_bits, statement_bits}
+use Rattle.facts.specs.graph_access_crate.Words.{flag, tabulate, some, module_of, statement_list, normal}
 use Rattle.determine_side_effects.specs.Effects.{effectful, seeds, reaches, moves, moved, pass, passes, rescanned, recomputed, relaxed, first_verdict}
 use Rattle.determine_side_effects.proofs.Lists.{some_stop, some_go, some_end, length-tabulate, tabulate_snoc}
 use Rattle.determine_side_effects.proofs.Settled.{moved_true, moved_false, pass_none}

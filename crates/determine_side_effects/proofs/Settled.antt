@@ -9,9 +9,9 @@ use borrow.Author.Tests.{eqb-true, eqb-false, ltb-true, ltb-false, eq-eqb}
 use lib.Dec.{eqb, ltb}
 use lib.Seq.{set_out, get_or-set_same}
 use lib.ListN.{length, get_or, set, length-set}
-use Rattle.graph.specs.Check.{Graph}
-use Rattle.graph_access.specs.Names.{import_records}
-use Rattle.graph_access.specs.Words.{some, module_of, normal}
+use Rattle.facts.specs.graph_crate.Check.{Graph}
+use Rattle.facts.specs.graph_access_crate.Names.{import_records}
+use Rattle.facts.specs.graph_access_crate.Words.{some, module_of, normal}
 use Rattle.determine_side_effects.specs.Effects.{seeds, reaches, moves, moved, pass, passes, settle}
 use Rattle.determine_side_effects.proofs.Lists.{both, some_found, some_holds, zeros, zeros_length, zeros_set}
 

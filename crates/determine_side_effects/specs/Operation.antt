@@ -1,9 +1,9 @@
 -- The operation on the numbers of a graph and a lent row of verdicts.
 use Rattle.std.specs.Prelude.{ℕ, Bool, true, false, List, ◌++◌, ltb, length, drop}
-use Rattle.rows.specs.Walk.{Parsed, got, fault}
-use Rattle.graph.specs.declared.Checked.{Checked}
-use Rattle.graph.specs.declared.Checked.TheVariants.{Accepted, Refused}
-use Rattle.graph.specs.Check.{Graph, check_of}
+use Rattle.facts.specs.rows_crate.Walk.{Parsed, got, fault}
+use Rattle.facts.specs.graph_crate.declared.Checked.{Checked}
+use Rattle.facts.specs.graph_crate.declared.Checked.TheVariants.{Accepted, Refused}
+use Rattle.facts.specs.graph_crate.Check.{Graph, check_of}
 use Rattle.determine_side_effects.specs.Effects.{last_verdicts}
 
 -- the answer: that of the check; 5 if the graph is accepted and the row has fewer numbers than modules (docs/OPERATIONS.md, Effects)

@@ -1,8 +1,8 @@
 -- The modules from which a path of resolved imports leads to effects (docs/RULES.md, Effects).
 use Rattle.std.specs.Prelude.{ℕ, suc, ◌<◌, ◌≡◌, ◌↔◌, Bool, true, List, [], length, get_or}
-use Rattle.graph.specs.Check.{Graph}
-use Rattle.graph_access.specs.Names.{import_records, import_record_target}
-use Rattle.graph_access.specs.Words.{module_of, normal}
+use Rattle.facts.specs.graph_crate.Check.{Graph}
+use Rattle.facts.specs.graph_access_crate.Names.{import_records, import_record_target}
+use Rattle.facts.specs.graph_access_crate.Words.{module_of, normal}
 use Rattle.determine_side_effects.specs.Effects.{effectful, seeds}
 
 -- a normal module that is Analyzed(false)

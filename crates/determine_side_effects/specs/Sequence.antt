@@ -1,9 +1,9 @@
 -- T3: the Rust's own sequence of stages, and that the last verdicts are its. The theorems are `last_by_paths` and `rust_sequence` in
 -- proofs/ByPaths.antt.
 use Rattle.std.specs.Prelude.{ℕ, ◌≡◌, Bool, true, false, ◌&&◌, List, eqb, get_or}
-use Rattle.graph.specs.Check.{Graph}
-use Rattle.graph_access.specs.Names.{effects, flags, scan_effects}
-use Rattle.graph_access.specs.Words.{flag, module_of, normal, tabulate}
+use Rattle.facts.specs.graph_crate.Check.{Graph}
+use Rattle.facts.specs.graph_access_crate.Names.{effects, flags, scan_effects}
+use Rattle.facts.specs.graph_access_crate.Words.{flag, module_of, normal, tabulate}
 use Rattle.determine_side_effects.specs.Effects.{settle, relaxed, rescanned, first_verdicts, last_verdicts}
 use Rattle.determine_side_effects.specs.Paths.{ByPaths}
 

@@ -1,9 +1,9 @@
 -- The section of the verdicts.
 use Rattle.std.specs.Prelude.{ℕ, ◌≡◌, List}
-use Rattle.tables.specs.Layout.{Laid, verdicts_in, at_on_demand}
-use Rattle.graph_tables.specs.Tables.{header_in}
-use Rattle.graph.specs.Check.{graph_in}
-use Rattle.graph.specs.Loaded.{Loaded}
+use Rattle.facts.specs.tables_crate.Layout.{Laid, verdicts_in, at_on_demand}
+use Rattle.facts.specs.graph_tables_crate.Tables.{header_in}
+use Rattle.facts.specs.graph_crate.Check.{graph_in}
+use Rattle.facts.specs.graph_crate.Loaded.{Loaded}
 use Rattle.determine_side_effects.specs.Effects.{last_verdicts}
 
 -- an accepted graph with room for its verdicts

@@ -1,28 +1,39 @@
 // Which modules have side effects (determine_side_effects.rs).
 ghost use Rattle.std.specs.Prelude.{◌≡◌, ℕ, ◌+◌, ◌-◌, ◌<◌, ◌≤◌, List, [], ◌∷◌, ◌++◌, Bool, true, false, length, get_or, drop};
-ghost use Rattle.tables.specs.Layout.{start_of, Laid, Kept, verdicts_in, FitsSize, at_verdicts, at_on_demand};
-ghost use Rattle.tables.specs.declared.Size.TheVariants.{Small, Middle, Large, Largest};
-ghost use Rattle.graph_tables.specs.Tables.{header_in};
-ghost use Rattle.graph.specs.Check.{graph_in, check_of, answer_of, OnceAccepted, HeaderRead};
-ghost use Rattle.graph.specs.Loaded.{Loaded};
-ghost use Rattle.graph_access.specs.Names.{import_records};
-ghost use Rattle.graph_access.specs.Words.{module_of, statement_list};
-ghost use Rattle.determine_side_effects.specs.Effects.{effectful as effectfulOf, seeds as seedsOf, reaches as reachesOf, moves as moves_of, pass as passOf, settle as settleOf, relaxed as relaxedOf, rescanned as rescannedOf, recomputed as recomputedOf, first_verdict, first_verdicts, last_verdicts, has_effects};
+ghost use Rattle.facts.specs.tables_crate.Layout.{start_of, Laid, Kept, verdicts_in, FitsSize, at_verdicts, at_on_demand};
+ghost use Rattle.facts.specs.tables_crate.declared.Size.TheVariants.{Small, Middle, Large, Largest};
+ghost use Rattle.facts.specs.graph_tables_crate.Tables.{header_in};
+ghost use Rattle.facts.specs.graph_crate.Check.{graph_in, check_of, answer_of, OnceAccepted, HeaderRead};
+ghost use Rattle.facts.specs.graph_crate.Loaded.{Loaded};
+ghost use Rattle.facts.specs.graph_access_crate.Names.{import_records};
+ghost use Rattle.facts.specs.graph_access_crate.Words.{module_of, statement_list};
+ghost use Rattle.determine_side_effects.specs.Effects.{effectful as effectful_of, seeds as seeds_of, reaches as reaches_of, moves as moves_of, pass as pass_of, settle as settle_of, relaxed as relaxed_of, rescanned as rescanned_of, recomputed as recomputed_of, first_verdict, first_verdicts, last_verdicts, has_effects};
 ghost use Rattle.determine_side_effects.specs.Operation.{effects_answer, effects_row};
 ghost use Rattle.determine_side_effects.specs.Tabled.{HasVerdicts, Settled};
 
-use graph::Checked;
-use graph_access::modules::{DYNAMIC_EXPORTS, IS_EXPORT_STAR, RELAXED};
-use graph_access::statements::UNKNOWN_SIDE_EFFECT;
-use graph_access::{modules, statements};
-use graph_format::Header;
-use index::{ImportRecordIdx, ModuleIdx, StmtIdx};
-use rows::Walk;
-use tables::{LARGE, LARGEST, MIDDLE, SMALL, Size, VERDICTS};
+// The crates below, for the crates above, which list this one alone.
+pub use facts as facts_crate;
+pub use facts::graph_crate;
+pub use facts::graph_access_crate;
+pub use facts::graph_entries_crate;
+pub use facts::graph_format_crate;
+pub use facts::graph_tables_crate;
+pub use facts::index_crate;
+pub use facts::rows_crate;
+pub use facts::tables_crate;
+
+use facts::graph_crate::Checked;
+use facts::graph_access_crate::modules::{DYNAMIC_EXPORTS, IS_EXPORT_STAR, RELAXED};
+use facts::graph_access_crate::statements::UNKNOWN_SIDE_EFFECT;
+use facts::graph_access_crate::{modules, statements};
+use facts::graph_format_crate::Header;
+use facts::index_crate::{ImportRecordIdx, ModuleIdx, StmtIdx};
+use facts::rows_crate::Walk;
+use facts::tables_crate::{LARGE, LARGEST, MIDDLE, SMALL, Size, VERDICTS};
 
 // Whether a verdict is one of effects.
 fn effectful(v: usize) -> bool
-    ensures { result ≡ effectfulOf v }
+    ensures { result ≡ effectful_of v }
 {
     if v == 1 {
         return true;
@@ -39,7 +50,7 @@ pub fn verdict(numbers: &[u32], tables: &[usize], m: ModuleIdx) -> usize
     requires m_bound { m.0 < (header_in numbers.now).modules }
     ensures { result ≡ get_or (last_verdicts (graph_in numbers.now)) m.0 0 }
 {
-    let verdicts = tables::section(tables, VERDICTS);
+    let verdicts = facts::tables_crate::section(tables, VERDICTS);
     let i = m.0;
     verdicts[i]
 }
@@ -57,7 +68,7 @@ pub fn has_effects(numbers: &[u32], tables: &[usize], m: ModuleIdx) -> bool
 fn seeds(numbers: &[u32], tables: &[usize], m: ModuleIdx, k: ImportRecordIdx) -> bool
     requires loaded { Loaded numbers.now tables.now }
     requires m_bound { (m.0 < (header_in numbers.now).modules) × (k.0 < length (import_records (module_of (graph_in numbers.now) m.0))) }
-    ensures { result ≡ seedsOf (graph_in numbers.now) (get_or (import_records (module_of (graph_in numbers.now) m.0)) k.0 []) }
+    ensures { result ≡ seeds_of (graph_in numbers.now) (get_or (import_records (module_of (graph_in numbers.now) m.0)) k.0 []) }
 {
     let target = modules::import_record_target(numbers, tables, m, k);
     if target == 0 {
@@ -86,13 +97,13 @@ fn seeds(numbers: &[u32], tables: &[usize], m: ModuleIdx, k: ImportRecordIdx) ->
 fn reaches(numbers: &[u32], tables: &[usize], m: ModuleIdx, k: ImportRecordIdx) -> bool
     requires has_verdicts { HasVerdicts numbers.now tables.now }
     requires m_bound { (m.0 < (header_in numbers.now).modules) × (k.0 < length (import_records (module_of (graph_in numbers.now) m.0))) }
-    ensures { result ≡ reachesOf (verdicts_in tables.now) (get_or (import_records (module_of (graph_in numbers.now) m.0)) k.0 []) }
+    ensures { result ≡ reaches_of (verdicts_in tables.now) (get_or (import_records (module_of (graph_in numbers.now) m.0)) k.0 []) }
 {
     let target = modules::import_record_target(numbers, tables, m, k);
     if target == 0 {
         return false;
     }
-    let verdicts = tables::section(tables, VERDICTS);
+    let verdicts = facts::tables_crate::section(tables, VERDICTS);
     effectful(verdicts[target - 1])
 }
 
@@ -105,7 +116,7 @@ fn moves(numbers: &[u32], tables: &[usize], m: ModuleIdx) -> bool
     if !modules::is_normal(numbers, tables, m) {
         return false;
     }
-    let verdicts = tables::section(tables, VERDICTS);
+    let verdicts = facts::tables_crate::section(tables, VERDICTS);
     let i = m.0;
     if verdicts[i] != 0 {
         return false;
@@ -127,9 +138,9 @@ fn moves(numbers: &[u32], tables: &[usize], m: ModuleIdx) -> bool
 // Every module once, the last first. Whether one moved.
 fn pass(numbers: &[u32], tables: &mut [usize]) -> bool
     requires { HasVerdicts numbers.now tables.old }
-    ensures { (verdicts_in tables.new ≡ passOf (graph_in numbers.now) (header_in numbers.now).modules (verdicts_in tables.old)) × (result ≡ false → verdicts_in tables.new ≡ verdicts_in tables.old) × Kept (start_of (header_in numbers.now) at_verdicts) tables.old tables.new }
+    ensures { (verdicts_in tables.new ≡ pass_of (graph_in numbers.now) (header_in numbers.now).modules (verdicts_in tables.old)) × (result ≡ false → verdicts_in tables.new ≡ verdicts_in tables.old) × Kept (start_of (header_in numbers.now) at_verdicts) tables.old tables.new }
 {
-    let h = graph::header_of(numbers);
+    let h = facts::graph_crate::header_of(numbers);
     let base = tables[VERDICTS];
     let mut moved = false;
     let mut m = h.modules;
@@ -146,9 +157,9 @@ fn pass(numbers: &[u32], tables: &mut [usize]) -> bool
 // Passes until nothing moves.
 fn settle(numbers: &[u32], tables: &mut [usize])
     requires { HasVerdicts numbers.now tables.old }
-    ensures { (verdicts_in tables.new ≡ settleOf (graph_in numbers.now) (verdicts_in tables.old)) × Kept (start_of (header_in numbers.now) at_verdicts) tables.old tables.new }
+    ensures { (verdicts_in tables.new ≡ settle_of (graph_in numbers.now) (verdicts_in tables.old)) × Kept (start_of (header_in numbers.now) at_verdicts) tables.old tables.new }
 {
-    let h = graph::header_of(numbers);
+    let h = facts::graph_crate::header_of(numbers);
     let mut left = h.modules;
     while left > 0 {
         left -= 1;
@@ -161,9 +172,9 @@ fn settle(numbers: &[u32], tables: &mut [usize])
 // Whether some module was relaxed.
 fn relaxed(numbers: &[u32], tables: &[usize]) -> bool
     requires { Loaded numbers.now tables.now }
-    ensures { result ≡ relaxedOf (graph_in numbers.now) }
+    ensures { result ≡ relaxed_of (graph_in numbers.now) }
 {
-    let h = graph::header_of(numbers);
+    let h = facts::graph_crate::header_of(numbers);
     let mut m: usize = 0;
     while m < h.modules {
         if facts::flag(modules::flags(numbers, tables, ModuleIdx(m)), RELAXED) {
@@ -178,7 +189,7 @@ fn relaxed(numbers: &[u32], tables: &[usize]) -> bool
 fn rescanned(numbers: &[u32], tables: &[usize], m: ModuleIdx) -> usize
     requires loaded { Loaded numbers.now tables.now }
     requires m_bound { m.0 < (header_in numbers.now).modules }
-    ensures { result ≡ rescannedOf (graph_in numbers.now) m.0 }
+    ensures { result ≡ rescanned_of (graph_in numbers.now) m.0 }
 {
     let all = modules::statement_count(numbers, tables, m);
     let scanned = modules::scan_statement_count(numbers, tables, m);
@@ -202,7 +213,7 @@ fn rescanned(numbers: &[u32], tables: &[usize], m: ModuleIdx) -> usize
 fn recomputed(numbers: &[u32], tables: &[usize], m: ModuleIdx) -> usize
     requires loaded { Loaded numbers.now tables.now }
     requires m_bound { m.0 < (header_in numbers.now).modules }
-    ensures { result ≡ recomputedOf (graph_in numbers.now) m.0 }
+    ensures { result ≡ recomputed_of (graph_in numbers.now) m.0 }
 {
     if !modules::is_normal(numbers, tables, m) {
         return modules::effects(numbers, tables, m);
@@ -220,7 +231,7 @@ fn recomputed(numbers: &[u32], tables: &[usize], m: ModuleIdx) -> usize
 // A module's verdict before the settling: as it was given, or recomputed.
 fn first_verdict(numbers: &[u32], tables: &[usize], again: bool, m: ModuleIdx) -> usize
     requires loaded { Loaded numbers.now tables.now }
-    requires again_value { (again ≡ relaxedOf (graph_in numbers.now)) × (m.0 < (header_in numbers.now).modules) }
+    requires again_value { (again ≡ relaxed_of (graph_in numbers.now)) × (m.0 < (header_in numbers.now).modules) }
     ensures { result ≡ first_verdict (graph_in numbers.now) m.0 }
 {
     if again {
@@ -234,7 +245,7 @@ fn first_verdicts(numbers: &[u32], tables: &mut [usize])
     requires { HasVerdicts numbers.now tables.old }
     ensures { (verdicts_in tables.new ≡ first_verdicts (graph_in numbers.now)) × Kept (start_of (header_in numbers.now) at_verdicts) tables.old tables.new }
 {
-    let h = graph::header_of(numbers);
+    let h = facts::graph_crate::header_of(numbers);
     let again = relaxed(numbers, tables);
     let base = tables[VERDICTS];
     let mut m: usize = 0;
@@ -259,7 +270,7 @@ fn write_row(numbers: &[u32], tables: &[usize], row: &mut [u32])
     requires numbers_in_bounds { (header_in numbers.now).modules ≤ length row.old }
     ensures { row.new ≡ last_verdicts (graph_in numbers.now) ++ drop (header_in numbers.now).modules row.old }
 {
-    let verdicts = tables::section(tables, VERDICTS);
+    let verdicts = facts::tables_crate::section(tables, VERDICTS);
     let count = verdicts.len();
     let mut m: usize = 0;
     while m < count {
@@ -274,7 +285,7 @@ fn effects_in(numbers: &[u32], h: Header, tables: &mut [usize], row: &mut [u32])
     requires at_on_demand_in_bounds { (start_of h at_on_demand ≤ length tables.old) × (length tables.old < 4294967296) }
     ensures { (result ≡ effects_answer numbers.now (length row.old)) × (row.new ≡ effects_row numbers.now row.old) }
 {
-    match graph::load(numbers, h, tables) {
+    match facts::graph_crate::load(numbers, h, tables) {
         Checked::Refused(n, p) => Checked::Refused(n, p),
         Checked::Accepted => {
             if row.len() < h.modules {
@@ -331,10 +342,10 @@ fn effects_larger(numbers: &[u32], h: Header, row: &mut [u32], again: usize) -> 
     if again > 0 {
         return effects_larger(numbers, h, row, again - 1);
     }
-    if tables::fits(h, Size::Middle) {
+    if facts::tables_crate::fits(h, Size::Middle) {
         return effects_middle(numbers, h, row);
     }
-    if tables::fits(h, Size::Large) {
+    if facts::tables_crate::fits(h, Size::Large) {
         return effects_large(numbers, h, row);
     }
     effects_largest(numbers, h, row)
@@ -344,11 +355,11 @@ fn effects_larger(numbers: &[u32], h: Header, row: &mut [u32], again: usize) -> 
 pub fn effects(numbers: &[u32], row: &mut [u32]) -> Checked
     ensures { (result ≡ effects_answer numbers.now (length row.old)) × (row.new ≡ effects_row numbers.now row.old) }
 {
-    match graph::header(numbers) {
+    match facts::graph_crate::header(numbers) {
         Walk::Fault(n, p) => Checked::Refused(n, p),
         Walk::At(_) => {
-            let h = graph::header_of(numbers);
-            if tables::fits(h, Size::Small) {
+            let h = facts::graph_crate::header_of(numbers);
+            if facts::tables_crate::fits(h, Size::Small) {
                 return effects_small(numbers, h, row);
             }
             effects_larger(numbers, h, row, frames::apart(numbers))

@@ -3,8 +3,8 @@ ghost use Rattle.std.specs.Prelude.{◌≡◌, ℕ, ◌+◌, ◌*◌, ◌<◌, �
 ghost use Rattle.drain_parts.specs.Operation.{rows as rows_of, Drains};
 
 use drain_parts::Drained;
-use rows::Walk;
-use tables::Size;
+use graph::rows_crate::Walk;
+use graph::tables_crate::Size;
 
 // Keeps what the starts keep: marks, the record, and the answer rows; or the first refusal.
 pub fn drain(
@@ -25,7 +25,7 @@ pub fn drain(
         Walk::Fault(n, p) => Drained::Refused(n, p),
         Walk::At(_) => {
             let h = graph::header_of(numbers);
-            if tables::fits(h, Size::Small) {
+            if graph::tables_crate::fits(h, Size::Small) {
                 return drain_sizes::drain_small(
                     numbers,
                     starts,

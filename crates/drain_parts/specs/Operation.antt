@@ -1,10 +1,10 @@
 -- What a drain answers, and every lent row afterwards (docs/OPERATIONS.md, Drain).
 use Rattle.std.specs.Prelude.{ℕ, ◌+◌, ◌*◌, ◌-◌, ◌/◌, ◌%◌, ◌≡◌, Bool, true, false, ◌&&◌, List, [], ◌∷◌, ◌++◌, eqb, ltb, leb, length, replicate}
 use Rattle.bit_row.specs.Row.{bytes_for}
-use Rattle.rows.specs.Walk.{Parsed, got, fault}
-use Rattle.graph.specs.Check.{Graph, check_of}
+use Rattle.determine_side_effects.specs.rows_crate.Walk.{Parsed, got, fault}
+use Rattle.determine_side_effects.specs.graph_crate.Check.{Graph, check_of}
 use Rattle.determine_side_effects.specs.Effects.{last_verdicts}
-use Rattle.facts.specs.Facts.{mark_count}
+use Rattle.determine_side_effects.specs.facts_crate.Facts.{mark_count}
 use Rattle.keep_record.specs.declared.Line.{Line}
 use Rattle.keep_record.specs.Lines.{written, marks_of, elem}
 use Rattle.worklist.specs.Drain.{drain_of}

@@ -1,8 +1,8 @@
 -- What the parts of the drain's code answer.
 use Rattle.std.specs.Prelude.{ℕ, ◌*◌, ◌<◌, ◌≡◌, true, List, length, replicate}
-use Rattle.graph.specs.declared.Checked.{Checked}
-use Rattle.graph.specs.declared.Checked.TheVariants.{Accepted, Refused}
-use Rattle.graph.specs.Check.{Graph, graph_in}
+use Rattle.determine_side_effects.specs.graph_crate.declared.Checked.{Checked}
+use Rattle.determine_side_effects.specs.graph_crate.declared.Checked.TheVariants.{Accepted, Refused}
+use Rattle.determine_side_effects.specs.graph_crate.Check.{Graph, graph_in}
 use Rattle.determine_side_effects.specs.Effects.{last_verdicts}
 use Rattle.keep_rules.specs.Prepared.{Prepared}
 use Rattle.keep_record.specs.declared.Line.{Line}

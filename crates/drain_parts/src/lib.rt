@@ -2,11 +2,11 @@
 // Whether it may begin is told from the lengths of the lent rows, without the rows. No answer row is written before the last refusal is excluded.
 ghost use Rattle.std.specs.Prelude.{◌≡◌, ℕ, ◌+◌, ◌*◌, ◌-◌, ◌/◌, ◌%◌, ◌<◌, ◌≤◌, Bool, true, false, List, [], ◌∷◌, length, get_or, replicate};
 ghost use Rattle.bit_row.specs.Row.{bytes_for};
-ghost use Rattle.tables.specs.Layout.{start_of, all_sections};
-ghost use Rattle.graph_tables.specs.Tables.{header_in};
-ghost use Rattle.graph.specs.Check.{graph_in, HeaderRead};
+ghost use Rattle.determine_side_effects.specs.tables_crate.Layout.{start_of, all_sections};
+ghost use Rattle.determine_side_effects.specs.graph_tables_crate.Tables.{header_in};
+ghost use Rattle.determine_side_effects.specs.graph_crate.Check.{graph_in, HeaderRead};
 ghost use Rattle.determine_side_effects.specs.Effects.{last_verdicts};
-ghost use Rattle.facts.specs.Facts.{mark_count};
+ghost use Rattle.determine_side_effects.specs.facts_crate.Facts.{mark_count};
 ghost use Rattle.keep_rules.specs.Prepared.{Prepared};
 ghost use Rattle.starts.specs.Starts.{starts_of, StartsGood};
 ghost use Rattle.worklist.specs.Links.{partners_size};
@@ -16,10 +16,10 @@ ghost use Rattle.drain_parts.specs.Operation.{rows as rows_of, rooms_of, enough,
 ghost use Rattle.drain_parts.specs.Parts.{MayBegin, Worked};
 
 use answer_rows::Lengths;
-use graph::Checked;
-use graph_format::Header;
+use determine_side_effects::graph_crate::Checked;
+use determine_side_effects::graph_format_crate::Header;
 use keep_record::Added;
-use rows::Walk;
+use determine_side_effects::rows_crate::Walk;
 
 // How a drain ends: with so many lines, or with a refusal's number and its place.
 #[derive(Clone, Copy)]
@@ -46,7 +46,7 @@ fn may_begin(
         Checked::Accepted => match starts::check(numbers, tables, starts) {
             Walk::Fault(n, p) => Checked::Refused(n, p),
             Walk::At(_) => {
-                if marks < bit_row::bytes_for(facts::mark_count(numbers, tables)) {
+                if marks < bit_row::bytes_for(determine_side_effects::facts_crate::mark_count(numbers, tables)) {
                     return Checked::Refused(5, 0);
                 }
                 if !answer_rows::are_long_enough(numbers, tables, lengths) {

@@ -1,13 +1,13 @@
 // The drain with tables for small graphs, for graphs of middle and large size, and for the largest.
 ghost use Rattle.std.specs.Prelude.{◌≡◌, ℕ, ◌+◌, ◌*◌, ◌<◌, ◌≤◌, List, [], ◌∷◌};
-ghost use Rattle.tables.specs.Layout.{FitsSize};
-ghost use Rattle.tables.specs.declared.Size.TheVariants.{Small, Middle, Large, Largest};
+ghost use Rattle.graph.specs.tables_crate.Layout.{FitsSize};
+ghost use Rattle.graph.specs.tables_crate.declared.Size.TheVariants.{Small, Middle, Large, Largest};
 ghost use Rattle.graph.specs.Check.{HeaderRead};
 ghost use Rattle.drain_parts.specs.Operation.{rows as rows_of, Drains};
 
 use drain_parts::Drained;
-use graph_format::Header;
-use tables::{LARGE, LARGEST, MIDDLE, SMALL, Size};
+use graph::graph_format_crate::Header;
+use graph::tables_crate::{LARGE, LARGEST, MIDDLE, SMALL, Size};
 
 // The drain with tables for a small graph.
 pub fn drain_small(
@@ -187,7 +187,7 @@ pub fn drain_larger(
             again - 1,
         );
     }
-    if tables::fits(h, Size::Middle) {
+    if graph::tables_crate::fits(h, Size::Middle) {
         return drain_middle(
             numbers,
             starts,
@@ -202,7 +202,7 @@ pub fn drain_larger(
             reason,
         );
     }
-    if tables::fits(h, Size::Large) {
+    if graph::tables_crate::fits(h, Size::Large) {
         return drain_large(
             numbers,
             starts,

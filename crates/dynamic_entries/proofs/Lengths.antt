@@ -7,7 +7,7 @@ use native.Mathlib.Omega.{arith}
 use borrow.Author.Tests.{eqb-true}
 use lib.Dec.{eqb}
 use lib.ListN.{length, length-append}
-use Rattle.graph.specs.Check.{Graph}
+use Rattle.determine_side_effects.specs.graph_crate.Check.{Graph}
 use Rattle.keep_record.specs.Lines.{elem}
 use Rattle.keep_record.specs.Held.{Distinct}
 use Rattle.entry_order.specs.Order.{those, module_of_entry, dynamic_entries}

@@ -10,10 +10,10 @@ use borrow.Author.Tests.{eqb-true, eqb-false, eq-eqb, ne_eqb, ltb-true, ltb-fals
 use lib.Dec.{eqb, ltb}
 use lib.ListN.{length, get_or, take}
 use lib.Seq.{ext_get_or, length-take-le, get_or-take}
-use Rattle.graph_format.specs.declared.Header.{Header}
-use Rattle.graph_tables.specs.Tables.{header_in}
-use Rattle.graph.specs.Check.{Graph, graph_in}
-use Rattle.graph_access.specs.Words.{tabulate}
+use Rattle.determine_side_effects.specs.graph_format_crate.declared.Header.{Header}
+use Rattle.determine_side_effects.specs.graph_tables_crate.Tables.{header_in}
+use Rattle.determine_side_effects.specs.graph_crate.Check.{Graph, graph_in}
+use Rattle.determine_side_effects.specs.graph_access_crate.Words.{tabulate}
 use Rattle.keep_record.specs.Lines.{elem}
 use Rattle.keep_record.specs.Held.{Distinct}
 use Rattle.keep_record.proofs.Counting.{elem_place}

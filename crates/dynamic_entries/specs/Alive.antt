@@ -1,12 +1,12 @@
 -- Whether a dynamic entry is live, and what a try that finds it dead marks (003:170-217, `is_dynamic_entry_alive`).
 use Rattle.std.specs.Prelude.{ℕ, zero, suc, ◌+◌, ◌-◌, Bool, true, false, not, ◌||◌, ◌&&◌, List, [], ◌∷◌, ◌++◌, eqb, length, get_or}
-use Rattle.rows.specs.Walk.{Item}
-use Rattle.graph.specs.Check.{Graph}
-use Rattle.graph_access.specs.Names.{flags, import_records, import_record_target, import_record_bits, related, related_module, related_statement, related_import_record, unreachable}
-use Rattle.graph_access.specs.Words.{flag, some, module_of, entry_of}
-use Rattle.facts.specs.Facts.{statement_fact}
+use Rattle.determine_side_effects.specs.rows_crate.Walk.{Item}
+use Rattle.determine_side_effects.specs.graph_crate.Check.{Graph}
+use Rattle.determine_side_effects.specs.graph_access_crate.Names.{flags, import_records, import_record_target, import_record_bits, related, related_module, related_statement, related_import_record, unreachable}
+use Rattle.determine_side_effects.specs.graph_access_crate.Words.{flag, some, module_of, entry_of}
+use Rattle.determine_side_effects.specs.facts_crate.Facts.{statement_fact}
 use Rattle.determine_side_effects.specs.Effects.{has_effects}
-use Rattle.facts.specs.declared.Fact.{Fact}
+use Rattle.determine_side_effects.specs.facts_crate.declared.Fact.{Fact}
 use Rattle.entry_order.specs.Order.{module_of_entry}
 
 -- the import record of a related statement

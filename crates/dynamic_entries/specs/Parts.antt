@@ -1,6 +1,6 @@
 -- What the parts of the ordering need and leave.
 use Rattle.std.specs.Prelude.{ℕ, ◌+◌, ◌<◌, ◌≤◌, ◌≡◌, Bool, not, List, ◌++◌, eqb, length, get_or, take, drop}
-use Rattle.graph.specs.Check.{Graph}
+use Rattle.determine_side_effects.specs.graph_crate.Check.{Graph}
 use Rattle.keep_record.specs.Lines.{elem}
 use Rattle.entry_order.specs.Order.{module_of_entry, user_entries, dynamic_entries}
 use Rattle.entry_order.specs.Chains.{Entries}

@@ -1,8 +1,8 @@
 // The order in which entries are taken (dynamic_entries.rs, `sort_dynamic_entries_by_topological_order`).
 ghost use Rattle.std.specs.Prelude.{◌≡◌, ◌+◌, ◌*◌, ◌-◌, ◌<◌, ◌≤◌, Bool, ◌||◌, List, ◌++◌, eqb, length, get_or, take, drop};
-ghost use Rattle.graph_tables.specs.Tables.{header_in};
-ghost use Rattle.graph.specs.Check.{graph_in};
-ghost use Rattle.graph.specs.Loaded.{Loaded};
+ghost use Rattle.determine_side_effects.specs.graph_tables_crate.Tables.{header_in};
+ghost use Rattle.determine_side_effects.specs.graph_crate.Check.{graph_in};
+ghost use Rattle.determine_side_effects.specs.graph_crate.Loaded.{Loaded};
 ghost use Rattle.entry_order.specs.Order.{those, module_of_entry, user_entries, dynamic_entries};
 ghost use Rattle.entry_order.specs.Chains.{Chained};
 ghost use Rattle.entry_order.specs.Plan.{Untouched};
@@ -12,8 +12,8 @@ ghost use Rattle.dynamic_entries.specs.Tries.{Planned, Unlived};
 ghost use Rattle.dynamic_entries.specs.Parts.{Cleared, Parted, Cycled, Outside, Completed, Holds, Orders};
 
 use entry_graph::Built;
-use graph_access::entries;
-use index::{EntryIdx, ModuleIdx};
+use determine_side_effects::graph_access_crate::entries;
+use determine_side_effects::index_crate::{EntryIdx, ModuleIdx};
 
 // Whether the dynamic entries are sorted; or a module has more successors than there is room for.
 #[derive(Clone, Copy)]
@@ -46,7 +46,7 @@ fn take_first(
     requires parted { Parted (graph_in numbers.now) plan.now users × Cycled (graph_in numbers.now) plan.now × Outside (graph_in numbers.now) outs.now × ((header_in numbers.now).entries ≤ length list.old) }
     ensures { (result ≡ length (those (λ e. goes_first (graph_in numbers.now) (module_of_entry (graph_in numbers.now) e)) (dynamic_entries (graph_in numbers.now)))) × (list.new ≡ those (λ e. goes_first (graph_in numbers.now) (module_of_entry (graph_in numbers.now) e)) (dynamic_entries (graph_in numbers.now)) ++ drop result list.old) }
 {
-    let h = graph::header_of(numbers);
+    let h = determine_side_effects::graph_crate::header_of(numbers);
     let count = h.entries;
     let at = entry_order::cycled_at(h);
     let mut n: usize = 0;
@@ -55,7 +55,7 @@ fn take_first(
         let e = plan[i];
         let m = entries::entry_module(numbers, tables, EntryIdx(e));
         if goes_first(plan, at, outs, m.0) {
-            list[n] = facts::narrow(e);
+            list[n] = determine_side_effects::facts_crate::narrow(e);
             n += 1;
         }
         i += 1;
@@ -80,7 +80,7 @@ fn take_by_completion(
     requires chained { Chained (graph_in numbers.now) (drop users plan.now) ((header_in numbers.now).entries - users) chain.now × (n + length (by_completion (graph_in numbers.now) (dynamic_entries (graph_in numbers.now)) (completion (graph_in numbers.now))) ≤ length list.old) }
     ensures { (result ≡ n + length (by_completion (graph_in numbers.now) (dynamic_entries (graph_in numbers.now)) (completion (graph_in numbers.now)))) × (list.new ≡ take n list.old ++ (by_completion (graph_in numbers.now) (dynamic_entries (graph_in numbers.now)) (completion (graph_in numbers.now)) ++ drop result list.old)) }
 {
-    let h = graph::header_of(numbers);
+    let h = determine_side_effects::graph_crate::header_of(numbers);
     let count = h.entries;
     let at = entry_order::cycled_at(h);
     let mut total = n;
@@ -110,7 +110,7 @@ fn copy_back(list: &[u32], count: usize, plan: &mut [usize], users: usize)
 {
     let mut i: usize = 0;
     while i < count {
-        plan[users + i] = rows::wide(list[i]);
+        plan[users + i] = determine_side_effects::rows_crate::wide(list[i]);
         i += 1;
     }
 }
@@ -132,7 +132,7 @@ fn sort_entries(
     requires numbers_in_bounds { ((header_in numbers.now).modules + (header_in numbers.now).entries ≤ length chain.old) × ((header_in numbers.now).entries ≤ length list.old) × (length (sorted_entries (graph_in numbers.now)) ≡ length (dynamic_entries (graph_in numbers.now))) }
     ensures { Planned (graph_in numbers.now) plan.new users × Untouched users (header_in numbers.now).entries plan.old plan.new }
 {
-    let h = graph::header_of(numbers);
+    let h = determine_side_effects::graph_crate::header_of(numbers);
     let count = h.entries - users;
     entry_order::link(numbers, tables, &plan[users..], count, chain);
     let n = take_first(numbers, tables, plan, users, outs, list);
@@ -161,7 +161,7 @@ fn sort_by_graph(
     requires numbers_in_bounds { ((header_in numbers.now).modules ≤ length order.old) × ((header_in numbers.now).modules + (header_in numbers.now).entries ≤ length chain.old) × ((header_in numbers.now).entries ≤ length list.old) }
     ensures { Planned (graph_in numbers.now) plan.new users × Unlived (graph_in numbers.now) plan.new }
 {
-    let h = graph::header_of(numbers);
+    let h = determine_side_effects::graph_crate::header_of(numbers);
     let at = entry_order::cycled_at(h);
     let found = cycles::find_cycles(
         h.modules, cap, nodes, n, outs, succs, edges, order, plan, at,
@@ -193,7 +193,7 @@ pub fn order_in(
     requires numbers_in_bounds { ((header_in numbers.now).modules ≤ length order.old) × ((header_in numbers.now).modules + (header_in numbers.now).entries ≤ length chain.old) × ((header_in numbers.now).entries ≤ length list.old) }
     ensures { Orders (graph_in numbers.now) cap users plan.old plan.new result }
 {
-    let h = graph::header_of(numbers);
+    let h = determine_side_effects::graph_crate::header_of(numbers);
     let count = h.entries - users;
     match entry_graph::entry_graph(
         numbers,

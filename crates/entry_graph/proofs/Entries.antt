@@ -11,7 +11,7 @@ use lib.ListN.{length, get_or, take, drop, drop_of_length-le}
 use lib.Seq.{drop-cons}
 use Rattle.bit_row.specs.Row.{bit_at, cleared}
 use Rattle.bit_row.proofs.Cleared.{zeros_unset}
-use Rattle.graph.specs.Check.{Graph}
+use Rattle.graph_access.specs.graph_crate.Check.{Graph}
 use Rattle.keep_record.specs.Lines.{elem}
 use Rattle.keep_record.proofs.Rows.{cleared_whole}
 use Rattle.entry_order.specs.Order.{module_of_entry}

@@ -9,9 +9,9 @@ use borrow.Author.Count.{below_more}
 use lib.Dec.{eqb}
 use lib.ListN.{length, get_or, set}
 use lib.Seq.{get_or-set_same, get_or-set_other}
-use Rattle.index.specs.declared.ModuleIdx.{ModuleIdx}
+use Rattle.graph_access.specs.index_crate.declared.ModuleIdx.{ModuleIdx}
 use Rattle.bit_row.specs.Row.{bit_at}
-use Rattle.graph.specs.Check.{Graph}
+use Rattle.graph_access.specs.graph_crate.Check.{Graph}
 use Rattle.entry_graph.specs.declared.Built.TheVariants.{Nodes, Full}
 use Rattle.entry_graph.specs.declared.Taken.{Taken}
 use Rattle.entry_graph.specs.declared.Taken.TheVariants.{UpTo, All}

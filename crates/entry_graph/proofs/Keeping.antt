@@ -7,7 +7,7 @@ use native.Mathlib.Omega.{arith}
 use borrow.Author.Tests.{eqb-false}
 use lib.Dec.{eqb}
 use lib.ListN.{length, get_or}
-use Rattle.graph.specs.Check.{Graph}
+use Rattle.graph_access.specs.graph_crate.Check.{Graph}
 use Rattle.graph_access.specs.Names.{import_records, import_record_target, import_record_kind}
 use Rattle.graph_access.specs.Words.{module_of, normal}
 use Rattle.keep_record.specs.Lines.{elem}

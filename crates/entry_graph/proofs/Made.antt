@@ -7,8 +7,8 @@ use mathlib.Core.List.{List, [], ◌∷◌, ◌++◌}
 use native.Mathlib.Omega.{arith}
 use borrow.Author.Tests.{eqb-true, eq-eqb}
 use lib.Dec.{eqb}
-use Rattle.graph.specs.Check.{Graph, graph_in}
-use Rattle.graph.specs.Loaded.{Loaded}
+use Rattle.graph_access.specs.graph_crate.Check.{Graph, graph_in}
+use Rattle.graph_access.specs.graph_crate.Loaded.{Loaded}
 use Rattle.graph_access.specs.Words.{tabulate}
 use Rattle.graph_access.proofs.Indexes.{entry_module_below}
 use Rattle.keep_record.specs.Lines.{elem}

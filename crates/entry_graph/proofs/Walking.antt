@@ -9,9 +9,9 @@ use borrow.Author.Tests.{eqb-false}
 use lib.Dec.{eqb, eqb-suc-zero}
 use lib.ListN.{length, get_or, take, drop, drop_of_length-le}
 use lib.Seq.{drop-cons}
-use Rattle.index.specs.declared.ModuleIdx.{ModuleIdx}
+use Rattle.graph_access.specs.index_crate.declared.ModuleIdx.{ModuleIdx}
 use Rattle.bit_row.specs.Row.{bit_at}
-use Rattle.graph.specs.Check.{Graph}
+use Rattle.graph_access.specs.graph_crate.Check.{Graph}
 use Rattle.graph_access.specs.Names.{import_records}
 use Rattle.graph_access.specs.Words.{module_of, normal}
 use Rattle.keep_record.proofs.Adding.{left_false, right_false}

@@ -1,6 +1,6 @@
 -- The graph by which dynamic entries are ordered (003:130-165, `construct_dynamic_entry_graph`, written over).
 use Rattle.std.specs.Prelude.{ℕ, zero, suc, ◌-◌, Bool, true, false, ◌||◌, List, [], ◌∷◌, ◌++◌, eqb}
-use Rattle.graph.specs.Check.{Graph}
+use Rattle.graph_access.specs.graph_crate.Check.{Graph}
 use Rattle.graph_access.specs.Names.{import_records, import_record_target, import_record_kind}
 use Rattle.graph_access.specs.Words.{module_of, normal}
 use Rattle.keep_record.specs.Lines.{elem}

@@ -1,7 +1,7 @@
 -- What the steps of the walk leave: a node put, an edge added, an import record taken.
 use Rattle.std.specs.Prelude.{ℕ, ◌+◌, ◌<◌, ◌≤◌, ◌≡◌, Bool, true, false, List, [], length, get_or, set, drop}
-use Rattle.index.specs.declared.ModuleIdx.{ModuleIdx}
-use Rattle.graph.specs.Check.{Graph}
+use Rattle.graph_access.specs.index_crate.declared.ModuleIdx.{ModuleIdx}
+use Rattle.graph_access.specs.graph_crate.Check.{Graph}
 use Rattle.graph_access.specs.Names.{import_records}
 use Rattle.graph_access.specs.Words.{module_of, normal}
 use Rattle.bit_row.specs.Row.{bit_at}

@@ -1,9 +1,9 @@
 // The graph by which dynamic entries are ordered (dynamic_entries.rs, `construct_dynamic_entry_graph`).
 ghost use Rattle.std.specs.Prelude.{◌≡◌, ℕ, ◌+◌, ◌*◌, ◌<◌, ◌≤◌, false, ◌||◌, List, [], eqb, length, get_or, take};
 ghost use Rattle.bit_row.specs.Row.{bit_at};
-ghost use Rattle.graph_tables.specs.Tables.{header_in};
-ghost use Rattle.graph.specs.Check.{graph_in};
-ghost use Rattle.graph.specs.Loaded.{Loaded};
+ghost use Rattle.graph_access.specs.graph_tables_crate.Tables.{header_in};
+ghost use Rattle.graph_access.specs.graph_crate.Check.{graph_in};
+ghost use Rattle.graph_access.specs.graph_crate.Loaded.{Loaded};
 ghost use Rattle.graph_access.specs.Names.{import_records};
 ghost use Rattle.graph_access.specs.Words.{module_of};
 ghost use Rattle.entry_graph.specs.Ordering.{no_ordering, construct, add_edge, from_entries};
@@ -11,7 +11,7 @@ ghost use Rattle.entry_graph.specs.Memory.{ordering_in, Stored, Builds};
 ghost use Rattle.entry_graph.specs.Steps.{Put, Holds, records_of, Bounded, Asks, behind_edge, Takes, TakesRecords};
 
 use graph_access::{entries, modules};
-use index::{EntryIdx, ImportRecordIdx, ModuleIdx};
+use graph_access::index_crate::{EntryIdx, ImportRecordIdx, ModuleIdx};
 
 // How many nodes the graph has; or a module has more successors than there is room for.
 #[derive(Clone, Copy)]
@@ -180,7 +180,7 @@ fn take_import(
         Import::Unresolved => Step::Stay(n),
         Import::SameRoot(t) => Step::Walk(root, t, n),
         Import::Edge(t) => {
-            let h = graph::header_of(numbers);
+            let h = graph_access::graph_crate::header_of(numbers);
             let u = t.0;
             let seen = outs[u] > 0;
             let built = add_edge(h.modules, cap, root.0, u, n, nodes, outs, succs, edges);
@@ -269,7 +269,7 @@ fn construct_dynamic_entry_graph(
     requires first_bound { (first.0 < (header_in numbers.now).modules) × ((header_in numbers.now).modules ≤ 8 * length visited.old) × (bit_at visited.old first.0 ≡ false) }
     ensures { Holds (header_in numbers.now).modules cap (construct (graph_in numbers.now) (header_in numbers.now).modules first.0 first.0 (ordering_in (header_in numbers.now).modules cap visited.old nodes.old n outs.old succs.old)) visited.new nodes.new outs.new succs.new edges.new result }
 {
-    let h = graph::header_of(numbers);
+    let h = graph_access::graph_crate::header_of(numbers);
     bit_row::set(visited, first.0);
     let mut root = first.0;
     let mut m = first.0;

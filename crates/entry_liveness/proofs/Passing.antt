@@ -7,9 +7,9 @@ use native.Mathlib.Omega.{arith}
 use borrow.Author.Tests.{eq-eqb, ne_eqb}
 use lib.ListN.{length, get_or, take, drop, set}
 use lib.Seq.{take-set-le}
-use Rattle.graph_format.specs.declared.Header.{Header}
-use Rattle.graph.specs.Check.{Graph}
-use Rattle.facts.specs.declared.Fact.{Fact}
+use Rattle.determine_side_effects.specs.graph_format_crate.declared.Header.{Header}
+use Rattle.determine_side_effects.specs.graph_crate.Check.{Graph}
+use Rattle.determine_side_effects.specs.facts_crate.declared.Fact.{Fact}
 use Rattle.determine_side_effects.specs.Effects.{last_verdicts}
 use Rattle.keep_record.specs.declared.Line.{Line}
 use Rattle.keep_record.specs.Lines.{has}

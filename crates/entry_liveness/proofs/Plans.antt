@@ -11,8 +11,8 @@ use borrow.Author.Tests.{eqb-true, eqb-false, ne_eqb, lt-ltb, le-ltb}
 use lib.Dec.{eqb, ltb}
 use lib.ListN.{length, get_or, take, drop, set, length-set}
 use lib.Seq.{drop-cons, get_or-take, get_or-set_same, get_or-set_other, length-take-le, ext_get_or}
-use Rattle.graph_format.specs.declared.Header.{Header}
-use Rattle.graph.specs.Check.{Graph}
+use Rattle.determine_side_effects.specs.graph_format_crate.declared.Header.{Header}
+use Rattle.determine_side_effects.specs.graph_crate.Check.{Graph}
 use Rattle.keep_record.specs.declared.Line.{Line}
 use Rattle.entry_order.specs.Plan.{is_set, live_in, dead_in, live_at, dead_at, cycled_at, plan_size, Untouched}
 use Rattle.dynamic_entries.specs.Tries.{progress_in, now_dead, Planned}

@@ -6,15 +6,15 @@ use mathlib.Core.List.{List, []}
 use native.Mathlib.Omega.{arith}
 use borrow.Author.Tests.{eq-eqb, ne_eqb}
 use lib.ListN.{length, get_or, drop}
-use Rattle.graph.specs.Check.{Graph}
-use Rattle.graph_access.specs.declared.entries.RelatedStmt.{RelatedStmt}
-use Rattle.graph_access.specs.Names.{flags, import_records, import_record_target, import_record_bits, related_module, related_statement, related, unreachable}
-use Rattle.graph_access.specs.Words.{flag, some, module_of, statement_list, entry_of}
-use Rattle.graph_access.specs.Related.{RelatedIs}
-use Rattle.facts.specs.declared.Fact.{Fact}
-use Rattle.facts.specs.declared.Fact.TheVariants.{Statement}
-use Rattle.facts.specs.Facts.{statement_fact}
-use Rattle.facts.proofs.Folds.{some_next, some_here, some_none}
+use Rattle.determine_side_effects.specs.graph_crate.Check.{Graph}
+use Rattle.determine_side_effects.specs.graph_access_crate.declared.entries.RelatedStmt.{RelatedStmt}
+use Rattle.determine_side_effects.specs.graph_access_crate.Names.{flags, import_records, import_record_target, import_record_bits, related_module, related_statement, related, unreachable}
+use Rattle.determine_side_effects.specs.graph_access_crate.Words.{flag, some, module_of, statement_list, entry_of}
+use Rattle.determine_side_effects.specs.graph_access_crate.Related.{RelatedIs}
+use Rattle.determine_side_effects.specs.facts_crate.declared.Fact.{Fact}
+use Rattle.determine_side_effects.specs.facts_crate.declared.Fact.TheVariants.{Statement}
+use Rattle.determine_side_effects.specs.facts_crate.Facts.{statement_fact}
+use Rattle.determine_side_effects.proofs.facts_crate.Folds.{some_next, some_here, some_none}
 use Rattle.determine_side_effects.specs.Effects.{has_effects}
 use Rattle.entry_order.specs.Order.{module_of_entry}
 use Rattle.dynamic_entries.specs.Alive.{record_of, is_pure, uses_no_export, lets_live, is_alive}

@@ -1,10 +1,10 @@
 // Whether a dynamic entry is alive (dynamic_entries.rs, `is_dynamic_entry_alive`).
 ghost use Rattle.std.specs.Prelude.{◌≡◌, ℕ, ◌+◌, ◌*◌, ◌<◌, ◌≤◌, List, [], length, get_or};
-ghost use Rattle.graph_tables.specs.Tables.{header_in};
-ghost use Rattle.graph.specs.Check.{graph_in};
-ghost use Rattle.graph_access.specs.Names.{related};
-ghost use Rattle.graph_access.specs.Words.{entry_of};
-ghost use Rattle.facts.specs.Facts.{mark_count};
+ghost use Rattle.determine_side_effects.specs.graph_tables_crate.Tables.{header_in};
+ghost use Rattle.determine_side_effects.specs.graph_crate.Check.{graph_in};
+ghost use Rattle.determine_side_effects.specs.graph_access_crate.Names.{related};
+ghost use Rattle.determine_side_effects.specs.graph_access_crate.Words.{entry_of};
+ghost use Rattle.determine_side_effects.specs.facts_crate.Facts.{mark_count};
 ghost use Rattle.determine_side_effects.specs.Effects.{last_verdicts};
 ghost use Rattle.keep_rules.specs.Prepared.{Prepared};
 ghost use Rattle.marked.specs.Marked.{marked};
@@ -12,11 +12,11 @@ ghost use Rattle.entry_order.specs.Order.{module_of_entry};
 ghost use Rattle.dynamic_entries.specs.Alive.{uses_no_export, is_pure, lets_live};
 ghost use Rattle.dynamic_entries.specs.Tries.{Planned, PassedOver};
 
-use facts::Fact;
-use graph_access::entries::RelatedStmt;
-use graph_access::modules::{DYNAMIC_IMPORTS_USE_NO_EXPORT, TOP_LEVEL_PURE_DYNAMIC_IMPORT};
-use graph_access::{entries, modules};
-use index::{EntryIdx, ModuleIdx};
+use determine_side_effects::facts_crate::Fact;
+use determine_side_effects::graph_access_crate::entries::RelatedStmt;
+use determine_side_effects::graph_access_crate::modules::{DYNAMIC_IMPORTS_USE_NO_EXPORT, TOP_LEVEL_PURE_DYNAMIC_IMPORT};
+use determine_side_effects::graph_access_crate::{entries, modules};
+use determine_side_effects::index_crate::{EntryIdx, ModuleIdx};
 
 // Whether the import of a related statement is pure, and of a module without effects.
 pub fn is_pure(numbers: &[u32], tables: &[usize], e: EntryIdx, k: usize) -> bool
@@ -29,7 +29,7 @@ pub fn is_pure(numbers: &[u32], tables: &[usize], e: EntryIdx, k: usize) -> bool
     if determine_side_effects::has_effects(numbers, tables, ModuleIdx(target - 1)) {
         return false;
     }
-    facts::flag(
+    determine_side_effects::facts_crate::flag(
         modules::import_record_bits(numbers, tables, r.module, r.import_record),
         TOP_LEVEL_PURE_DYNAMIC_IMPORT,
     )
@@ -78,7 +78,7 @@ pub fn next_live(
     requires planned { Planned (graph_in numbers.now) plan.old users × (from ≤ (header_in numbers.now).entries) × (mark_count (graph_in numbers.now) ≤ 8 * length marks.now) }
     ensures { PassedOver (graph_in numbers.now) marks.now plan.old plan.new from result }
 {
-    let h = graph::header_of(numbers);
+    let h = determine_side_effects::graph_crate::header_of(numbers);
     let live = entry_order::live_at(h);
     let cycled = entry_order::cycled_at(h);
     let dead = entry_order::dead_at(h);
@@ -91,7 +91,7 @@ pub fn next_live(
             if plan[cycled + u] == 1 {
                 break 'entries;
             }
-            let unused = facts::flag(
+            let unused = determine_side_effects::facts_crate::flag(
                 modules::flags(numbers, tables, m),
                 DYNAMIC_IMPORTS_USE_NO_EXPORT,
             );

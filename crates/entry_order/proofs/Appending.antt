@@ -4,9 +4,9 @@ use mathlib.Core.Path.{◌≡◌, ap, ◌∙◌, sym}
 use mathlib.Core.List.{List, ◌∷◌, ◌++◌}
 use native.Mathlib.Omega.{arith}
 use lib.ListN.{length, get_or, take, drop, set}
-use Rattle.graph_format.specs.declared.Header.{Header}
-use Rattle.graph_tables.specs.Tables.{header_in}
-use Rattle.graph.specs.Check.{Graph, graph_in}
+use Rattle.facts.specs.graph_format_crate.declared.Header.{Header}
+use Rattle.facts.specs.graph_tables_crate.Tables.{header_in}
+use Rattle.facts.specs.graph_crate.Check.{Graph, graph_in}
 use Rattle.entry_order.specs.Chains.{place_of, Chained, Entries, of_module}
 use Rattle.entry_order.proofs.Places.{Place, place_is, left_at, left_none, left_all, left_next}
 use Rattle.entry_order.proofs.Filling.{Filling, fill_start, fill-same, fill-room, fill_step, fill_end, fill_done}

@@ -6,9 +6,9 @@ use mathlib.Core.List.{List, [], ◌∷◌, ◌++◌}
 use native.Mathlib.Omega.{arith}
 use lib.Dec.{eqb}
 use lib.ListN.{length, get_or, take, drop, set}
-use Rattle.graph.specs.Check.{Graph}
-use Rattle.graph_access.specs.Names.{entry_kind}
-use Rattle.graph_access.specs.Words.{entry_of}
+use Rattle.facts.specs.graph_crate.Check.{Graph}
+use Rattle.facts.specs.graph_access_crate.Names.{entry_kind}
+use Rattle.facts.specs.graph_access_crate.Words.{entry_of}
 use Rattle.entry_order.specs.Order.{those, is_dynamic, is_user_defined}
 use Rattle.entry_order.specs.Kinds.{of_kind}
 use Rattle.entry_order.proofs.Those.{those_here, those_not}

@@ -5,8 +5,8 @@ use mathlib.Core.Bool.{Bool, true, false, ◌||◌}
 use mathlib.Core.List.{List, ◌++◌}
 use native.Mathlib.Omega.{arith}
 use lib.ListN.{length, get_or}
-use Rattle.graph.specs.Check.{Graph}
-use Rattle.graph_access.specs.Words.{tabulate}
+use Rattle.facts.specs.graph_crate.Check.{Graph}
+use Rattle.facts.specs.graph_access_crate.Words.{tabulate}
 use Rattle.keep_record.specs.Lines.{elem}
 use Rattle.keep_record.proofs.Adding.{elem_at, elem-append}
 use Rattle.keep_record.proofs.Counting.{elem_place}

@@ -8,10 +8,10 @@ use borrow.Author.Tests.{eqb-true, eqb-false, eq-eqb, ne_eqb, not_true, not-fals
 use lib.Dec.{eqb}
 use lib.ListN.{length, get_or, take, drop, length-append}
 use lib.Seq.{length-take-le}
-use Rattle.graph_tables.specs.Tables.{header_in}
-use Rattle.graph.specs.Check.{Graph, graph_in}
-use Rattle.graph_access.specs.Names.{entry_module}
-use Rattle.graph_access.specs.Words.{tabulate, entry_of}
+use Rattle.facts.specs.graph_tables_crate.Tables.{header_in}
+use Rattle.facts.specs.graph_crate.Check.{Graph, graph_in}
+use Rattle.facts.specs.graph_access_crate.Names.{entry_module}
+use Rattle.facts.specs.graph_access_crate.Words.{tabulate, entry_of}
 use Rattle.keep_record.specs.Lines.{elem}
 use Rattle.keep_record.proofs.Rows.{tabulate_more}
 use Rattle.keep_record.proofs.Adding.{elem_more, left_false, right_false}

@@ -8,11 +8,11 @@ use borrow.Author.Tests.{eqb-true, eqb-false}
 use lib.Dec.{eqb}
 use lib.ListN.{length, get_or, set, length-set}
 use lib.Seq.{get_or-set_same, get_or-set_other}
-use Rattle.graph_format.specs.declared.Header.{Header}
-use Rattle.graph_tables.specs.Tables.{header_in}
-use Rattle.graph.specs.Check.{Graph, graph_in}
-use Rattle.graph_access.specs.Names.{entry_module}
-use Rattle.graph_access.specs.Words.{entry_of}
+use Rattle.facts.specs.graph_format_crate.declared.Header.{Header}
+use Rattle.facts.specs.graph_tables_crate.Tables.{header_in}
+use Rattle.facts.specs.graph_crate.Check.{Graph, graph_in}
+use Rattle.facts.specs.graph_access_crate.Names.{entry_module}
+use Rattle.facts.specs.graph_access_crate.Words.{entry_of}
 use Rattle.entry_order.specs.Order.{module_of_entry}
 use Rattle.entry_order.specs.Chains.{place_of, Chained, Entries}
 use Rattle.entry_order.proofs.Places.{place_here, place_later}

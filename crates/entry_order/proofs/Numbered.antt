@@ -8,7 +8,7 @@ use borrow.Author.Tests.{eqb-true, eqb-false}
 use lib.Dec.{eqb}
 use lib.ListN.{length, get_or, drop, set}
 use lib.Seq.{get_or-set_same, get_or-set_other}
-use Rattle.graph_access.specs.Words.{tabulate}
+use Rattle.facts.specs.graph_access_crate.Words.{tabulate}
 use Rattle.facts.proofs.Folds.{tabulate_next, tabulate-none}
 use Rattle.keep_record.proofs.Rows.{tabulate-length}
 use Rattle.entry_order.proofs.Filling.{Filling, fill_start, fill-same, fill_step, fill_end, fill_done}

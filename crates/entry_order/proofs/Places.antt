@@ -9,8 +9,8 @@ use borrow.Author.Tests.{eqb-true, eqb-false, eq-eqb, ne_eqb}
 use lib.Dec.{eqb}
 use lib.ListN.{length, get_or, take, drop, drop_of_length-le}
 use lib.Seq.{drop-cons, get_or-take, length-take-le}
-use Rattle.graph.specs.Check.{Graph}
-use Rattle.graph_access.specs.Words.{tabulate}
+use Rattle.facts.specs.graph_crate.Check.{Graph}
+use Rattle.facts.specs.graph_access_crate.Words.{tabulate}
 use Rattle.keep_record.specs.Lines.{elem}
 use Rattle.entry_order.specs.Order.{those, module_of_entry}
 use Rattle.entry_order.specs.Chains.{place_of, of_module}

@@ -8,10 +8,10 @@ use borrow.Author.Tests.{ltb-true, ltb-false}
 use lib.Dec.{ltb}
 use lib.ListN.{length, get_or, take, drop, length-append}
 use lib.Seq.{length-take-le, length_front, take_at, drop_at, drop-drop, drop-append-add, get_or-take, get_or-drop}
-use Rattle.graph_format.specs.declared.Header.{Header}
-use Rattle.graph_tables.specs.Tables.{header_in}
-use Rattle.graph.specs.Check.{Graph, graph_in}
-use Rattle.graph_access.specs.Words.{tabulate}
+use Rattle.facts.specs.graph_format_crate.declared.Header.{Header}
+use Rattle.facts.specs.graph_tables_crate.Tables.{header_in}
+use Rattle.facts.specs.graph_crate.Check.{Graph, graph_in}
+use Rattle.facts.specs.graph_access_crate.Words.{tabulate}
 use Rattle.keep_record.specs.Lines.{elem}
 use Rattle.keep_record.proofs.Rows.{tabulate-length}
 use Rattle.entry_order.specs.Order.{those, grouped, module_of_entry, is_dynamic, is_user_defined, grouped_entries, user_entries, dynamic_entries}

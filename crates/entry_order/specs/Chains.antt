@@ -1,6 +1,6 @@
 -- Lists of entries chained by module, so that the entries of one module are found without a search.
 use Rattle.std.specs.Prelude.{ℕ, zero, suc, ◌+◌, ◌-◌, ◌<◌, ◌≤◌, ◌≡◌, Bool, true, false, List, eqb, length, get_or, take}
-use Rattle.graph.specs.Check.{Graph}
+use Rattle.facts.specs.graph_crate.Check.{Graph}
 use Rattle.entry_order.specs.Order.{those, module_of_entry}
 
 -- 1 more than the first place of a list, among k from place i on, whose entry is of module u; 0 where there is none

@@ -1,8 +1,8 @@
 -- Entries in the order in which a run takes them (000, `include_statements`: `self.entries` is a map by module, in the order of first mention).
 use Rattle.std.specs.Prelude.{ℕ, zero, suc, Bool, true, false, not, List, [], ◌∷◌, ◌++◌, eqb}
-use Rattle.graph.specs.Check.{Graph}
-use Rattle.graph_access.specs.Names.{entry_module, entry_kind}
-use Rattle.graph_access.specs.Words.{tabulate, entry_of}
+use Rattle.facts.specs.graph_crate.Check.{Graph}
+use Rattle.facts.specs.graph_access_crate.Names.{entry_module, entry_kind}
+use Rattle.facts.specs.graph_access_crate.Words.{tabulate, entry_of}
 use Rattle.keep_record.specs.Lines.{elem}
 
 -- those of a list that pass a test

@@ -5,7 +5,7 @@
 -- on a cycle by `cycles::find_cycles`, helpers by `passes::collect_helpers` before the runtime stage. A try that finds an entry dead marks the same
 -- import records whenever it happens, so one word an entry is enough.
 use Rattle.std.specs.Prelude.{ℕ, ◌+◌, ◌*◌, ◌<◌, ◌≤◌, ◌≡◌, Bool, true, false, ◌&&◌, List, eqb, ltb, length, get_or}
-use Rattle.graph_format.specs.declared.Header.{Header}
+use Rattle.facts.specs.graph_format_crate.declared.Header.{Header}
 
 abbrev pub live_at : Header → ℕ
 live_at h = h.entries

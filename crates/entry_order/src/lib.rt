@@ -1,17 +1,17 @@
 // Entries in the order in which a run takes them: grouped by module, and parted into user-defined and dynamic ones (include_statements.rs).
 ghost use Rattle.std.specs.Prelude.{◌≡◌, ℕ, ◌+◌, ◌*◌, ◌<◌, ◌≤◌, List, [], ◌∷◌, ◌++◌, length, get_or, take, drop};
-ghost use Rattle.graph_tables.specs.Tables.{header_in};
-ghost use Rattle.graph.specs.Check.{graph_in};
-ghost use Rattle.graph.specs.Loaded.{Loaded};
-ghost use Rattle.graph_access.specs.Words.{tabulate};
+ghost use Rattle.facts.specs.graph_tables_crate.Tables.{header_in};
+ghost use Rattle.facts.specs.graph_crate.Check.{graph_in};
+ghost use Rattle.facts.specs.graph_crate.Loaded.{Loaded};
+ghost use Rattle.facts.specs.graph_access_crate.Words.{tabulate};
 ghost use Rattle.entry_order.specs.Order.{those, grouped, module_of_entry, user_entries, dynamic_entries};
 ghost use Rattle.entry_order.specs.Kinds.{of_kind};
 ghost use Rattle.entry_order.specs.Chains.{Chained, Entries, of_module};
 ghost use Rattle.entry_order.specs.Plan.{Untouched, live_at, dead_at, cycled_at, words_at, plan_size};
 
-use graph_access::entries;
-use graph_format::Header;
-use index::{EntryIdx, ModuleIdx};
+use facts::graph_access_crate::entries;
+use facts::graph_format_crate::Header;
+use facts::index_crate::{EntryIdx, ModuleIdx};
 
 // Sets the first `count` words of a chain to 0.
 fn clear(chain: &mut [usize], count: usize)
@@ -31,7 +31,7 @@ pub fn link(numbers: &[u32], tables: &[usize], list: &[usize], count: usize, cha
     requires entries { Entries (graph_in numbers.now) list.now count × ((header_in numbers.now).modules + count ≤ length chain.old) }
     ensures { Chained (graph_in numbers.now) list.now count chain.new }
 {
-    let h = graph::header_of(numbers);
+    let h = facts::graph_crate::header_of(numbers);
     let modules = h.modules;
     clear(chain, modules);
     let mut i = count;
@@ -59,7 +59,7 @@ pub fn append_module(
     requires u_bound { (u.0 < (header_in numbers.now).modules) × ((header_in numbers.now).entries ≤ 1024) × (n + length (of_module (graph_in numbers.now) list.now count u.0) ≤ length out.old) }
     ensures { (result ≡ n + length (of_module (graph_in numbers.now) list.now count u.0)) × (out.new ≡ take n out.old ++ (of_module (graph_in numbers.now) list.now count u.0 ++ drop result out.old)) }
 {
-    let h = graph::header_of(numbers);
+    let h = facts::graph_crate::header_of(numbers);
     let modules = h.modules;
     let first = u.0;
     let mut at = chain[first];
@@ -115,7 +115,7 @@ fn copy_kind(
     let mut to = at;
     let mut i: usize = 0;
     while i < count {
-        let e = rows::wide(list[i]);
+        let e = facts::rows_crate::wide(list[i]);
         let is_dynamic = entries::entry_kind(numbers, tables, EntryIdx(e)) == 2;
         if is_dynamic == dynamic {
             plan[to] = e;
@@ -152,7 +152,7 @@ pub fn split_entries(
     ensures value { (result ≡ length (user_entries (graph_in numbers.now))) × (result ≤ (header_in numbers.now).entries) × (take (header_in numbers.now).entries plan.new ≡ user_entries (graph_in numbers.now) ++ dynamic_entries (graph_in numbers.now)) }
     ensures untouched { Untouched 0 (header_in numbers.now).entries plan.old plan.new × Entries (graph_in numbers.now) plan.new (header_in numbers.now).entries }
 {
-    let h = graph::header_of(numbers);
+    let h = facts::graph_crate::header_of(numbers);
     let count = h.entries;
     number(plan, count);
     group(numbers, tables, plan, count, chain, list);

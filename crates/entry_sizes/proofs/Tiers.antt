@@ -9,9 +9,9 @@ use borrow.Author.Tests.{leb-true}
 use lib.Dec.{leb}
 use lib.ListN.{length, get_or, replicate, length-replicate}
 use Rattle.bit_row.proofs.Cleared.{zeros_unset}
-use Rattle.graph_format.specs.declared.Header.{Header}
-use Rattle.tables.proofs.Zeros.{zeros_everywhere}
-use Rattle.graph_tables.specs.Tables.{header_in}
+use Rattle.determine_side_effects.specs.graph_format_crate.declared.Header.{Header}
+use Rattle.determine_side_effects.proofs.tables_crate.Zeros.{zeros_everywhere}
+use Rattle.determine_side_effects.specs.graph_tables_crate.Tables.{header_in}
 use Rattle.determine_side_effects.proofs.Lists.{both}
 use Rattle.entry_graph.specs.Memory.{Stored}
 use Rattle.entry_graph.proofs.Entries.{stored_none}

@@ -2,15 +2,15 @@
 // Up to 128 modules there is room for all of them as successors of each. Above, there is room for 16 at first; where a module has more, the ordering
 // graph is built again with room for 1,024.
 ghost use Rattle.std.specs.Prelude.{◌≡◌, ℕ, ◌<◌, ◌≤◌, ◌&&◌, leb, length, get_or};
-ghost use Rattle.graph_tables.specs.Tables.{header_in};
-ghost use Rattle.graph.specs.Check.{graph_in};
-ghost use Rattle.graph.specs.Loaded.{Loaded};
+ghost use Rattle.determine_side_effects.specs.graph_tables_crate.Tables.{header_in};
+ghost use Rattle.determine_side_effects.specs.graph_crate.Check.{graph_in};
+ghost use Rattle.determine_side_effects.specs.graph_crate.Loaded.{Loaded};
 ghost use Rattle.entry_order.specs.Plan.{plan_size};
 ghost use Rattle.dynamic_entries.specs.Tries.{Planned, Unlived};
 ghost use Rattle.dynamic_entries.specs.Parts.{Cleared, Parted, Orders};
 
 use dynamic_entries::{Ordered, order_in};
-use graph_format::Header;
+use determine_side_effects::graph_format_crate::Header;
 
 // Sorts the dynamic entries with rows for a small graph.
 fn order_small(numbers: &[u32], tables: &[usize], users: usize, plan: &mut [usize]) -> Ordered
@@ -225,7 +225,7 @@ pub fn order_entries(numbers: &[u32], tables: &[usize], plan: &mut [usize]) -> u
     requires numbers_in_bounds { (plan_size (header_in numbers.now) ≤ length plan.old) × (length plan.old < 4294967296) × ((i : ℕ) → get_or plan.old i 0 ≡ 0) }
     ensures { Planned (graph_in numbers.now) plan.new result × Unlived (graph_in numbers.now) plan.new }
 {
-    let h = graph::header_of(numbers);
+    let h = determine_side_effects::graph_crate::header_of(numbers);
     if is_within(h, 16) {
         return order_few(numbers, tables, h, plan);
     }

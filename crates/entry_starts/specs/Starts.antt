@@ -1,10 +1,10 @@
 -- What an entry starts (docs/RULES.md, Steps 1 and 4; 000:316-339; 003:43-62).
 use Rattle.std.specs.Prelude.{ℕ, zero, suc, Bool, true, false, List, [], ◌∷◌, ◌++◌, map}
-use Rattle.graph.specs.Check.{Graph}
-use Rattle.graph_access.specs.Names.{owner, declaring_statements, entry_references, only}
-use Rattle.graph_access.specs.Words.{module_of, symbol_of, normal}
-use Rattle.facts.specs.declared.Fact.{Fact}
-use Rattle.facts.specs.Facts.{module_fact, statement_fact, checked_fact, bailout_fact}
+use Rattle.determine_side_effects.specs.graph_crate.Check.{Graph}
+use Rattle.determine_side_effects.specs.graph_access_crate.Names.{owner, declaring_statements, entry_references, only}
+use Rattle.determine_side_effects.specs.graph_access_crate.Words.{module_of, symbol_of, normal}
+use Rattle.determine_side_effects.specs.facts_crate.declared.Fact.{Fact}
+use Rattle.determine_side_effects.specs.facts_crate.Facts.{module_fact, statement_fact, checked_fact, bailout_fact}
 
 -- the statements that declare the symbol itself (`include_declaring_statements`)
 unfoldable pub declared : Graph → ℕ → List Fact

@@ -1,17 +1,17 @@
 // What an entry starts: the declaring statements and a checked use of each entry reference, then the module (include_statements.rs,
 // dynamic_entries.rs).
 ghost use Rattle.std.specs.Prelude.{◌≡◌, ℕ, ◌<◌, ◌≤◌, true, List, [], ◌∷◌};
-ghost use Rattle.graph_tables.specs.Tables.{header_in};
-ghost use Rattle.graph.specs.Check.{graph_in};
+ghost use Rattle.determine_side_effects.specs.graph_tables_crate.Tables.{header_in};
+ghost use Rattle.determine_side_effects.specs.graph_crate.Check.{graph_in};
 ghost use Rattle.keep_rules.specs.Prepared.{Prepared};
-ghost use Rattle.facts.specs.Facts.{Good};
+ghost use Rattle.determine_side_effects.specs.facts_crate.Facts.{Good};
 ghost use Rattle.keep_record.specs.Held.{lines_of};
 ghost use Rattle.entry_starts.specs.Starts.{declared, reference_starts, module_starts, user_starts};
 ghost use Rattle.entry_starts.specs.Working.{Working, Started};
 
-use facts::{Fact, Reason};
-use graph_access::{modules, symbols};
-use index::{ModuleIdx, SymbolIdx};
+use determine_side_effects::facts_crate::{Fact, Reason};
+use determine_side_effects::graph_access_crate::{modules, symbols};
+use determine_side_effects::index_crate::{ModuleIdx, SymbolIdx};
 use keep_record::{Added, Stage};
 
 // Starts one fact.

@@ -1,7 +1,7 @@
 -- A row of marks that holds a list of facts.
 use Rattle.std.specs.Prelude.{ℕ, ◌*◌, ◌≤◌, ◌≡◌, List, [], ◌∷◌, ◌++◌, map, length}
 use Rattle.bit_row.specs.Row.{bit_at}
-use Rattle.graph.specs.Check.{Graph}
+use Rattle.facts.specs.graph_crate.Check.{Graph}
 use Rattle.facts.specs.declared.Fact.{Fact}
 use Rattle.facts.specs.Facts.{mark_of, mark_count}
 use Rattle.keep_record.specs.Lines.{elem}

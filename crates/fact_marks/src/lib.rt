@@ -1,7 +1,7 @@
 // A row of marks that holds a list of facts.
 ghost use Rattle.std.specs.Prelude.{◌≡◌, ◌*◌, ◌≤◌, length};
-ghost use Rattle.graph.specs.Check.{graph_in};
-ghost use Rattle.graph.specs.Loaded.{Loaded};
+ghost use Rattle.facts.specs.graph_crate.Check.{graph_in};
+ghost use Rattle.facts.specs.graph_crate.Loaded.{Loaded};
 ghost use Rattle.facts.specs.Facts.{Good, mark_count};
 ghost use Rattle.fact_marks.specs.Marks.{MarksOne};
 

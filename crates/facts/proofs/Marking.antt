@@ -4,13 +4,13 @@ use mathlib.Core.Path.{◌≡◌}
 use mathlib.Core.List.{List}
 use native.Mathlib.Omega.{arith}
 use lib.ListN.{length}
-use Rattle.graph_format.specs.declared.Header.{Header}
-use Rattle.graph_tables.specs.Tables.{header_in, first_of}
-use Rattle.graph.specs.Check.{graph_in}
+use Rattle.graph_access.specs.graph_format_crate.declared.Header.{Header}
+use Rattle.graph_access.specs.graph_tables_crate.Tables.{header_in, first_of}
+use Rattle.graph_access.specs.graph_crate.Check.{graph_in}
 use Rattle.facts.specs.declared.Fact.{Fact}
 use Rattle.graph_access.specs.Words.{statement_list}
 use Rattle.facts.specs.Facts.{module_fact, statement_fact, use_fact, checked_fact, forward_fact, bailout_fact, Good, mark_of, mark_count}
-use Rattle.graph.specs.Loaded.{Loaded}
+use Rattle.graph_access.specs.graph_crate.Loaded.{Loaded}
 use Rattle.graph_access.proofs.Indexes.{statement_number_below}
 
 module _ {numbers tables : List ℕ} (t : Loaded numbers tables) where

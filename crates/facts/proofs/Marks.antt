@@ -6,12 +6,12 @@ use mathlib.Core.List.{List}
 use native.Mathlib.Omega.{arith}
 use borrow.Author.Tests.{lt-ltb, le-ltb}
 use lib.Dec.{ltb}
-use Rattle.graph_tables.specs.Tables.{header_in, first_of}
-use Rattle.graph.specs.Check.{graph_in}
+use Rattle.graph_access.specs.graph_tables_crate.Tables.{header_in, first_of}
+use Rattle.graph_access.specs.graph_crate.Check.{graph_in}
 use Rattle.facts.specs.declared.Fact.{Fact}
 use Rattle.facts.specs.declared.Fact.TheVariants.{Module, Statement, Use, CheckedUse, Forward, Bailout}
 use Rattle.facts.specs.Facts.{module_fact, statement_fact, use_fact, checked_fact, forward_fact, bailout_fact, kind_of, first_part, second_part, fact_of, Good, mark_of, mark_count}
-use Rattle.graph.specs.Loaded.{Loaded}
+use Rattle.graph_access.specs.graph_crate.Loaded.{Loaded}
 use Rattle.facts.proofs.Marking.{good_module, good_bailout, good_forward, good_use, good_checked, good_statement, good-number, module_mark, bailout-mark, statement-mark, forward-mark, use-mark, checked-mark}
 use Rattle.graph_access.proofs.Indexes.{statement_number_injective}
 

@@ -1,10 +1,10 @@
 -- Facts and their numbers (docs/RULES.md, Facts).
 use Rattle.std.specs.Prelude.{ℕ, ◌+◌, ◌*◌, ◌-◌, ◌<◌, ◌≡◌, Bool, true, false, List, [], ◌∷◌, eqb, length}
-use Rattle.graph.specs.Check.{Graph}
-use Rattle.graph_tables.specs.Tables.{first_of}
-use Rattle.index.specs.declared.ModuleIdx.{ModuleIdx}
-use Rattle.index.specs.declared.SymbolIdx.{SymbolIdx}
-use Rattle.index.specs.declared.StmtIdx.{StmtIdx}
+use Rattle.graph_access.specs.graph_crate.Check.{Graph}
+use Rattle.graph_access.specs.graph_tables_crate.Tables.{first_of}
+use Rattle.graph_access.specs.index_crate.declared.ModuleIdx.{ModuleIdx}
+use Rattle.graph_access.specs.index_crate.declared.SymbolIdx.{SymbolIdx}
+use Rattle.graph_access.specs.index_crate.declared.StmtIdx.{StmtIdx}
 use Rattle.facts.specs.declared.Reason.{Reason}
 use Rattle.facts.specs.declared.Fact.{Fact}
 use Rattle.facts.specs.declared.Fact.TheVariants.{Module, Statement, Use, CheckedUse, Forward, Bailout}

@@ -1,13 +1,23 @@
 // What can be kept: facts, their numbers and their marks.
 ghost use Rattle.std.specs.Prelude.{◌≡◌, ℕ, ◌+◌, ◌*◌, ◌<◌, ◌≤◌, length};
-ghost use Rattle.graph_tables.specs.Tables.{header_in};
-ghost use Rattle.graph.specs.Check.{graph_in};
-ghost use Rattle.graph_access.specs.Words.{flag as flagOf};
+ghost use Rattle.graph_access.specs.graph_tables_crate.Tables.{header_in};
+ghost use Rattle.graph_access.specs.graph_crate.Check.{graph_in};
+ghost use Rattle.graph_access.specs.Words.{flag as flag_of};
 ghost use Rattle.facts.specs.Facts.{kind_of, first_part, second_part, fact_of, Good, mark_of, mark_count};
-ghost use Rattle.graph.specs.Loaded.{Loaded};
+ghost use Rattle.graph_access.specs.graph_crate.Loaded.{Loaded};
+
+// The crates below, for the crates above, which list this one alone.
+pub use graph_access as graph_access_crate;
+pub use graph_access::graph_crate;
+pub use graph_access::graph_entries_crate;
+pub use graph_access::graph_format_crate;
+pub use graph_access::graph_tables_crate;
+pub use graph_access::index_crate;
+pub use graph_access::rows_crate;
+pub use graph_access::tables_crate;
 
 use graph_access::statements;
-use index::{ModuleIdx, StmtIdx, SymbolIdx};
+use graph_access::index_crate::{ModuleIdx, StmtIdx, SymbolIdx};
 
 // Why a symbol is used: Normal 1, EntryExport 2, ReExportDynamicExports 4, JsonDefaultExportSelfReference 8,
 // SimulatedFacadeChunk 16, added up.
@@ -30,7 +40,7 @@ pub enum Fact {
 // Bit k of a number.
 pub fn flag(x: usize, k: usize) -> bool
     requires { k < 32 }
-    ensures { result ≡ flagOf k x }
+    ensures { result ≡ flag_of k x }
 {
     (x >> k) % 2 == 1
 }
@@ -112,7 +122,7 @@ pub fn mark_count(numbers: &[u32], tables: &[usize]) -> usize
     requires { Loaded numbers.now tables.now }
     ensures { result ≡ mark_count (graph_in numbers.now) }
 {
-    let h = graph::header_of(numbers);
+    let h = graph_access::graph_crate::header_of(numbers);
     2 * h.modules + h.statements + 63 * h.symbols
 }
 
@@ -122,7 +132,7 @@ pub fn mark_of(numbers: &[u32], tables: &[usize], fact: Fact) -> usize
     requires good { Good (graph_in numbers.now) fact }
     ensures { (result ≡ mark_of (graph_in numbers.now) fact) × (result < mark_count (graph_in numbers.now)) }
 {
-    let h = graph::header_of(numbers);
+    let h = graph_access::graph_crate::header_of(numbers);
     match fact {
         Fact::Module(m) => m.0,
         Fact::Bailout(m) => h.modules + m.0,

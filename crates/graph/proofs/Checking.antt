@@ -8,15 +8,15 @@ use native.Mathlib.Omega.{arith}
 use borrow.Author.Tests.{lt-ltb, le-ltb}
 use lib.ListN.{length, get_or, take}
 use lib.Seq.{get_or-take}
-use Rattle.rows.specs.declared.Walk.{Walk}
-use Rattle.rows.specs.declared.Walk.TheVariants.{At, Fault}
-use Rattle.rows.specs.Walk.{Parsed, got, fault, and_then, value, cells, walk_of, Item}
-use Rattle.rows.proofs.Walks.{at_got, fault_is}
-use Rattle.rows.proofs.Cells.{Cells, cells_got, then_got}
-use Rattle.rows.proofs.Items.{got_same, rows_end, plain_plain}
-use Rattle.graph_format.specs.declared.Header.{Header}
-use Rattle.graph_format.specs.Format.{header_rules, header_of, modules_at, symbols_at, statements_at, entries_at}
-use Rattle.graph_tables.specs.Tables.{items_of, end_of, header_in, modules_read, modules_in, symbols_read, symbols_in, statements_read, statements_in, entries_read, entries_in}
+use Rattle.graph_entries.specs.rows_crate.declared.Walk.{Walk}
+use Rattle.graph_entries.specs.rows_crate.declared.Walk.TheVariants.{At, Fault}
+use Rattle.graph_entries.specs.rows_crate.Walk.{Parsed, got, fault, and_then, value, cells, walk_of, Item}
+use Rattle.graph_entries.proofs.rows_crate.Walks.{at_got, fault_is}
+use Rattle.graph_entries.proofs.rows_crate.Cells.{Cells, cells_got, then_got}
+use Rattle.graph_entries.proofs.rows_crate.Items.{got_same, rows_end, plain_plain}
+use Rattle.graph_entries.specs.graph_format_crate.declared.Header.{Header}
+use Rattle.graph_entries.specs.graph_format_crate.Format.{header_rules, header_of, modules_at, symbols_at, statements_at, entries_at}
+use Rattle.graph_entries.specs.graph_tables_crate.Tables.{items_of, end_of, header_in, modules_read, modules_in, symbols_read, symbols_in, statements_read, statements_in, entries_read, entries_in}
 use Rattle.graph_entries.proofs.Parts.{then_fault, then_at}
 use Rattle.graph.specs.declared.Checked.TheVariants.{Accepted, Refused}
 use Rattle.graph.specs.Check.{Graph, helpers_at, graph_at, walked, later_rules, check_of, answer_of, graph_in, HeaderRead, OnceAccepted}

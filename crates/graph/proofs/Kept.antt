@@ -3,12 +3,12 @@ use Prim.Native.Nat.{ℕ, ◌<◌, ◌≤◌}
 use mathlib.Core.Path.{refl}
 use mathlib.Core.List.{List}
 use native.Mathlib.Omega.{arith}
-use Rattle.graph_format.specs.declared.Header.{Header}
-use Rattle.tables.specs.Layout.{start_of, symbol_places, first_statements, statement_places, entry_places, Laid, Kept}
-use Rattle.tables.proofs.Sections.{laid_less, laid_kept, section_kept}
-use Rattle.graph_tables.specs.Tables.{header_in}
-use Rattle.graph_tables.specs.Places.{SymbolTable, StatementTable, EntryTable}
-use Rattle.graph_tables.proofs.Sections.{modules_kept}
+use Rattle.graph_entries.specs.graph_format_crate.declared.Header.{Header}
+use Rattle.graph_entries.specs.tables_crate.Layout.{start_of, symbol_places, first_statements, statement_places, entry_places, Laid, Kept}
+use Rattle.graph_entries.proofs.tables_crate.Sections.{laid_less, laid_kept, section_kept}
+use Rattle.graph_entries.specs.graph_tables_crate.Tables.{header_in}
+use Rattle.graph_entries.specs.graph_tables_crate.Places.{SymbolTable, StatementTable, EntryTable}
+use Rattle.graph_entries.proofs.graph_tables_crate.Sections.{modules_kept}
 use Rattle.graph.specs.Loaded.{Loaded}
 
 module _ {h : Header} {n : ℕ} {xs ys : List ℕ} (t : Laid h n xs) (j : ℕ) (b : j ≤ n) (q : Kept (start_of h j) xs ys) {numbers : List ℕ} where

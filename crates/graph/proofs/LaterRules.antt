@@ -10,14 +10,14 @@ use borrow.Author.Tests.{lt-ltb, le-ltb, eq-eqb, ne_eqb}
 use lib.Dec.{eqb}
 use lib.Seq.{drop-cons}
 use lib.ListN.{length, get_or, drop, drop_of_length-le}
-use Rattle.rows.specs.declared.Walk.TheVariants.{At, Fault}
-use Rattle.rows.specs.Walk.{Parsed, got, fault, and_then, walk_of, Item, no_item}
-use Rattle.rows.proofs.Walks.{at_got, fault_is}
-use Rattle.graph_format.specs.declared.Header.{Header}
-use Rattle.graph_format.specs.Format.{module_rules, symbol_rules, namespace_limit, kind_of}
-use Rattle.graph_tables.specs.Tables.{header_in, modules_in, symbols_in}
-use Rattle.graph_tables.specs.Places.{ModuleTable, SymbolTable}
-use Rattle.graph_tables.proofs.Facts.{its-read, symbol-read}
+use Rattle.graph_entries.specs.rows_crate.declared.Walk.TheVariants.{At, Fault}
+use Rattle.graph_entries.specs.rows_crate.Walk.{Parsed, got, fault, and_then, walk_of, Item, no_item}
+use Rattle.graph_entries.proofs.rows_crate.Walks.{at_got, fault_is}
+use Rattle.graph_entries.specs.graph_format_crate.declared.Header.{Header}
+use Rattle.graph_entries.specs.graph_format_crate.Format.{module_rules, symbol_rules, namespace_limit, kind_of}
+use Rattle.graph_entries.specs.graph_tables_crate.Tables.{header_in, modules_in, symbols_in}
+use Rattle.graph_entries.specs.graph_tables_crate.Places.{ModuleTable, SymbolTable}
+use Rattle.graph_entries.proofs.graph_tables_crate.Facts.{its-read, symbol-read}
 use Rattle.graph.specs.Check.{graph_in, each, runtime_normal, owns_namespace, root_is_root, later_rules}
 
 -- the walk over all items, from item i on

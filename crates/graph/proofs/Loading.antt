@@ -4,19 +4,19 @@ use mathlib.Core.Path.{◌≡◌, ap, ◌∙◌, sym}
 use mathlib.Core.List.{List, [], ◌∷◌}
 use native.Mathlib.Nat.{one-mul}
 use native.Mathlib.Omega.{arith}
-use Rattle.rows.specs.declared.Walk.{Walk}
-use Rattle.rows.specs.declared.Walk.TheVariants.{At, Fault}
-use Rattle.rows.specs.Walk.{Parsed, got, and_then, many, firsts, plain_row, columns_of, walk_of, onward, Item, Rule, cells, number}
-use Rattle.graph_format.proofs.Chains.{onward_end}
-use Rattle.rows.proofs.Walks.{clash, cells_cons, at_got, fault_is, walk_then, walk-map, onward_at, onward_fault}
-use Rattle.rows.proofs.Items.{rows_end, plain_plain, many-length}
-use Rattle.graph_format.specs.declared.Header.{Header}
-use Rattle.graph_format.specs.Format.{modules_at, symbols_at, statements_at, entries_at}
-use Rattle.tables.specs.Layout.{sizes, start_of, module_places, symbol_places, first_statements, statement_places, entry_places, Laid, at_modules, at_symbols, at_entries, at_verdicts}
-use Rattle.tables.proofs.Sections.{section-length}
-use Rattle.graph_tables.specs.Tables.{items_of, end_of, header_in, modules_read, modules_in, symbols_read, symbols_in, statements_read, statements_in, entries_read, entries_in}
-use Rattle.graph_tables.specs.Places.{Filled, StatementsFilled, ModuleTable, SymbolTable, StatementTable, EntryTable}
-use Rattle.graph_tables.proofs.Sections.{placed_whole}
+use Rattle.graph_entries.specs.rows_crate.declared.Walk.{Walk}
+use Rattle.graph_entries.specs.rows_crate.declared.Walk.TheVariants.{At, Fault}
+use Rattle.graph_entries.specs.rows_crate.Walk.{Parsed, got, and_then, many, firsts, plain_row, columns_of, walk_of, onward, Item, Rule, cells, number}
+use Rattle.graph_entries.proofs.graph_format_crate.Chains.{onward_end}
+use Rattle.graph_entries.proofs.rows_crate.Walks.{clash, cells_cons, at_got, fault_is, walk_then, walk-map, onward_at, onward_fault}
+use Rattle.graph_entries.proofs.rows_crate.Items.{rows_end, plain_plain, many-length}
+use Rattle.graph_entries.specs.graph_format_crate.declared.Header.{Header}
+use Rattle.graph_entries.specs.graph_format_crate.Format.{modules_at, symbols_at, statements_at, entries_at}
+use Rattle.graph_entries.specs.tables_crate.Layout.{sizes, start_of, module_places, symbol_places, first_statements, statement_places, entry_places, Laid, at_modules, at_symbols, at_entries, at_verdicts}
+use Rattle.graph_entries.proofs.tables_crate.Sections.{section-length}
+use Rattle.graph_entries.specs.graph_tables_crate.Tables.{items_of, end_of, header_in, modules_read, modules_in, symbols_read, symbols_in, statements_read, statements_in, entries_read, entries_in}
+use Rattle.graph_entries.specs.graph_tables_crate.Places.{Filled, StatementsFilled, ModuleTable, SymbolTable, StatementTable, EntryTable}
+use Rattle.graph_entries.proofs.graph_tables_crate.Sections.{placed_whole}
 use Rattle.graph_entries.proofs.Parts.{then_fault, then_at}
 use Rattle.graph.specs.declared.Checked.TheVariants.{Accepted}
 use Rattle.graph.specs.Check.{Graph, helpers_at, graph_at, tail_walk, body_walk, check_of, answer_of, OnceRead, HeaderRead}

@@ -7,11 +7,11 @@ use native.Mathlib.Nat.{add-zero, one-mul}
 use native.Mathlib.Omega.{arith}
 use lib.Dec.{ltb}
 use lib.ListN.{length, get_or}
-use Rattle.rows.specs.Walk.{Parsed, got, fault, and_then, below, plain_row, firsts, cells, Item, no_item}
-use Rattle.rows.proofs.Cells.{Cells, no_fault, then_got}
-use Rattle.rows.proofs.Items.{many-length, rows_each, plain_plain}
-use Rattle.graph_format.specs.Format.{header_rules}
-use Rattle.graph_tables.specs.Tables.{items_of, header_in, modules_in, symbols_in}
+use Rattle.graph_entries.specs.rows_crate.Walk.{Parsed, got, fault, and_then, below, plain_row, firsts, cells, Item, no_item}
+use Rattle.graph_entries.proofs.rows_crate.Cells.{Cells, no_fault, then_got}
+use Rattle.graph_entries.proofs.rows_crate.Items.{many-length, rows_each, plain_plain}
+use Rattle.graph_entries.specs.graph_format_crate.Format.{header_rules}
+use Rattle.graph_entries.specs.graph_tables_crate.Tables.{items_of, header_in, modules_in, symbols_in}
 use Rattle.graph_entries.proofs.Parts.{then_at}
 use Rattle.graph.specs.declared.Checked.TheVariants.{Accepted}
 use Rattle.graph.specs.Check.{Graph, helpers_at, graph_at, walked, each, runtime_normal, owns_namespace, root_is_root, later_rules, check_of, answer_of, graph_in}

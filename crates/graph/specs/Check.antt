@@ -2,12 +2,12 @@
 use Rattle.std.specs.Prelude.{ℕ, zero, suc, ◌+◌, ◌-◌, ◌≡◌, Bool, true, false, List, [], ◌∷◌, map, ltb, leb, eqb, length, get_or}
 use Rattle.graph.specs.declared.Checked.{Checked}
 use Rattle.graph.specs.declared.Checked.TheVariants.{Accepted, Refused}
-use Rattle.rows.specs.declared.Walk.{Walk}
-use Rattle.rows.specs.declared.Walk.TheVariants.{At, Fault}
-use Rattle.rows.specs.Walk.{Parsed, got, fault, and_then, Rule, cells, many, firsts, plain_row, Item, no_item, walk_of, onward}
-use Rattle.graph_format.specs.declared.Header.{Header}
-use Rattle.graph_format.specs.Format.{header_rules, header_of, modules_at, symbols_at, statements_at, entries_at, kind_of}
-use Rattle.graph_tables.specs.Tables.{items_of, header_in, modules_in, symbols_in, statements_in, entries_in}
+use Rattle.graph_entries.specs.rows_crate.declared.Walk.{Walk}
+use Rattle.graph_entries.specs.rows_crate.declared.Walk.TheVariants.{At, Fault}
+use Rattle.graph_entries.specs.rows_crate.Walk.{Parsed, got, fault, and_then, Rule, cells, many, firsts, plain_row, Item, no_item, walk_of, onward}
+use Rattle.graph_entries.specs.graph_format_crate.declared.Header.{Header}
+use Rattle.graph_entries.specs.graph_format_crate.Format.{header_rules, header_of, modules_at, symbols_at, statements_at, entries_at, kind_of}
+use Rattle.graph_entries.specs.graph_tables_crate.Tables.{items_of, header_in, modules_in, symbols_in, statements_in, entries_in}
 
 -- the decoded graph: the header's numbers, the helper symbols, the modules, the symbols, the statements by module, the entries
 pub record Graph : Type 0 where

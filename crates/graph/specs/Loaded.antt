@@ -1,8 +1,8 @@
 -- An accepted graph and the tables of its places, as the stages above the check take them.
 use Rattle.std.specs.Prelude.{ℕ, ◌≤◌, ◌≡◌, List, length}
-use Rattle.tables.specs.Layout.{Laid, module_places, symbol_places, first_statements, statement_places, entry_places, at_verdicts}
-use Rattle.graph_tables.specs.Tables.{header_in}
-use Rattle.graph_tables.specs.Places.{ModuleTable, SymbolTable, StatementTable, EntryTable}
+use Rattle.graph_entries.specs.tables_crate.Layout.{Laid, module_places, symbol_places, first_statements, statement_places, entry_places, at_verdicts}
+use Rattle.graph_entries.specs.graph_tables_crate.Tables.{header_in}
+use Rattle.graph_entries.specs.graph_tables_crate.Places.{ModuleTable, SymbolTable, StatementTable, EntryTable}
 use Rattle.graph.specs.declared.Checked.TheVariants.{Accepted}
 use Rattle.graph.specs.Check.{check_of, answer_of}
 

@@ -1,17 +1,24 @@
 // The check of a graph, and its tables.
 ghost use Rattle.std.specs.Prelude.{◌≡◌, ℕ, ◌+◌, ◌*◌, ◌<◌, ◌≤◌, List, [], ◌∷◌, Bool, true, false, length, get_or, drop};
-ghost use Rattle.rows.specs.Walk.{walk_of, cells, no_item};
-ghost use Rattle.graph_format.specs.Format.{header_rules};
-ghost use Rattle.graph_tables.specs.Tables.{end_of, header_in, modules_read, modules_in, symbols_read, symbols_in};
-ghost use Rattle.graph_tables.specs.Places.{ModuleTable, SymbolTable, StatementTable, EntryTable};
+ghost use Rattle.graph_entries.specs.rows_crate.Walk.{walk_of, cells, no_item};
+ghost use Rattle.graph_entries.specs.graph_format_crate.Format.{header_rules};
+ghost use Rattle.graph_entries.specs.graph_tables_crate.Tables.{end_of, header_in, modules_read, modules_in, symbols_read, symbols_in};
+ghost use Rattle.graph_entries.specs.graph_tables_crate.Places.{ModuleTable, SymbolTable, StatementTable, EntryTable};
 ghost use Rattle.graph.specs.Check.{graph_at, tail_walk, body_walk, graph_in, each, runtime_normal, owns_namespace, root_is_root, later_rules, check_of, answer_of, OnceRead, OnceAccepted, HeaderRead};
 ghost use Rattle.graph.specs.Loaded.{Places, Loaded};
-ghost use Rattle.tables.specs.Layout.{start_of, Laid, Kept, module_places, symbol_places, first_statements, statement_places, entry_places, FitsSize, at_modules, at_symbols, at_first_statements, at_verdicts};
-ghost use Rattle.tables.specs.declared.Size.TheVariants.{Small, Middle, Large, Largest};
+ghost use Rattle.graph_entries.specs.tables_crate.Layout.{start_of, Laid, Kept, module_places, symbol_places, first_statements, statement_places, entry_places, FitsSize, at_modules, at_symbols, at_first_statements, at_verdicts};
+ghost use Rattle.graph_entries.specs.tables_crate.declared.Size.TheVariants.{Small, Middle, Large, Largest};
 
-use graph_format::Header;
-use rows::Walk;
-use tables::{LARGE_PLACES, LARGEST_PLACES, MIDDLE_PLACES, MODULES, SMALL_PLACES, SYMBOLS, Size};
+// The crates below, for the crates above, which list this one alone.
+pub use graph_entries as graph_entries_crate;
+pub use graph_entries::graph_format_crate;
+pub use graph_entries::graph_tables_crate;
+pub use graph_entries::rows_crate;
+pub use graph_entries::tables_crate;
+
+use graph_entries::graph_format_crate::Header;
+use graph_entries::rows_crate::Walk;
+use graph_entries::tables_crate::{LARGE_PLACES, LARGEST_PLACES, MIDDLE_PLACES, MODULES, SMALL_PLACES, SYMBOLS, Size};
 
 // How the check of a graph ends: accepted, or with a refusal's number and its place.
 #[derive(Clone, Copy)]
@@ -27,11 +34,11 @@ const ANY: usize = 4294967296;
 fn last_counts(numbers: &[u32], at: usize) -> Walk
     ensures { result ≡ walk_of (cells (drop 4 header_rules) numbers.now at) }
 {
-    match rows::counter(numbers, at, 16384, 1, ANY) {
+    match graph_entries::rows_crate::counter(numbers, at, 16384, 1, ANY) {
         Walk::Fault(n, p) => Walk::Fault(n, p),
-        Walk::At(a) => match rows::counter(numbers, a, 1024, 0, ANY) {
+        Walk::At(a) => match graph_entries::rows_crate::counter(numbers, a, 1024, 0, ANY) {
             Walk::Fault(n, p) => Walk::Fault(n, p),
-            Walk::At(b) => rows::counter(numbers, b, 32, 0, ANY),
+            Walk::At(b) => graph_entries::rows_crate::counter(numbers, b, 32, 0, ANY),
         },
     }
 }
@@ -40,11 +47,11 @@ fn last_counts(numbers: &[u32], at: usize) -> Walk
 pub fn header(numbers: &[u32]) -> Walk
     ensures { result ≡ walk_of (cells header_rules numbers.now 0) }
 {
-    match rows::row(numbers, 0, 2, 256, ANY, 0) {
+    match graph_entries::rows_crate::row(numbers, 0, 2, 256, ANY, 0) {
         Walk::Fault(n, p) => Walk::Fault(n, p),
-        Walk::At(a) => match rows::counter(numbers, a, 1024, 1, ANY) {
+        Walk::At(a) => match graph_entries::rows_crate::counter(numbers, a, 1024, 1, ANY) {
             Walk::Fault(n, p) => Walk::Fault(n, p),
-            Walk::At(b) => match rows::counter(numbers, b, 16384, 1, ANY) {
+            Walk::At(b) => match graph_entries::rows_crate::counter(numbers, b, 16384, 1, ANY) {
                 Walk::Fault(n, p) => Walk::Fault(n, p),
                 Walk::At(c) => last_counts(numbers, c),
             },
@@ -58,13 +65,13 @@ pub fn header_of(numbers: &[u32]) -> Header
     ensures { result ≡ header_in numbers.now }
 {
     Header {
-        options: rows::wide(numbers[0]),
-        runtime: rows::wide(numbers[1]),
-        modules: rows::wide(numbers[2]),
-        symbols: rows::wide(numbers[3]),
-        statements: rows::wide(numbers[4]),
-        entries: rows::wide(numbers[5]),
-        helpers: rows::wide(numbers[6]),
+        options: graph_entries::rows_crate::wide(numbers[0]),
+        runtime: graph_entries::rows_crate::wide(numbers[1]),
+        modules: graph_entries::rows_crate::wide(numbers[2]),
+        symbols: graph_entries::rows_crate::wide(numbers[3]),
+        statements: graph_entries::rows_crate::wide(numbers[4]),
+        entries: graph_entries::rows_crate::wide(numbers[5]),
+        helpers: graph_entries::rows_crate::wide(numbers[6]),
     }
 }
 
@@ -75,7 +82,7 @@ fn runtime_normal(numbers: &[u32], h: Header, modules: &[usize]) -> bool
     ensures { result ≡ runtime_normal (graph_in numbers.now) }
 {
     if h.runtime < h.modules {
-        return graph_tables::module_number(numbers, modules, h.runtime, 0) == 1;
+        return graph_entries::graph_tables_crate::module_number(numbers, modules, h.runtime, 0) == 1;
     }
     false
 }
@@ -87,11 +94,11 @@ fn owns_namespace(numbers: &[u32], modules: &[usize], symbols: &[usize], m: usiz
     requires m_bound { m < (header_in numbers.now).modules }
     ensures { result ≡ owns_namespace (symbols_in numbers.now) m (get_or (modules_in numbers.now) m no_item) }
 {
-    let namespace = graph_tables::module_number(numbers, modules, m, 7);
+    let namespace = graph_entries::graph_tables_crate::module_number(numbers, modules, m, 7);
     if namespace == 0 {
         return true;
     }
-    graph_tables::symbol_number(numbers, symbols, namespace - 1, 0) == m
+    graph_entries::graph_tables_crate::symbol_number(numbers, symbols, namespace - 1, 0) == m
 }
 
 // Whether the root of symbol s is its own root.
@@ -100,8 +107,8 @@ fn root_is_root(numbers: &[u32], symbols: &[usize], s: usize) -> bool
     requires s_bound { s < (header_in numbers.now).symbols }
     ensures { result ≡ root_is_root (symbols_in numbers.now) s (get_or (symbols_in numbers.now) s no_item) }
 {
-    let root = graph_tables::symbol_number(numbers, symbols, s, 2);
-    graph_tables::symbol_number(numbers, symbols, root, 2) == root
+    let root = graph_entries::graph_tables_crate::symbol_number(numbers, symbols, s, 2);
+    graph_entries::graph_tables_crate::symbol_number(numbers, symbols, root, 2) == root
 }
 
 // Every module's namespace is its own, or the first that is not.
@@ -159,7 +166,7 @@ fn tail(numbers: &[u32], h: Header, at: usize, tables: &mut [usize]) -> Walk
     requires h_value { (h ≡ header_in numbers.now) × (at ≡ end_of (symbols_read numbers.now)) }
     ensures { (result ≡ tail_walk numbers.now at) × OnceRead result (StatementTable numbers.now (first_statements tables.new) (statement_places tables.new) × EntryTable numbers.now (entry_places tables.new)) × Kept (start_of h at_first_statements) tables.old tables.new }
 {
-    match graph_tables::statements(numbers, at, h, tables) {
+    match graph_entries::graph_tables_crate::statements(numbers, at, h, tables) {
         Walk::Fault(n, p) => Walk::Fault(n, p),
         Walk::At(q) => graph_entries::entries(numbers, q, h, tables),
     }
@@ -171,7 +178,7 @@ fn body(numbers: &[u32], h: Header, at: usize, tables: &mut [usize]) -> Walk
     requires h_value { (h ≡ header_in numbers.now) × (at ≡ end_of (modules_read numbers.now)) × (h.symbols < 4294967296) }
     ensures { (result ≡ body_walk numbers.now at) × OnceRead result (SymbolTable numbers.now (symbol_places tables.new) × StatementTable numbers.now (first_statements tables.new) (statement_places tables.new) × EntryTable numbers.now (entry_places tables.new)) × Kept (start_of h at_symbols) tables.old tables.new }
 {
-    match graph_tables::symbols(numbers, at, h, tables) {
+    match graph_entries::graph_tables_crate::symbols(numbers, at, h, tables) {
         Walk::Fault(n, p) => Walk::Fault(n, p),
         Walk::At(q) => tail(numbers, h, q, tables),
     }
@@ -183,9 +190,9 @@ fn parts(numbers: &[u32], h: Header, tables: &mut [usize]) -> Walk
     requires laid { Laid h at_verdicts tables.old }
     ensures { (result ≡ walk_of (graph_at h numbers.now 7)) × OnceRead result (Places numbers.now tables.new) × Kept (start_of h at_modules) tables.old tables.new }
 {
-    match rows::plain_rows(numbers, 7, h.helpers, 1, h.symbols, 0, 0) {
+    match graph_entries::rows_crate::plain_rows(numbers, 7, h.helpers, 1, h.symbols, 0, 0) {
         Walk::Fault(n, p) => Walk::Fault(n, p),
-        Walk::At(a) => match graph_tables::modules(numbers, a, h, tables) {
+        Walk::At(a) => match graph_entries::graph_tables_crate::modules(numbers, a, h, tables) {
             Walk::Fault(n, p) => Walk::Fault(n, p),
             Walk::At(b) => body(numbers, h, b, tables),
         },
@@ -198,14 +205,14 @@ pub fn load(numbers: &[u32], h: Header, tables: &mut [usize]) -> Checked
     requires at_verdicts_in_bounds { (start_of h at_verdicts ≤ length tables.old) × (length tables.old < 4294967296) }
     ensures { (result ≡ answer_of (check_of numbers.now)) × OnceAccepted result (Loaded numbers.now tables.new) }
 {
-    tables::lay_out(tables, h);
+    graph_entries::tables_crate::lay_out(tables, h);
     match parts(numbers, h, tables) {
         Walk::Fault(n, p) => Checked::Refused(n, p),
         Walk::At(q) => match later(
             numbers,
             h,
-            tables::section(tables, MODULES),
-            tables::section(tables, SYMBOLS),
+            graph_entries::tables_crate::section(tables, MODULES),
+            graph_entries::tables_crate::section(tables, SYMBOLS),
         ) {
             Walk::Fault(n, p) => Checked::Refused(n, p),
             Walk::At(_) => {
@@ -262,10 +269,10 @@ fn check_larger(numbers: &[u32], h: Header, again: usize) -> Checked
     if again > 0 {
         return check_larger(numbers, h, again - 1);
     }
-    if tables::fits(h, Size::Middle) {
+    if graph_entries::tables_crate::fits(h, Size::Middle) {
         return check_middle(numbers, h);
     }
-    if tables::fits(h, Size::Large) {
+    if graph_entries::tables_crate::fits(h, Size::Large) {
         return check_large(numbers, h);
     }
     check_largest(numbers, h)
@@ -279,7 +286,7 @@ pub fn check(numbers: &[u32]) -> Checked
         Walk::Fault(n, p) => Checked::Refused(n, p),
         Walk::At(_) => {
             let h = header_of(numbers);
-            if tables::fits(h, Size::Small) {
+            if graph_entries::tables_crate::fits(h, Size::Small) {
                 return check_small(numbers, h);
             }
             check_larger(numbers, h, frames::apart(numbers))

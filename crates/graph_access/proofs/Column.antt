@@ -5,9 +5,9 @@ use mathlib.Core.List.{List, [], ◌∷◌}
 use native.Mathlib.Nat.{one-mul}
 use native.Mathlib.Omega.{arith}
 use lib.ListN.{length, get_or}
-use Rattle.rows.specs.Walk.{got, below, list, plain}
-use Rattle.rows.proofs.Cells.{Cells}
-use Rattle.rows.proofs.Items.{ListRead, list_got, rows_end, rows_each, plain_plain}
+use Rattle.graph.specs.rows_crate.Walk.{got, below, list, plain}
+use Rattle.graph.proofs.rows_crate.Cells.{Cells}
+use Rattle.graph.proofs.rows_crate.Items.{ListRead, list_got, rows_end, rows_each, plain_plain}
 
 pub record Column (numbers : List ℕ) (at : ℕ) (xs : List (List ℕ)) (q : ℕ) : Type 0 where
   pub inside : at < length numbers

@@ -8,13 +8,13 @@ use native.Mathlib.Omega.{arith}
 use borrow.Author.Tests.{eqb-true, eqb-false}
 use lib.Dec.{eqb}
 use lib.ListN.{length, get_or}
-use Rattle.rows.specs.Walk.{got, fault, below, number, firsts, Item, no_item}
-use Rattle.rows.proofs.Cells.{no_fault, then_got, number_got}
-use Rattle.rows.proofs.Items.{got_same, many_each}
-use Rattle.graph_format.specs.declared.Header.{Header}
-use Rattle.graph_format.specs.Format.{kind_of, statements_of, import_records_of, related_module_at, related_import_record_at, related_at}
-use Rattle.graph_tables.specs.Tables.{header_in, modules_in, entries_in}
-use Rattle.graph_tables.specs.Places.{EntryTable}
+use Rattle.graph.specs.rows_crate.Walk.{got, fault, below, number, firsts, Item, no_item}
+use Rattle.graph.proofs.rows_crate.Cells.{no_fault, then_got, number_got}
+use Rattle.graph.proofs.rows_crate.Items.{got_same, many_each}
+use Rattle.graph.specs.graph_format_crate.declared.Header.{Header}
+use Rattle.graph.specs.graph_format_crate.Format.{kind_of, statements_of, import_records_of, related_module_at, related_import_record_at, related_at}
+use Rattle.graph.specs.graph_tables_crate.Tables.{header_in, modules_in, entries_in}
+use Rattle.graph.specs.graph_tables_crate.Places.{EntryTable}
 use Rattle.graph_access.proofs.OfEntries.{module_got, record_got, entry_read, related-read}
 
 -- a related statement: its module is normal, its record resolved, each number within its limit

@@ -5,9 +5,9 @@ use mathlib.Core.Bool.{Bool, true, false}
 use mathlib.Core.List.{List, [], ◌∷◌, map}
 use native.Mathlib.Omega.{arith}
 use lib.ListN.{length, get_or, length-map}
-use Rattle.rows.specs.Walk.{got, below, ListRule, list, lists, repeated, plain_row, distinct_row, plain, distinct}
-use Rattle.rows.proofs.Cells.{Cells, no_fault}
-use Rattle.rows.proofs.Items.{ListRead, list_got, lists_first, rows_end, rows_each, plain_plain}
+use Rattle.graph.specs.rows_crate.Walk.{got, below, ListRule, list, lists, repeated, plain_row, distinct_row, plain, distinct}
+use Rattle.graph.proofs.rows_crate.Cells.{Cells, no_fault}
+use Rattle.graph.proofs.rows_crate.Items.{ListRead, list_got, lists_first, rows_end, rows_each, plain_plain}
 use Rattle.graph_access.specs.Lists.{place_of, Inside}
 
 -- a rule whose rows are columns below limits

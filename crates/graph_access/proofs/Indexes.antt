@@ -8,12 +8,12 @@ use native.Mathlib.Omega.{arith}
 use borrow.Author.Tests.{eqb-true, eq-eqb, ltb-false}
 use lib.Dec.{eqb, ltb}
 use lib.ListN.{length, get_or}
-use Rattle.rows.specs.Walk.{got, ListRule, lists, Item, no_item}
-use Rattle.rows.proofs.Items.{list_got, lists_first}
-use Rattle.graph_format.specs.Format.{module_rules, module_lists, import_lists, export_lists, name_lists, least_statements, symbol_rules, symbol_lists, statement_lists, kind_of, statements_of, import_records_of}
-use Rattle.graph_tables.specs.Tables.{items_of, header_in, modules_in, first_of}
-use Rattle.graph_tables.proofs.Facts.{modules_long, its-read, number_same, symbol-read}
-use Rattle.graph_tables.proofs.ByModule.{first_step, first_mono}
+use Rattle.graph.specs.rows_crate.Walk.{got, ListRule, lists, Item, no_item}
+use Rattle.graph.proofs.rows_crate.Items.{list_got, lists_first}
+use Rattle.graph.specs.graph_format_crate.Format.{module_rules, module_lists, import_lists, export_lists, name_lists, least_statements, symbol_rules, symbol_lists, statement_lists, kind_of, statements_of, import_records_of}
+use Rattle.graph.specs.graph_tables_crate.Tables.{items_of, header_in, modules_in, first_of}
+use Rattle.graph.proofs.graph_tables_crate.Facts.{modules_long, its-read, number_same, symbol-read}
+use Rattle.graph.proofs.graph_tables_crate.ByModule.{first_step, first_mono}
 use Rattle.graph.specs.Check.{helpers_at, graph_in}
 use Rattle.graph.proofs.LaterRules.{namespace_fits}
 use Rattle.graph.proofs.WellFormed.{helper_count, helper-same, helper-below}

@@ -6,13 +6,13 @@ use mathlib.Core.List.{List, [], ◌∷◌}
 use native.Mathlib.Omega.{arith}
 use lib.Dec.{eqb}
 use lib.ListN.{length, get_or}
-use Rattle.rows.specs.Walk.{Parsed, got, fault, and_then, Rule, below, number, many, ListRule, firsts, Item, no_item}
-use Rattle.rows.proofs.Cells.{no_fault, then_got, Number, number_got}
-use Rattle.rows.proofs.Items.{got_same, many_first, many-length, many_each, ItemRead, item_got, ListRead, list_got, lists_first}
-use Rattle.graph_format.specs.declared.Header.{Header}
-use Rattle.graph_format.specs.Format.{kind_of, statements_of, import_records_of, related_module_at, related_import_record_at, related_at, entry_at, entries_at}
-use Rattle.graph_tables.specs.Tables.{header_in, modules_in, entries_read, entries_in}
-use Rattle.graph_tables.specs.Places.{EntryTable}
+use Rattle.graph.specs.rows_crate.Walk.{Parsed, got, fault, and_then, Rule, below, number, many, ListRule, firsts, Item, no_item}
+use Rattle.graph.proofs.rows_crate.Cells.{no_fault, then_got, Number, number_got}
+use Rattle.graph.proofs.rows_crate.Items.{got_same, many_first, many-length, many_each, ItemRead, item_got, ListRead, list_got, lists_first}
+use Rattle.graph.specs.graph_format_crate.declared.Header.{Header}
+use Rattle.graph.specs.graph_format_crate.Format.{kind_of, statements_of, import_records_of, related_module_at, related_import_record_at, related_at, entry_at, entries_at}
+use Rattle.graph.specs.graph_tables_crate.Tables.{header_in, modules_in, entries_read, entries_in}
+use Rattle.graph.specs.graph_tables_crate.Places.{EntryTable}
 
 -- a number that was read, where a test behind it may have refused it
 tested : (r : Rule) (numbers : List ℕ) (at : ℕ) (test : ℕ → ℕ → Parsed ℕ) {x q : ℕ} → ((y p : ℕ) → test y p ≡ got x q → (y ≡ x) × (p ≡ q))

@@ -2,12 +2,12 @@
 use Prim.Native.Nat.{ℕ, ◌+◌, ◌-◌, ◌<◌}
 use mathlib.Core.List.{List, [], ◌∷◌}
 use lib.ListN.{get_or}
-use Rattle.rows.specs.Walk.{no_item, any}
-use Rattle.graph_format.specs.declared.Header.{Header}
-use Rattle.graph_format.specs.Format.{module_rules, import_lists, export_lists, name_lists, module_lists, symbol_rules, symbol_lists}
-use Rattle.graph_tables.specs.Tables.{header_in, modules_in, symbols_in}
-use Rattle.graph_tables.specs.Places.{ModuleTable, SymbolTable}
-use Rattle.graph_tables.proofs.Facts.{its-read, symbol-read}
+use Rattle.graph.specs.rows_crate.Walk.{no_item, any}
+use Rattle.graph.specs.graph_format_crate.declared.Header.{Header}
+use Rattle.graph.specs.graph_format_crate.Format.{module_rules, import_lists, export_lists, name_lists, module_lists, symbol_rules, symbol_lists}
+use Rattle.graph.specs.graph_tables_crate.Tables.{header_in, modules_in, symbols_in}
+use Rattle.graph.specs.graph_tables_crate.Places.{ModuleTable, SymbolTable}
+use Rattle.graph.proofs.graph_tables_crate.Facts.{its-read, symbol-read}
 use Rattle.graph_access.specs.Lists.{place_of, Inside, module_widths, symbol_widths}
 use Rattle.graph_access.proofs.Fixed.{AllColumns, of_plain, of_distinct, plain_columns, Stands, each_stands, each_inside}
 

@@ -4,12 +4,12 @@ use mathlib.Core.Path.{◌≡◌, refl, ap, ◌∙◌, sym}
 use mathlib.Core.List.{List, [], ◌∷◌}
 use native.Mathlib.Omega.{arith}
 use lib.ListN.{length, get_or}
-use Rattle.rows.specs.Walk.{Parsed, got, below, many, plain, Item, no_item}
-use Rattle.rows.proofs.Items.{many_first, many-length, many_each, ItemRead, item_got, ListRead, list_got, FirstList, lists_first}
-use Rattle.graph_format.specs.Format.{import_records_of, statements_of, reference_list, statement_lists, statement_at, module_statements, statements_at}
-use Rattle.graph_tables.specs.Tables.{header_in, modules_in, statements_read, statements_in, first_of}
-use Rattle.graph_tables.specs.Places.{ModuleTable, StatementTable}
-use Rattle.graph_tables.proofs.ByModule.{in_table}
+use Rattle.graph.specs.rows_crate.Walk.{Parsed, got, below, many, plain, Item, no_item}
+use Rattle.graph.proofs.rows_crate.Items.{many_first, many-length, many_each, ItemRead, item_got, ListRead, list_got, FirstList, lists_first}
+use Rattle.graph.specs.graph_format_crate.Format.{import_records_of, statements_of, reference_list, statement_lists, statement_at, module_statements, statements_at}
+use Rattle.graph.specs.graph_tables_crate.Tables.{header_in, modules_in, statements_read, statements_in, first_of}
+use Rattle.graph.specs.graph_tables_crate.Places.{ModuleTable, StatementTable}
+use Rattle.graph.proofs.graph_tables_crate.ByModule.{in_table}
 use Rattle.graph_access.specs.References.{ReferencesAt}
 use Rattle.graph_access.proofs.Column.{Column, column}
 use Rattle.graph_access.proofs.ReadReferences.{references_at}

@@ -4,13 +4,13 @@ use mathlib.Core.Path.{◌≡◌, ap}
 use mathlib.Core.List.{List, [], ◌∷◌, map}
 use native.Mathlib.Omega.{arith}
 use lib.ListN.{length, get_or, length-map, get_or-map}
-use Rattle.rows.specs.Walk.{got, value, below, ListRule, list, lists, Item, no_item}
-use Rattle.rows.proofs.Cells.{Obeys}
-use Rattle.rows.proofs.Items.{list_got, lists_first, rows_each}
-use Rattle.graph_format.specs.Format.{module_rules, import_lists, export_lists, name_lists, module_lists, symbol_rules, symbol_lists, statements_of}
-use Rattle.graph_tables.specs.Tables.{header_in, modules_in, symbols_in}
-use Rattle.graph_tables.specs.Places.{ModuleTable, SymbolTable}
-use Rattle.graph_tables.proofs.Facts.{its-read, symbol-read}
+use Rattle.graph.specs.rows_crate.Walk.{got, value, below, ListRule, list, lists, Item, no_item}
+use Rattle.graph.proofs.rows_crate.Cells.{Obeys}
+use Rattle.graph.proofs.rows_crate.Items.{list_got, lists_first, rows_each}
+use Rattle.graph.specs.graph_format_crate.Format.{module_rules, import_lists, export_lists, name_lists, module_lists, symbol_rules, symbol_lists, statements_of}
+use Rattle.graph.specs.graph_tables_crate.Tables.{header_in, modules_in, symbols_in}
+use Rattle.graph.specs.graph_tables_crate.Places.{ModuleTable, SymbolTable}
+use Rattle.graph.proofs.graph_tables_crate.Facts.{its-read, symbol-read}
 use Rattle.graph_access.specs.Lists.{module_widths, symbol_widths, module_limits, symbol_limits}
 use Rattle.graph_access.proofs.Fixed.{Columns, AllColumns}
 use Rattle.graph_access.proofs.OfItems.{module_columns, symbol_columns}

@@ -6,10 +6,10 @@ use mathlib.Core.List.{List, [], ◌∷◌, map}
 use native.Mathlib.Omega.{arith}
 use borrow.Author.Tests.{ne_eqb}
 use lib.ListN.{length, get_or, length-map}
-use Rattle.rows.specs.Walk.{got, below, any, number, cells, many, list, plain, firsts}
-use Rattle.rows.proofs.Cells.{then_got, Number, number_got, Cells, cells_got}
-use Rattle.rows.proofs.Items.{got_same, many_first}
-use Rattle.graph_format.specs.Format.{depended_at, member_rules, parts_at, reference_at}
+use Rattle.graph.specs.rows_crate.Walk.{got, below, any, number, cells, many, list, plain, firsts}
+use Rattle.graph.proofs.rows_crate.Cells.{then_got, Number, number_got, Cells, cells_got}
+use Rattle.graph.proofs.rows_crate.Items.{got_same, many_first}
+use Rattle.graph.specs.graph_format_crate.Format.{depended_at, member_rules, parts_at, reference_at}
 use Rattle.graph_access.specs.References.{reference_width, ReferenceAt, ReferencesAt}
 use Rattle.graph_access.proofs.Column.{Column, column}
 

@@ -4,15 +4,15 @@ use mathlib.Core.Path.{◌≡◌, refl}
 use mathlib.Core.List.{List}
 use native.Mathlib.Omega.{arith}
 use lib.ListN.{length, get_or}
-use Rattle.rows.specs.Walk.{no_item}
-use Rattle.graph_format.specs.declared.Header.{Header}
-use Rattle.graph_format.specs.Format.{statements_of}
-use Rattle.graph_tables.specs.Tables.{header_in, modules_in, first_of}
-use Rattle.graph_tables.proofs.ByModule.{in_table}
+use Rattle.graph.specs.rows_crate.Walk.{no_item}
+use Rattle.graph.specs.graph_format_crate.declared.Header.{Header}
+use Rattle.graph.specs.graph_format_crate.Format.{statements_of}
+use Rattle.graph.specs.graph_tables_crate.Tables.{header_in, modules_in, first_of}
+use Rattle.graph.proofs.graph_tables_crate.ByModule.{in_table}
 use Rattle.graph.specs.Check.{graph_in}
 use Rattle.graph_access.specs.Words.{statement_list}
 use Rattle.graph.specs.Loaded.{Loaded}
-use Rattle.tables.specs.Layout.{first_statements}
+use Rattle.graph.specs.tables_crate.Layout.{first_statements}
 use Rattle.graph_access.proofs.OfStatements.{all_long as all_are, in_first as first_is}
 
 module _ {numbers tables : List ℕ} (t : Loaded numbers tables) where

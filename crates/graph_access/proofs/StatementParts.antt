@@ -3,8 +3,8 @@ use Prim.Native.Nat.{ℕ, ◌+◌, ◌<◌}
 use mathlib.Core.Path.{◌≡◌, ◌∙◌}
 use mathlib.Core.List.{List}
 use lib.ListN.{length, get_or}
-use Rattle.rows.specs.Walk.{Item}
-use Rattle.graph_tables.specs.Tables.{header_in}
+use Rattle.graph.specs.rows_crate.Walk.{Item}
+use Rattle.graph.specs.graph_tables_crate.Tables.{header_in}
 use Rattle.graph.specs.Check.{graph_in}
 use Rattle.graph.specs.Loaded.{Loaded}
 use Rattle.graph_access.specs.Names.{statement_bits, statement_import_records, references}

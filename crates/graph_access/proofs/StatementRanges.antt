@@ -4,12 +4,12 @@ use mathlib.Core.Path.{◌≡◌, ap, ◌∙◌, sym}
 use mathlib.Core.List.{List, [], ◌∷◌, map}
 use native.Mathlib.Omega.{arith}
 use lib.ListN.{length, get_or, length-map}
-use Rattle.rows.specs.Walk.{got, below, any, number, cells, list, plain, Item, no_item}
-use Rattle.rows.proofs.Cells.{then_got, number_got, Cells, cells_got}
-use Rattle.rows.proofs.Items.{got_same, many_each, list_got, rows_each, plain_plain}
-use Rattle.graph_format.specs.Format.{import_records_of, depended_at, member_rules, parts_at, reference_at}
-use Rattle.graph_tables.specs.Tables.{header_in, modules_in, statements_in}
-use Rattle.graph_tables.specs.Places.{ModuleTable, StatementTable}
+use Rattle.graph.specs.rows_crate.Walk.{got, below, any, number, cells, list, plain, Item, no_item}
+use Rattle.graph.proofs.rows_crate.Cells.{then_got, number_got, Cells, cells_got}
+use Rattle.graph.proofs.rows_crate.Items.{got_same, many_each, list_got, rows_each, plain_plain}
+use Rattle.graph.specs.graph_format_crate.Format.{import_records_of, depended_at, member_rules, parts_at, reference_at}
+use Rattle.graph.specs.graph_tables_crate.Tables.{header_in, modules_in, statements_in}
+use Rattle.graph.specs.graph_tables_crate.Places.{ModuleTable, StatementTable}
 use Rattle.graph_access.proofs.ReadReferences.{first_number}
 use Rattle.graph_access.proofs.OfStatements.{its-read, both, references-read}
 

@@ -9,3 +9,11 @@ pub mod Names
 pub mod Words
 pub mod References
 pub mod Related
+-- The crates below, for the crates above.
+pub use Rattle.graph.specs as graph_crate
+pub use Rattle.graph.specs.graph_entries_crate
+pub use Rattle.graph.specs.graph_format_crate
+pub use Rattle.graph.specs.graph_tables_crate
+pub use Rattle.graph.specs.rows_crate
+pub use Rattle.graph.specs.tables_crate
+pub use Rattle.index.specs as index_crate

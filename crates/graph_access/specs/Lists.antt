@@ -1,7 +1,7 @@
 -- Where the lists of an item stand.
 use Rattle.std.specs.Prelude.{ℕ, zero, suc, ◌+◌, ◌*◌, ◌<◌, ◌≤◌, ◌≡◌, List, [], ◌∷◌, length, get_or}
-use Rattle.rows.specs.Walk.{any}
-use Rattle.graph_format.specs.declared.Header.{Header}
+use Rattle.graph.specs.rows_crate.Walk.{any}
+use Rattle.graph.specs.graph_format_crate.declared.Header.{Header}
 
 -- the place of list j, where the first stands at `at` and list i has rows of as many numbers as `widths` says
 unfoldable pub place_of : List ℕ → ℕ → List ℕ → ℕ → ℕ

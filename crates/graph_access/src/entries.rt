@@ -1,6 +1,6 @@
 // Entries of an accepted graph and their related statements.
 ghost use Rattle.std.specs.Prelude.{◌≡◌, ℕ, ◌+◌, ◌*◌, ◌<◌, ◌≤◌, List, [], length, get_or};
-ghost use Rattle.graph_tables.specs.Tables.{header_in};
+ghost use Rattle.graph.specs.graph_tables_crate.Tables.{header_in};
 ghost use Rattle.graph.specs.Check.{graph_in};
 ghost use Rattle.graph.specs.Loaded.{Loaded};
 ghost use Rattle.graph_access.specs.Names.{entry_module, entry_kind, related};
@@ -8,7 +8,7 @@ ghost use Rattle.graph_access.specs.Related.{RelatedIs};
 ghost use Rattle.graph_access.specs.Words.{entry_of};
 
 use index::{EntryIdx, ImportRecordIdx, ModuleIdx, StmtIdx};
-use tables::ENTRIES;
+use graph::tables_crate::ENTRIES;
 
 // A statement that is related to an entry: where it stands, its import record, and 1 if it can't be reached.
 #[derive(Clone, Copy)]
@@ -25,10 +25,10 @@ fn number(numbers: &[u32], tables: &[usize], e: EntryIdx, i: usize) -> usize
     requires e_bound { (e.0 < (header_in numbers.now).entries) × (i < 2) }
     ensures { result ≡ get_or (entry_of (graph_in numbers.now) e.0).head i 0 }
 {
-    let places = tables::section(tables, ENTRIES);
+    let places = graph::tables_crate::section(tables, ENTRIES);
     let a = e.0;
     let p = places[a];
-    rows::wide(numbers[p + i])
+    graph::rows_crate::wide(numbers[p + i])
 }
 
 // Its module.
@@ -55,10 +55,10 @@ pub fn related_count(numbers: &[u32], tables: &[usize], e: EntryIdx) -> usize
     requires e_bound { e.0 < (header_in numbers.now).entries }
     ensures { result ≡ length (related (entry_of (graph_in numbers.now) e.0)) }
 {
-    let places = tables::section(tables, ENTRIES);
+    let places = graph::tables_crate::section(tables, ENTRIES);
     let a = e.0;
     let p = places[a];
-    rows::wide(numbers[p + 2])
+    graph::rows_crate::wide(numbers[p + 2])
 }
 
 // Number `column` of related statement k: module, statement, import record, unreachable.
@@ -73,10 +73,10 @@ pub fn related_number(
     requires e_bound { (e.0 < (header_in numbers.now).entries) × (k < length (related (entry_of (graph_in numbers.now) e.0))) × (column < 4) }
     ensures { result ≡ get_or (get_or (related (entry_of (graph_in numbers.now) e.0)) k []) column 0 }
 {
-    let places = tables::section(tables, ENTRIES);
+    let places = graph::tables_crate::section(tables, ENTRIES);
     let a = e.0;
     let p = places[a];
-    rows::wide(numbers[p + 3 + 4 * k + column])
+    graph::rows_crate::wide(numbers[p + 3 + 4 * k + column])
 }
 
 // Related statement k.

@@ -1,6 +1,6 @@
 // The helper symbols of an accepted graph.
 ghost use Rattle.std.specs.Prelude.{◌≡◌, ◌<◌, List, [], get_or};
-ghost use Rattle.graph_tables.specs.Tables.{header_in};
+ghost use Rattle.graph.specs.graph_tables_crate.Tables.{header_in};
 ghost use Rattle.graph.specs.Check.{graph_in};
 ghost use Rattle.graph.specs.Loaded.{Loaded};
 ghost use Rattle.graph_access.specs.Names.{only};
@@ -13,5 +13,5 @@ pub fn helper_symbol(numbers: &[u32], tables: &[usize], k: usize) -> SymbolIdx
     requires k_bound { k < (header_in numbers.now).helpers }
     ensures { (result.0 ≡ only (get_or (graph_in numbers.now).helpers k [])) × (result.0 < (header_in numbers.now).symbols) }
 {
-    SymbolIdx(rows::wide(numbers[7 + k]))
+    SymbolIdx(graph::rows_crate::wide(numbers[7 + k]))
 }

@@ -1,9 +1,9 @@
 // Where the lists of modules and symbols stand, by number.
 // A list is reached from the first one on, at most nine steps; a stage that often reads one list of a module should keep the list's place.
 ghost use Rattle.std.specs.Prelude.{◌≡◌, ℕ, ◌+◌, ◌*◌, ◌<◌, ◌≤◌, List, [], ◌∷◌, length, get_or};
-ghost use Rattle.rows.specs.Walk.{no_item};
-ghost use Rattle.graph_tables.specs.Tables.{header_in, modules_in, symbols_in};
-ghost use Rattle.graph_tables.specs.Places.{ModuleTable, SymbolTable};
+ghost use Rattle.graph.specs.rows_crate.Walk.{no_item};
+ghost use Rattle.graph.specs.graph_tables_crate.Tables.{header_in, modules_in, symbols_in};
+ghost use Rattle.graph.specs.graph_tables_crate.Places.{ModuleTable, SymbolTable};
 ghost use Rattle.graph_access.specs.Lists.{place_of, Inside, module_widths, symbol_widths};
 
 // The place of list j, where the first stands at `at`.
@@ -14,7 +14,7 @@ fn list_place(numbers: &[u32], at: usize, widths: &[usize], j: usize) -> usize
     let mut i: usize = 0;
     let mut p = at;
     while i < j {
-        p = p + 1 + widths[i] * rows::wide(numbers[p]);
+        p = p + 1 + widths[i] * graph::rows_crate::wide(numbers[p]);
         i += 1;
     }
     p
@@ -38,7 +38,7 @@ pub fn module_list_length(numbers: &[u32], modules: &[usize], m: usize, j: usize
     ensures { result ≡ length (get_or (get_or (modules_in numbers.now) m no_item).rows j []) }
 {
     let p = module_list(numbers, modules, m, j);
-    rows::wide(numbers[p])
+    graph::rows_crate::wide(numbers[p])
 }
 
 // Number `column` of row k of list j of module m.
@@ -56,7 +56,7 @@ pub fn module_list_number(
 {
     let widths: [usize; 10] = [3, 1, 1, 1, 1, 1, 3, 2, 2, 2];
     let p = module_list(numbers, modules, m, j);
-    rows::wide(numbers[p + 1 + widths[j] * k + column])
+    graph::rows_crate::wide(numbers[p + 1 + widths[j] * k + column])
 }
 
 // The place of list j of symbol s.
@@ -77,7 +77,7 @@ pub fn symbol_list_length(numbers: &[u32], symbols: &[usize], s: usize, j: usize
     ensures { result ≡ length (get_or (get_or (symbols_in numbers.now) s no_item).rows j []) }
 {
     let p = symbol_list(numbers, symbols, s, j);
-    rows::wide(numbers[p])
+    graph::rows_crate::wide(numbers[p])
 }
 
 // Element k of list j of symbol s.
@@ -87,5 +87,5 @@ pub fn symbol_list_number(numbers: &[u32], symbols: &[usize], s: usize, j: usize
     ensures { result ≡ get_or (get_or (get_or (get_or (symbols_in numbers.now) s no_item).rows j []) k []) 0 0 }
 {
     let p = symbol_list(numbers, symbols, s, j);
-    rows::wide(numbers[p + 1 + k])
+    graph::rows_crate::wide(numbers[p + 1 + k])
 }

@@ -1,15 +1,15 @@
 // Modules of an accepted graph: their leading numbers and lists by name.
 ghost use Rattle.std.specs.Prelude.{◌≡◌, ℕ, ◌+◌, ◌<◌, ◌≤◌, List, [], length, get_or};
-ghost use Rattle.graph_tables.specs.Tables.{header_in};
+ghost use Rattle.graph.specs.graph_tables_crate.Tables.{header_in};
 ghost use Rattle.graph.specs.Check.{graph_in};
 ghost use Rattle.graph.specs.Loaded.{Loaded};
 ghost use Rattle.graph_access.specs.Lists.{module_widths};
-ghost use Rattle.graph_access.specs.Names.{effects as effectsOf, exports as exports_of, module_type as moduleTypeOf, flags as flags_of, wrap as wrapOf, wrapper as wrapper_of, namespace as namespaceOf, reexport_count as reexportCountOf, scan_effects as scanEffectsOf, scan_statement_count as scanStatementCountOf, import_records, dependencies, named_imports, own_exports, entry_references, common_js_export_symbols, resolved_exports, common_js_namespaces, enum_members, module_helpers, only, import_record_target, import_record_kind, import_record_bits, export_name, export_symbol, export_from_common_js, namespace_symbol, namespace_module, enum_name, enum_member, helper_number, helper_statement as helperStatementOf};
+ghost use Rattle.graph_access.specs.Names.{effects as effects_of, exports as exports_of, module_type as module_type_of, flags as flags_of, wrap as wrap_of, wrapper as wrapper_of, namespace as namespace_of, reexport_count as reexport_count_of, scan_effects as scan_effects_of, scan_statement_count as scan_statement_count_of, import_records, dependencies, named_imports, own_exports, entry_references, common_js_export_symbols, resolved_exports, common_js_namespaces, enum_members, module_helpers, only, import_record_target, import_record_kind, import_record_bits, export_name, export_symbol, export_from_common_js, namespace_symbol, namespace_module, enum_name, enum_member, helper_number, helper_statement as helper_statement_of};
 ghost use Rattle.graph_access.specs.Words.{module_of, statement_list, normal};
 
 use crate::lists;
 use index::{ImportRecordIdx, ModuleIdx, StmtIdx, SymbolIdx};
-use tables::MODULES;
+use graph::tables_crate::MODULES;
 
 // Bits of a module's flags.
 pub const EVAL: usize = 0;
@@ -35,7 +35,7 @@ fn number(numbers: &[u32], tables: &[usize], m: ModuleIdx, i: usize) -> usize
     requires m_bound { (m.0 < (header_in numbers.now).modules) × (i < 12) }
     ensures { result ≡ get_or (module_of (graph_in numbers.now) m.0).head i 0 }
 {
-    graph_tables::module_number(numbers, tables::section(tables, MODULES), m.0, i)
+    graph::graph_tables_crate::module_number(numbers, graph::tables_crate::section(tables, MODULES), m.0, i)
 }
 
 // How many rows list j of a module has.
@@ -44,7 +44,7 @@ fn list_length(numbers: &[u32], tables: &[usize], m: ModuleIdx, j: usize) -> usi
     requires m_bound { (m.0 < (header_in numbers.now).modules) × (j < 10) }
     ensures { (result ≡ length (get_or (module_of (graph_in numbers.now) m.0).rows j [])) × (result ≤ 16384) }
 {
-    lists::module_list_length(numbers, tables::section(tables, MODULES), m.0, j)
+    lists::module_list_length(numbers, graph::tables_crate::section(tables, MODULES), m.0, j)
 }
 
 // Number `column` of row k of list j of a module.
@@ -60,7 +60,7 @@ fn list_number(
     requires m_bound { (m.0 < (header_in numbers.now).modules) × (j < 10) × (k < length (get_or (module_of (graph_in numbers.now) m.0).rows j [])) × (column < get_or module_widths j 0) }
     ensures { result ≡ get_or (get_or (get_or (module_of (graph_in numbers.now) m.0).rows j []) k []) column 0 }
 {
-    lists::module_list_number(numbers, tables::section(tables, MODULES), m.0, j, k, column)
+    lists::module_list_number(numbers, graph::tables_crate::section(tables, MODULES), m.0, j, k, column)
 }
 
 // Whether a module is a normal one.
@@ -76,7 +76,7 @@ pub fn is_normal(numbers: &[u32], tables: &[usize], m: ModuleIdx) -> bool
 pub fn effects(numbers: &[u32], tables: &[usize], m: ModuleIdx) -> usize
     requires loaded { Loaded numbers.now tables.now }
     requires m_bound { m.0 < (header_in numbers.now).modules }
-    ensures { (result ≡ effectsOf (module_of (graph_in numbers.now) m.0)) × (result < 5) }
+    ensures { (result ≡ effects_of (module_of (graph_in numbers.now) m.0)) × (result < 5) }
 {
     number(numbers, tables, m, 1)
 }
@@ -94,7 +94,7 @@ pub fn exports(numbers: &[u32], tables: &[usize], m: ModuleIdx) -> usize
 pub fn module_type(numbers: &[u32], tables: &[usize], m: ModuleIdx) -> usize
     requires loaded { Loaded numbers.now tables.now }
     requires m_bound { m.0 < (header_in numbers.now).modules }
-    ensures { result ≡ moduleTypeOf (module_of (graph_in numbers.now) m.0) }
+    ensures { result ≡ module_type_of (module_of (graph_in numbers.now) m.0) }
 {
     number(numbers, tables, m, 3)
 }
@@ -112,7 +112,7 @@ pub fn flags(numbers: &[u32], tables: &[usize], m: ModuleIdx) -> usize
 pub fn wrap(numbers: &[u32], tables: &[usize], m: ModuleIdx) -> usize
     requires loaded { Loaded numbers.now tables.now }
     requires m_bound { m.0 < (header_in numbers.now).modules }
-    ensures { result ≡ wrapOf (module_of (graph_in numbers.now) m.0) }
+    ensures { result ≡ wrap_of (module_of (graph_in numbers.now) m.0) }
 {
     number(numbers, tables, m, 5)
 }
@@ -130,7 +130,7 @@ pub fn wrapper(numbers: &[u32], tables: &[usize], m: ModuleIdx) -> usize
 pub fn namespace(numbers: &[u32], tables: &[usize], m: ModuleIdx) -> usize
     requires loaded { Loaded numbers.now tables.now }
     requires m_bound { m.0 < (header_in numbers.now).modules }
-    ensures { (result ≡ namespaceOf (module_of (graph_in numbers.now) m.0)) × (result ≤ (header_in numbers.now).symbols) }
+    ensures { (result ≡ namespace_of (module_of (graph_in numbers.now) m.0)) × (result ≤ (header_in numbers.now).symbols) }
 {
     number(numbers, tables, m, 7)
 }
@@ -139,7 +139,7 @@ pub fn namespace(numbers: &[u32], tables: &[usize], m: ModuleIdx) -> usize
 pub fn reexport_count(numbers: &[u32], tables: &[usize], m: ModuleIdx) -> usize
     requires loaded { Loaded numbers.now tables.now }
     requires m_bound { m.0 < (header_in numbers.now).modules }
-    ensures { result ≡ reexportCountOf (module_of (graph_in numbers.now) m.0) }
+    ensures { result ≡ reexport_count_of (module_of (graph_in numbers.now) m.0) }
 {
     number(numbers, tables, m, 8)
 }
@@ -157,7 +157,7 @@ pub fn statement_count(numbers: &[u32], tables: &[usize], m: ModuleIdx) -> usize
 pub fn scan_effects(numbers: &[u32], tables: &[usize], m: ModuleIdx) -> usize
     requires loaded { Loaded numbers.now tables.now }
     requires m_bound { m.0 < (header_in numbers.now).modules }
-    ensures { (result ≡ scanEffectsOf (module_of (graph_in numbers.now) m.0)) × (result < 5) }
+    ensures { (result ≡ scan_effects_of (module_of (graph_in numbers.now) m.0)) × (result < 5) }
 {
     number(numbers, tables, m, 10)
 }
@@ -166,7 +166,7 @@ pub fn scan_effects(numbers: &[u32], tables: &[usize], m: ModuleIdx) -> usize
 pub fn scan_statement_count(numbers: &[u32], tables: &[usize], m: ModuleIdx) -> usize
     requires loaded { Loaded numbers.now tables.now }
     requires m_bound { m.0 < (header_in numbers.now).modules }
-    ensures { result ≡ scanStatementCountOf (module_of (graph_in numbers.now) m.0) }
+    ensures { result ≡ scan_statement_count_of (module_of (graph_in numbers.now) m.0) }
 {
     number(numbers, tables, m, 11)
 }
@@ -444,7 +444,7 @@ pub fn helper(numbers: &[u32], tables: &[usize], m: ModuleIdx, k: usize) -> usiz
 pub fn helper_statement(numbers: &[u32], tables: &[usize], m: ModuleIdx, k: usize) -> StmtIdx
     requires loaded { Loaded numbers.now tables.now }
     requires m_bound { (m.0 < (header_in numbers.now).modules) × (k < length (module_helpers (module_of (graph_in numbers.now) m.0))) }
-    ensures { (result.0 ≡ helperStatementOf (get_or (module_helpers (module_of (graph_in numbers.now) m.0)) k [])) × (result.0 < length (statement_list (graph_in numbers.now) m.0)) }
+    ensures { (result.0 ≡ helper_statement_of (get_or (module_helpers (module_of (graph_in numbers.now) m.0)) k [])) × (result.0 < length (statement_list (graph_in numbers.now) m.0)) }
 {
     StmtIdx(list_number(numbers, tables, m, 9, k, 1))
 }

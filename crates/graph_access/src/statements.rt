@@ -1,6 +1,6 @@
 // Statements of an accepted graph, their import records and their references.
 ghost use Rattle.std.specs.Prelude.{◌≡◌, ℕ, ◌+◌, ◌<◌, ◌≤◌, List, [], length, get_or};
-ghost use Rattle.graph_tables.specs.Tables.{header_in, first_of};
+ghost use Rattle.graph.specs.graph_tables_crate.Tables.{header_in, first_of};
 ghost use Rattle.graph.specs.Check.{graph_in};
 ghost use Rattle.graph.specs.Loaded.{Loaded};
 ghost use Rattle.graph_access.specs.Names.{import_records, statement_bits, statement_import_records, references, only};
@@ -8,7 +8,7 @@ ghost use Rattle.graph_access.specs.Words.{module_of, statement_list, statement_
 ghost use Rattle.graph_access.specs.References.{reference_width, ReferencesAt};
 
 use index::{ImportRecordIdx, ModuleIdx, StmtIdx};
-use tables::{FIRST_STATEMENT_OF, STATEMENTS};
+use graph::tables_crate::{FIRST_STATEMENT_OF, STATEMENTS};
 
 // Bits of a statement.
 pub const SIDE_EFFECT: usize = 0;
@@ -27,8 +27,8 @@ fn place(numbers: &[u32], tables: &[usize], m: ModuleIdx, i: StmtIdx) -> usize
     requires m_bound { (m.0 < (header_in numbers.now).modules) × (i.0 < length (statement_list (graph_in numbers.now) m.0)) }
     ensures { result ≡ (statement_of (graph_in numbers.now) m.0 i.0).place }
 {
-    let firsts = tables::section(tables, FIRST_STATEMENT_OF);
-    let places = tables::section(tables, STATEMENTS);
+    let firsts = graph::tables_crate::section(tables, FIRST_STATEMENT_OF);
+    let places = graph::tables_crate::section(tables, STATEMENTS);
     let a = m.0;
     let first = firsts[a];
     places[first + i.0]
@@ -40,7 +40,7 @@ pub fn number_of(numbers: &[u32], tables: &[usize], m: ModuleIdx, i: StmtIdx) ->
     requires m_bound { (m.0 < (header_in numbers.now).modules) × (i.0 < length (statement_list (graph_in numbers.now) m.0)) }
     ensures { result ≡ first_of (graph_in numbers.now).modules m.0 + i.0 }
 {
-    let firsts = tables::section(tables, FIRST_STATEMENT_OF);
+    let firsts = graph::tables_crate::section(tables, FIRST_STATEMENT_OF);
     let a = m.0;
     firsts[a] + i.0
 }
@@ -52,7 +52,7 @@ pub fn bits(numbers: &[u32], tables: &[usize], m: ModuleIdx, i: StmtIdx) -> usiz
     ensures { result ≡ statement_bits (statement_of (graph_in numbers.now) m.0 i.0) }
 {
     let p = place(numbers, tables, m, i);
-    rows::wide(numbers[p])
+    graph::rows_crate::wide(numbers[p])
 }
 
 // How many import records it has.
@@ -62,7 +62,7 @@ pub fn import_record_count(numbers: &[u32], tables: &[usize], m: ModuleIdx, i: S
     ensures { (result ≡ length (statement_import_records (statement_of (graph_in numbers.now) m.0 i.0))) × (result ≤ 16384) }
 {
     let p = place(numbers, tables, m, i);
-    rows::wide(numbers[p + 1])
+    graph::rows_crate::wide(numbers[p + 1])
 }
 
 // Import record k of it, as one of its module.
@@ -78,7 +78,7 @@ pub fn import_record(
     ensures { (result.0 ≡ only (get_or (statement_import_records (statement_of (graph_in numbers.now) m.0 i.0)) k [])) × (result.0 < length (import_records (module_of (graph_in numbers.now) m.0))) }
 {
     let p = place(numbers, tables, m, i);
-    ImportRecordIdx(rows::wide(numbers[p + 2 + k]))
+    ImportRecordIdx(graph::rows_crate::wide(numbers[p + 2 + k]))
 }
 
 // How many references it has.
@@ -88,8 +88,8 @@ pub fn reference_count(numbers: &[u32], tables: &[usize], m: ModuleIdx, i: StmtI
     ensures { (result ≡ length (references (statement_of (graph_in numbers.now) m.0 i.0))) × (result ≤ 16384) }
 {
     let p = place(numbers, tables, m, i);
-    let imports = rows::wide(numbers[p + 1]);
-    rows::wide(numbers[p + 2 + imports])
+    let imports = graph::rows_crate::wide(numbers[p + 1]);
+    graph::rows_crate::wide(numbers[p + 2 + imports])
 }
 
 // The place of its first reference; each further one is a reference's width behind the one before it.
@@ -99,7 +99,7 @@ pub fn first_reference(numbers: &[u32], tables: &[usize], m: ModuleIdx, i: StmtI
     ensures { ReferencesAt numbers.now result (references (statement_of (graph_in numbers.now) m.0 i.0)) }
 {
     let p = place(numbers, tables, m, i);
-    let imports = rows::wide(numbers[p + 1]);
+    let imports = graph::rows_crate::wide(numbers[p + 1]);
     p + 3 + imports
 }
 
@@ -116,7 +116,7 @@ pub fn reference_width(numbers: &[u32], p: usize) -> usize
         return 1;
     }
     if kind == 2 {
-        return 4 + rows::wide(numbers[p + 3]);
+        return 4 + graph::rows_crate::wide(numbers[p + 3]);
     }
     5
 }

@@ -6,17 +6,17 @@ use mathlib.Core.List.{List, [], ◌∷◌, ◌++◌, map}
 use native.Mathlib.Omega.{arith}
 use borrow.Author.Tests.{eq-eqb, ne_eqb}
 use lib.ListN.{length, get_or}
-use Rattle.rows.specs.declared.Walk.{Walk}
-use Rattle.rows.specs.declared.Walk.TheVariants.{At, Fault}
-use Rattle.rows.specs.Walk.{Parsed, got, fault, and_then, below, number, cells, list, lists, walk_of, onward, plain_row, columns_of, Item, no_item, item}
-use Rattle.rows.proofs.Walks.{at_got, fault_is, walk-map, walk_then, onward_at, onward_fault, lists_cons}
-use Rattle.rows.proofs.Cells.{then_got, no_fault, Number, number_got}
-use Rattle.rows.proofs.Items.{got_same}
+use Rattle.graph_tables.specs.rows_crate.declared.Walk.{Walk}
+use Rattle.graph_tables.specs.rows_crate.declared.Walk.TheVariants.{At, Fault}
+use Rattle.graph_tables.specs.rows_crate.Walk.{Parsed, got, fault, and_then, below, number, cells, list, lists, walk_of, onward, plain_row, columns_of, Item, no_item, item}
+use Rattle.graph_tables.proofs.rows_crate.Walks.{at_got, fault_is, walk-map, walk_then, onward_at, onward_fault, lists_cons}
+use Rattle.graph_tables.proofs.rows_crate.Cells.{then_got, no_fault, Number, number_got}
+use Rattle.graph_tables.proofs.rows_crate.Items.{got_same}
 use mathlib.Core.Bool.{Bool, true, false}
 use lib.Dec.{eqb}
-use Rattle.graph_format.specs.declared.Header.{Header}
-use Rattle.graph_format.specs.Format.{kind_of, statements_of, import_records_of, related_module_at, related_import_record_at, related_at, entry_at}
-use Rattle.graph_format.proofs.Chains.{lists_one}
+use Rattle.graph_tables.specs.graph_format_crate.declared.Header.{Header}
+use Rattle.graph_tables.specs.graph_format_crate.Format.{kind_of, statements_of, import_records_of, related_module_at, related_import_record_at, related_at, entry_at}
+use Rattle.graph_tables.proofs.graph_format_crate.Chains.{lists_one}
 use Rattle.graph_tables.proofs.OneItem.{item_go, item_stop, item_place}
 
 pub then_fault : {A B : Type 0} {x : Parsed A} {n p : ℕ} (k : A → ℕ → Parsed B) → x ≡ fault n p → and_then x k ≡ fault n p

@@ -1,14 +1,20 @@
 // The entries of a graph and their related statements, and the table of the entries' places.
 ghost use Rattle.std.specs.Prelude.{◌≡◌, ℕ, ◌+◌, ◌*◌, ◌<◌, ◌≤◌, List, [], ◌∷◌, length, get_or};
-ghost use Rattle.rows.specs.Walk.{walk_of, many, list, firsts, no_item};
-ghost use Rattle.graph_format.specs.Format.{import_records_of, related_module_at, related_import_record_at, related_at, entry_at, entries_at};
+ghost use Rattle.graph_tables.specs.rows_crate.Walk.{walk_of, many, list, firsts, no_item};
+ghost use Rattle.graph_tables.specs.graph_format_crate.Format.{import_records_of, related_module_at, related_import_record_at, related_at, entry_at, entries_at};
 ghost use Rattle.graph_tables.specs.Tables.{header_in, modules_in};
 ghost use Rattle.graph_tables.specs.Places.{Filled, ModuleTable};
-ghost use Rattle.tables.specs.Layout.{start_of, Laid, Kept, module_places, at_entries, at_verdicts};
+ghost use Rattle.graph_tables.specs.tables_crate.Layout.{start_of, Laid, Kept, module_places, at_entries, at_verdicts};
 
-use graph_format::Header;
-use rows::Walk;
-use tables::{ENTRIES, MODULES};
+// The crates below, for the crates above, which list this one alone.
+pub use graph_tables as graph_tables_crate;
+pub use graph_tables::graph_format_crate;
+pub use graph_tables::rows_crate;
+pub use graph_tables::tables_crate;
+
+use graph_tables::graph_format_crate::Header;
+use graph_tables::rows_crate::Walk;
+use graph_tables::tables_crate::{ENTRIES, MODULES};
 
 // The module of a related statement, which is a normal one.
 fn related_module(numbers: &[u32], modules: &[usize], at: usize, h: Header) -> Walk
@@ -16,10 +22,10 @@ fn related_module(numbers: &[u32], modules: &[usize], at: usize, h: Header) -> W
     requires h_value { h ≡ header_in numbers.now }
     ensures { result ≡ walk_of (related_module_at h (modules_in numbers.now) numbers.now at) }
 {
-    match rows::within(numbers, at, 0, h.modules) {
+    match graph_tables::rows_crate::within(numbers, at, 0, h.modules) {
         Walk::Fault(n, p) => Walk::Fault(n, p),
         Walk::At(q) => {
-            let m = rows::wide(numbers[at]);
+            let m = graph_tables::rows_crate::wide(numbers[at]);
             let kind = graph_tables::module_number(numbers, modules, m, 0);
             if kind == 1 {
                 Walk::At(q)
@@ -37,10 +43,10 @@ fn related_import_record(numbers: &[u32], modules: &[usize], at: usize, m: usize
     ensures { result ≡ walk_of (related_import_record_at (import_records_of (get_or (modules_in numbers.now) m no_item)) numbers.now at) }
 {
     let count = graph_tables::import_record_count(numbers, modules, m);
-    match rows::within(numbers, at, 0, count) {
+    match graph_tables::rows_crate::within(numbers, at, 0, count) {
         Walk::Fault(n, p) => Walk::Fault(n, p),
         Walk::At(q) => {
-            let k = rows::wide(numbers[at]);
+            let k = graph_tables::rows_crate::wide(numbers[at]);
             let target = graph_tables::import_record_number(numbers, modules, m, k, 0);
             if target == 0 {
                 Walk::Fault(3, at)
@@ -60,13 +66,13 @@ fn related(numbers: &[u32], modules: &[usize], at: usize, h: Header) -> Walk
     match related_module(numbers, modules, at, h) {
         Walk::Fault(n, p) => Walk::Fault(n, p),
         Walk::At(q) => {
-            let m = rows::wide(numbers[at]);
+            let m = graph_tables::rows_crate::wide(numbers[at]);
             let count = graph_tables::module_number(numbers, modules, m, 9);
-            match rows::within(numbers, q, 0, count) {
+            match graph_tables::rows_crate::within(numbers, q, 0, count) {
                 Walk::Fault(n, p) => Walk::Fault(n, p),
                 Walk::At(s) => match related_import_record(numbers, modules, s, m) {
                     Walk::Fault(n, p) => Walk::Fault(n, p),
-                    Walk::At(u) => rows::within(numbers, u, 0, 2),
+                    Walk::At(u) => graph_tables::rows_crate::within(numbers, u, 0, 2),
                 },
             }
         }
@@ -101,10 +107,10 @@ fn related_list(numbers: &[u32], modules: &[usize], at: usize, h: Header) -> Wal
     requires h_value { h ≡ header_in numbers.now }
     ensures { result ≡ walk_of (list (record { counts = 16385; row = related_at h (modules_in numbers.now) numbers.now }) numbers.now at) }
 {
-    match rows::counter(numbers, at, 16384, 0, 16385) {
+    match graph_tables::rows_crate::counter(numbers, at, 16384, 0, 16385) {
         Walk::Fault(n, p) => Walk::Fault(n, p),
         Walk::At(q) => {
-            let count = rows::wide(numbers[at]);
+            let count = graph_tables::rows_crate::wide(numbers[at]);
             related_rows(numbers, modules, q, count, h)
         }
     }
@@ -116,7 +122,7 @@ fn entry(numbers: &[u32], modules: &[usize], at: usize, h: Header) -> Walk
     requires h_value { h ≡ header_in numbers.now }
     ensures { result ≡ walk_of (entry_at h (modules_in numbers.now) numbers.now 0 at) }
 {
-    match rows::row(numbers, at, 2, h.modules, 3, 0) {
+    match graph_tables::rows_crate::row(numbers, at, 2, h.modules, 3, 0) {
         Walk::Fault(n, p) => Walk::Fault(n, p),
         Walk::At(q) => related_list(numbers, modules, q, h),
     }
@@ -132,7 +138,7 @@ pub fn entries(numbers: &[u32], at: usize, h: Header, tables: &mut [usize]) -> W
     let mut k: usize = 0;
     let mut q = at;
     while k < h.entries {
-        match entry(numbers, tables::section(tables, MODULES), q, h) {
+        match entry(numbers, graph_tables::tables_crate::section(tables, MODULES), q, h) {
             Walk::Fault(n, p) => {
                 return Walk::Fault(n, p);
             }

@@ -7,14 +7,14 @@ use native.Mathlib.Omega.{arith}
 use borrow.Author.Count.{below_more}
 use lib.ListN.{length, get_or, set, get_or-append}
 use lib.Seq.{get_or-set_same, get_or-set_other, get_or_at}
-use Rattle.rows.specs.declared.Walk.TheVariants.{At, Fault}
-use Rattle.rows.specs.Walk.{got, many, walk_of, Item, no_item}
-use Rattle.rows.proofs.Walks.{fault_is}
-use Rattle.rows.proofs.Many.{Going, going_start, going_step, going_stop, going_done}
-use Rattle.rows.proofs.Items.{many_first, many-length}
-use Rattle.graph_format.specs.declared.Header.{Header}
-use Rattle.graph_format.specs.declared.Left.{Left}
-use Rattle.graph_format.specs.Format.{module_at, less_module, modules_at, statements_of, import_records_of, statement_at, following, module_statements, statements_at}
+use Rattle.tables.specs.rows_crate.declared.Walk.TheVariants.{At, Fault}
+use Rattle.tables.specs.rows_crate.Walk.{got, many, walk_of, Item, no_item}
+use Rattle.tables.proofs.rows_crate.Walks.{fault_is}
+use Rattle.tables.proofs.rows_crate.Many.{Going, going_start, going_step, going_stop, going_done}
+use Rattle.tables.proofs.rows_crate.Items.{many_first, many-length}
+use Rattle.tables.specs.graph_format_crate.declared.Header.{Header}
+use Rattle.tables.specs.graph_format_crate.declared.Left.{Left}
+use Rattle.tables.specs.graph_format_crate.Format.{module_at, less_module, modules_at, statements_of, import_records_of, statement_at, following, module_statements, statements_at}
 use Rattle.graph_tables.specs.Tables.{header_in, modules_read, modules_in, first_of}
 use Rattle.graph_tables.specs.Places.{Placed, StatementsFilled, ModuleTable}
 use Rattle.tables.specs.Layout.{sizes, start_of, first_statements, statement_places, Laid, Kept, at_first_statements, at_statements, at_verdicts}

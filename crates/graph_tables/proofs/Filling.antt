@@ -6,10 +6,10 @@ use native.Mathlib.Omega.{arith}
 use borrow.Author.Count.{below_more}
 use lib.ListN.{length, get_or, set, get_or-append}
 use lib.Seq.{get_or-set_same, get_or-set_other, get_or_at}
-use Rattle.rows.specs.declared.Walk.TheVariants.{At, Fault}
-use Rattle.rows.specs.Walk.{Parsed, got, many, walk_of, Item, no_item}
-use Rattle.rows.proofs.Walks.{fault_is}
-use Rattle.rows.proofs.Many.{Going, going_start, going_step, going_stop, going_done}
+use Rattle.tables.specs.rows_crate.declared.Walk.TheVariants.{At, Fault}
+use Rattle.tables.specs.rows_crate.Walk.{Parsed, got, many, walk_of, Item, no_item}
+use Rattle.tables.proofs.rows_crate.Walks.{fault_is}
+use Rattle.tables.proofs.rows_crate.Many.{Going, going_start, going_step, going_stop, going_done}
 use Rattle.tables.specs.Layout.{Kept}
 use Rattle.tables.proofs.Sections.{kept_none, kept_set}
 use Rattle.graph_tables.specs.Places.{Filled}

@@ -5,14 +5,14 @@ use mathlib.Core.List.{List, [], ◌∷◌, ◌++◌, map}
 use native.Mathlib.Nat.{add-zero}
 use native.Mathlib.Omega.{arith}
 use lib.ListN.{length, get_or}
-use Rattle.rows.specs.declared.Walk.{Walk}
-use Rattle.rows.specs.declared.Walk.TheVariants.{At, Fault}
-use Rattle.rows.specs.Walk.{Parsed, got, fault, and_then, Rule, ListRule, cells, list, lists, walk_of, Item, no_item, item}
-use Rattle.rows.proofs.Walks.{at_got, fault_is, walk-map}
-use Rattle.rows.proofs.Cells.{Cells, cells_got}
-use Rattle.rows.proofs.Items.{ItemRead, item_got}
-use Rattle.graph_format.specs.declared.Header.{Header}
-use Rattle.graph_format.specs.Format.{symbol_rules, symbol_lists, symbol_at, statements_of}
+use Rattle.tables.specs.rows_crate.declared.Walk.{Walk}
+use Rattle.tables.specs.rows_crate.declared.Walk.TheVariants.{At, Fault}
+use Rattle.tables.specs.rows_crate.Walk.{Parsed, got, fault, and_then, Rule, ListRule, cells, list, lists, walk_of, Item, no_item, item}
+use Rattle.tables.proofs.rows_crate.Walks.{at_got, fault_is, walk-map}
+use Rattle.tables.proofs.rows_crate.Cells.{Cells, cells_got}
+use Rattle.tables.proofs.rows_crate.Items.{ItemRead, item_got}
+use Rattle.tables.specs.graph_format_crate.declared.Header.{Header}
+use Rattle.tables.specs.graph_format_crate.Format.{symbol_rules, symbol_lists, symbol_at, statements_of}
 
 module _ (rules : List Rule) (rest : List ℕ → List ListRule) (numbers : List ℕ) (at : ℕ) where
   pub item_go : {head : List ℕ} {q : ℕ} → cells rules numbers at ≡ got head q → walk_of (item rules rest numbers at) ≡ walk_of (lists (rest head) numbers q)

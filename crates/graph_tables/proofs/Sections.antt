@@ -5,8 +5,8 @@ use mathlib.Core.List.{List}
 use native.Mathlib.Nat.{add-zero}
 use native.Mathlib.Omega.{arith}
 use lib.ListN.{length, get_or}
-use Rattle.rows.specs.Walk.{Item}
-use Rattle.graph_format.specs.declared.Header.{Header}
+use Rattle.tables.specs.rows_crate.Walk.{Item}
+use Rattle.tables.specs.graph_format_crate.declared.Header.{Header}
 use Rattle.tables.specs.Layout.{sizes, start_of, section, module_places, Laid, Inside, Kept}
 use Rattle.tables.proofs.Sections.{inside, section_has, laid_kept, section_kept}
 use Rattle.graph_tables.specs.Places.{Placed, ModuleTable}

@@ -3,3 +3,7 @@
 -- `Places`: `Placed`, `Filled`, `ModuleTable`, `SymbolTable`, `StatementTable`, `EntryTable`.
 pub mod Tables
 pub mod Places
+-- The crates below, for the crates above.
+pub use Rattle.tables.specs as tables_crate
+pub use Rattle.tables.specs.graph_format_crate
+pub use Rattle.tables.specs.rows_crate

@@ -1,6 +1,6 @@
 -- Tables of where each module, symbol, statement and entry begins.
 use Rattle.std.specs.Prelude.{ℕ, ◌+◌, ◌<◌, ◌≤◌, ◌≡◌, List, [], length, get_or}
-use Rattle.rows.specs.Walk.{Parsed, got, fault, Item, no_item}
+use Rattle.tables.specs.rows_crate.Walk.{Parsed, got, fault, Item, no_item}
 use Rattle.graph_tables.specs.Tables.{header_in, modules_read, modules_in, symbols_read, symbols_in, statements_read, statements_in, entries_read, entries_in, first_of}
 
 -- the table holds the items' places, from `base` on

@@ -1,8 +1,8 @@
 -- The parts of a graph, and tables of where each module, symbol, statement and entry begins.
 use Rattle.std.specs.Prelude.{ℕ, zero, suc, ◌+◌, List, [], ◌∷◌, take}
-use Rattle.rows.specs.Walk.{Parsed, got, fault, Item}
-use Rattle.graph_format.specs.declared.Header.{Header}
-use Rattle.graph_format.specs.Format.{header_of, modules_at, symbols_at, statements_at, entries_at, statements_of}
+use Rattle.tables.specs.rows_crate.Walk.{Parsed, got, fault, Item}
+use Rattle.tables.specs.graph_format_crate.declared.Header.{Header}
+use Rattle.tables.specs.graph_format_crate.Format.{header_of, modules_at, symbols_at, statements_at, entries_at, statements_of}
 
 -- what was read, and nothing where there was a fault; where reading ended
 unfoldable pub items_of : {A : Type 0} → Parsed (List A) → List A

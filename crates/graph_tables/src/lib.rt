@@ -1,13 +1,18 @@
 // The parts of a graph, each read from the left, and the tables of their places.
 ghost use Rattle.std.specs.Prelude.{◌≡◌, ℕ, ◌+◌, ◌*◌, ◌<◌, ◌≤◌, List, [], ◌∷◌, length, get_or, drop};
-ghost use Rattle.rows.specs.Walk.{walk_of, many, no_item};
-ghost use Rattle.graph_format.specs.Format.{modules_at, import_records_of, symbol_at, symbols_at, statement_at, statements_at, following};
+ghost use Rattle.tables.specs.rows_crate.Walk.{walk_of, many, no_item};
+ghost use Rattle.tables.specs.graph_format_crate.Format.{modules_at, import_records_of, symbol_at, symbols_at, statement_at, statements_at, following};
 ghost use Rattle.graph_tables.specs.Tables.{header_in, modules_in, symbols_in};
 ghost use Rattle.graph_tables.specs.Places.{Filled, StatementsFilled, ModuleTable, SymbolTable};
 ghost use Rattle.tables.specs.Layout.{start_of, Laid, Kept, module_places, first_statements, statement_places, at_modules, at_symbols, at_first_statements, at_verdicts};
 
-use graph_format::{Header, Left};
-use rows::Walk;
+// The crates below, for the crates above, which list this one alone.
+pub use tables as tables_crate;
+pub use tables::graph_format_crate;
+pub use tables::rows_crate;
+
+use tables::graph_format_crate::{Header, Left};
+use tables::rows_crate::Walk;
 use tables::{FIRST_STATEMENT_OF, MODULES, STATEMENTS, SYMBOLS};
 
 // Number i of the twelve leading numbers of module m.
@@ -17,7 +22,7 @@ pub fn module_number(numbers: &[u32], module_at: &[usize], m: usize, i: usize) -
     ensures { result ≡ get_or (get_or (modules_in numbers.now) m no_item).head i 0 }
 {
     let p = module_at[m];
-    rows::wide(numbers[p + i])
+    tables::rows_crate::wide(numbers[p + i])
 }
 
 // How many import records module m has.
@@ -27,7 +32,7 @@ pub fn import_record_count(numbers: &[u32], module_at: &[usize], m: usize) -> us
     ensures { result ≡ length (import_records_of (get_or (modules_in numbers.now) m no_item)) }
 {
     let p = module_at[m];
-    rows::wide(numbers[p + 12])
+    tables::rows_crate::wide(numbers[p + 12])
 }
 
 // Column `column` of import record k of module m: 0 target+1, 1 kind, 2 bits.
@@ -43,7 +48,7 @@ pub fn import_record_number(
     ensures { result ≡ get_or (get_or (import_records_of (get_or (modules_in numbers.now) m no_item)) k []) column 0 }
 {
     let p = module_at[m];
-    rows::wide(numbers[p + 13 + 3 * k + column])
+    tables::rows_crate::wide(numbers[p + 13 + 3 * k + column])
 }
 
 // Reads the modules from `at` on, and fills their section.
@@ -61,13 +66,13 @@ pub fn modules(numbers: &[u32], at: usize, h: Header, tables: &mut [usize]) -> W
             statements: left,
             modules: h.modules - k,
         };
-        match graph_format::module(numbers, q, h, rest) {
+        match tables::graph_format_crate::module(numbers, q, h, rest) {
             Walk::Fault(n, p) => {
                 return Walk::Fault(n, p);
             }
             Walk::At(next) => {
                 tables[base + k] = q;
-                left = left - rows::wide(numbers[q + 9]);
+                left = left - tables::rows_crate::wide(numbers[q + 9]);
                 q = next;
             }
         }
@@ -82,12 +87,12 @@ fn symbol(numbers: &[u32], module_at: &[usize], at: usize, h: Header) -> Walk
     requires h_value { (h ≡ header_in numbers.now) × (h.symbols < 4294967296) }
     ensures { result ≡ walk_of (symbol_at h (modules_in numbers.now) numbers.now 0 at) }
 {
-    match graph_format::symbol_head(numbers, at, h) {
+    match tables::graph_format_crate::symbol_head(numbers, at, h) {
         Walk::Fault(n, p) => Walk::Fault(n, p),
         Walk::At(a) => {
-            let owner = rows::wide(numbers[at]);
+            let owner = tables::rows_crate::wide(numbers[at]);
             let count = module_number(numbers, module_at, owner, 9);
-            graph_format::symbol_lists(numbers, a, h, count)
+            tables::graph_format_crate::symbol_lists(numbers, a, h, count)
         }
     }
 }
@@ -123,7 +128,7 @@ pub fn symbol_number(numbers: &[u32], symbol_at: &[usize], s: usize, i: usize) -
     ensures { result ≡ get_or (get_or (symbols_in numbers.now) s no_item).head i 0 }
 {
     let p = symbol_at[s];
-    rows::wide(numbers[p + i])
+    tables::rows_crate::wide(numbers[p + i])
 }
 
 // Reads the `count` statements of a module of `imports` import records from `at` on, and writes their places from word `first` on.
@@ -142,7 +147,7 @@ fn module_statements(
     let mut k: usize = 0;
     let mut q = at;
     while k < count {
-        match graph_format::statement(numbers, q, h, imports) {
+        match tables::graph_format_crate::statement(numbers, q, h, imports) {
             Walk::Fault(n, p) => {
                 return Walk::Fault(n, p);
             }

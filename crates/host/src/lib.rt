@@ -1,10 +1,10 @@
 // The C boundary. Slices are a pointer and then a length; nothing is asked of the caller.
 ghost use Rattle.std.specs.Prelude.{◌≡◌};
-ghost use Rattle.graph.specs.Check.{check_of, answer_of};
+ghost use Rattle.determine_side_effects.specs.graph_crate.Check.{check_of, answer_of};
 ghost use Rattle.drain_parts.specs.Operation.{rows as rows_of};
-ghost use Rattle.run_parts.specs.Operation.{rows as runRowsOf};
+ghost use Rattle.run_parts.specs.Operation.{rows as run_rows_of};
 ghost use Rattle.judge_parts.specs.Operation.{judge_of};
-ghost use Rattle.run_starts.specs.Operation.{rows as startsRowsOf};
+ghost use Rattle.run_starts.specs.Operation.{rows as starts_rows_of};
 ghost use Rattle.answers.specs.Answers.{check_answer_of, judge_answer_of};
 ghost use Rattle.host.specs.Operations.{KeepRead, KeepEffects, KeepDrain, KeepRun, KeepStarts};
 
@@ -23,7 +23,7 @@ pub extern "C" fn keep_read(file: &[u8], numbers: &mut [u32]) -> ReadAnswer
 pub extern "C" fn keep_check(numbers: &[u32]) -> Refusal
     ensures { result ≡ check_answer_of (answer_of (check_of numbers.now)) }
 {
-    answers::check_answer(graph::check(numbers))
+    answers::check_answer(determine_side_effects::graph_crate::check(numbers))
 }
 
 // The modules' last verdicts on side effects, into the first of the lent numbers.
@@ -71,7 +71,7 @@ pub extern "C" fn keep_run(
     helpers: &mut [u32],
     entries: &mut [u32],
 ) -> RunAnswer
-    ensures { KeepRun numbers.now result (runRowsOf marks.old lines.old modules.old statements.old used.old external.old json.old reason.old dead.old helpers.old entries.old) (runRowsOf marks.new lines.new modules.new statements.new used.new external.new json.new reason.new dead.new helpers.new entries.new) }
+    ensures { KeepRun numbers.now result (run_rows_of marks.old lines.old modules.old statements.old used.old external.old json.old reason.old dead.old helpers.old entries.old) (run_rows_of marks.new lines.new modules.new statements.new used.new external.new json.new reason.new dead.new helpers.new entries.new) }
 {
     answers::run_answer(run::run(
         numbers, marks, lines, modules, statements, used, external, json, reason, dead, helpers,
@@ -95,7 +95,7 @@ pub extern "C" fn keep_starts(
     lines: &mut [u32],
     starts: &mut [u32],
 ) -> ReadAnswer
-    ensures { KeepStarts numbers.now result (startsRowsOf marks.old lines.old starts.old) (startsRowsOf marks.new lines.new starts.new) }
+    ensures { KeepStarts numbers.now result (starts_rows_of marks.old lines.old starts.old) (starts_rows_of marks.new lines.new starts.new) }
 {
     answers::starts_answer(run_starts::starts(numbers, marks, lines, starts))
 }

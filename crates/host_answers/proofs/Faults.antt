@@ -6,7 +6,7 @@ use mathlib.Core.List.{List, [], ◌∷◌, map}
 use native.Mathlib.Omega.{arith}
 use lib.Dec.{ltb, leb}
 use lib.ListN.{length, get_or}
-use Rattle.rows.specs.Walk.{Parsed, got, fault, and_then, Rule, value, count, below, within, obeys, number, cells, many, ListRule, list, firsts, plain_row, repeated, distinct_row, lists, item}
+use Rattle.determine_side_effects.specs.rows_crate.Walk.{Parsed, got, fault, and_then, Rule, value, count, below, within, obeys, number, cells, many, ListRule, list, firsts, plain_row, repeated, distinct_row, lists, item}
 use Rattle.host_answers.specs.Numbers.{OneOf}
 
 -- where reading ends in a fault, its number is one of these

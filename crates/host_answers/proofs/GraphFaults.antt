@@ -4,11 +4,11 @@ use mathlib.Core.Bool.{Bool}
 use mathlib.Core.List.{List, [], ◌∷◌}
 use lib.Dec.{eqb, ltb}
 use lib.ListN.{length, get_or}
-use Rattle.rows.specs.Walk.{below, firsts, plain_row, plain, distinct, Item, no_item}
-use Rattle.graph_format.specs.declared.Header.{Header}
-use Rattle.graph_format.specs.declared.Left.{Left}
-use Rattle.graph_format.specs.Format.{header_rules, header_of, import_lists, export_lists, name_lists, module_lists, module_at, less_module, modules_at, kind_of, statements_of, import_records_of, symbol_rules, owners_statements, symbol_lists, symbol_at, following, symbols_at, depended_at, member_rules, parts_at, reference_at, statement_lists, statement_at, module_statements, statements_at, related_module_at, related_import_record_at, related_at, entry_at, entries_at}
-use Rattle.graph.specs.Check.{Graph, helpers_at, graph_at, walked, each, runtime_normal, owns_namespace, root_is_root, later_rules, check_of}
+use Rattle.determine_side_effects.specs.rows_crate.Walk.{below, firsts, plain_row, plain, distinct, Item, no_item}
+use Rattle.determine_side_effects.specs.graph_format_crate.declared.Header.{Header}
+use Rattle.determine_side_effects.specs.graph_format_crate.declared.Left.{Left}
+use Rattle.determine_side_effects.specs.graph_format_crate.Format.{header_rules, header_of, import_lists, export_lists, name_lists, module_lists, module_at, less_module, modules_at, kind_of, statements_of, import_records_of, symbol_rules, owners_statements, symbol_lists, symbol_at, following, symbols_at, depended_at, member_rules, parts_at, reference_at, statement_lists, statement_at, module_statements, statements_at, related_module_at, related_import_record_at, related_at, entry_at, entries_at}
+use Rattle.determine_side_effects.specs.graph_crate.Check.{Graph, helpers_at, graph_at, walked, each, runtime_normal, owns_namespace, root_is_root, later_rules, check_of}
 use Rattle.host_answers.proofs.Faults.{Faults, of_got, no_such, cut_short, of_then, of_test, of_number, of_cells, of_many, of_plain, of_distinct, RowFaults, AllRows, none, more, of_list, of_item}
 
 -- lists of plain rows, of distinct ones, and of statements of a symbol's owner

@@ -4,11 +4,11 @@ use mathlib.Core.Path.{◌≡◌, refl}
 use mathlib.Core.Logic.{◌⊎◌, inl, inr, ◌↔◌}
 use mathlib.Core.List.{List}
 use native.Mathlib.Omega.{arith}
-use Rattle.leb128.specs.Read.{Decoded, all, refused, answer_of as answerOfRead}
-use Rattle.rows.specs.Walk.{Parsed, got, fault}
-use Rattle.graph.specs.declared.Checked.{Checked}
-use Rattle.graph.specs.declared.Checked.TheVariants.{Accepted, Refused}
-use Rattle.graph.specs.Check.{Graph, answer_of}
+use Rattle.leb128.specs.Read.{Decoded, all, refused, answer_of as answer_of_read}
+use Rattle.determine_side_effects.specs.rows_crate.Walk.{Parsed, got, fault}
+use Rattle.determine_side_effects.specs.graph_crate.declared.Checked.{Checked}
+use Rattle.determine_side_effects.specs.graph_crate.declared.Checked.TheVariants.{Accepted, Refused}
+use Rattle.determine_side_effects.specs.graph_crate.Check.{Graph, answer_of}
 use Rattle.keep_record.specs.declared.Line.{Line}
 use Rattle.drain_parts.specs.Operation as drain
 use Rattle.run_rows.specs.Run.{Run}
@@ -26,8 +26,8 @@ not_zero : {high n : ℕ} → OneOf 2 high n → n ≡ 0 → ⊥
 not_zero o e = omega (arith, o.least, e)
 
 -- a file was read
-pub read_whole : (d : Decoded) → Reads d → (read_answer_of (answerOfRead d)).number ≡ 0 → (xs : List ℕ) × (d ≡ all xs)
-unfolding read_answer_of answerOfRead
+pub read_whole : (d : Decoded) → Reads d → (read_answer_of (answer_of_read d)).number ≡ 0 → (xs : List ℕ) × (d ≡ all xs)
+unfolding read_answer_of answer_of_read
 read_whole (all xs) r z = (xs, refl)
 read_whole (refused n p) r z = absurd (go (r.numbers n p refl))
   where

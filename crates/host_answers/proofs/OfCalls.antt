@@ -8,12 +8,12 @@ use borrow.Author.Tests.{ltb-true, ltb-false}
 use lib.Dec.{ltb}
 use lib.ListN.{length, get_or, take, drop, take-append-drop, length-append, get_or-append}
 use lib.Seq.{take_at, drop_at, drop-append_seam}
-use Rattle.leb128.specs.Read.{all, answer_of as answerOfRead, read_of, lent_of}
-use Rattle.rows.specs.Walk.{Parsed, got, fault}
+use Rattle.leb128.specs.Read.{all, answer_of as answer_of_read, read_of, lent_of}
+use Rattle.determine_side_effects.specs.rows_crate.Walk.{Parsed, got, fault}
 use Rattle.bit_row.specs.Row.{bytes_for}
-use Rattle.graph.specs.declared.Checked.TheVariants.{Accepted, Refused}
-use Rattle.graph.specs.Check.{Graph, graph_in, check_of, answer_of}
-use Rattle.graph_access.specs.Words.{tabulate}
+use Rattle.determine_side_effects.specs.graph_crate.declared.Checked.TheVariants.{Accepted, Refused}
+use Rattle.determine_side_effects.specs.graph_crate.Check.{Graph, graph_in, check_of, answer_of}
+use Rattle.determine_side_effects.specs.graph_access_crate.Words.{tabulate}
 use Rattle.determine_side_effects.specs.Effects.{last_verdicts}
 use Rattle.determine_side_effects.specs.Operation.{effects_answer, effects_row}
 use Rattle.determine_side_effects.proofs.Loading.{last-length, short_answer, long_row}
@@ -65,8 +65,8 @@ use Rattle.host_answers.proofs.ByRow.{row_of_run_lem, row_of_drain_lem}
 
 -- A file and a graph ---------------------------------------------------------------------------------------------------------------------
 
-count_is : (a : ReadAnswer) (xs : List ℕ) → a ≡ read_answer_of (answerOfRead (all xs)) → length xs ≡ a.count
-unfolding read_answer_of answerOfRead
+count_is : (a : ReadAnswer) (xs : List ℕ) → a ≡ read_answer_of (answer_of_read (all xs)) → length xs ≡ a.count
+unfolding read_answer_of answer_of_read
 count_is a xs e = sym (ap (λ (x : ReadAnswer). x.count) e)
 
 numbers_first : (xs lent after : List ℕ) (n : ℕ) → after ≡ lent_of (all xs) lent → length xs ≡ n → take n after ≡ xs
@@ -79,8 +79,8 @@ read_call file lent a after k z =
     record {
       numbers = w.0;
       read = w.1;
-      count_is = sym (count_is a w.0 (k.answers ∙ ap (λ d. read_answer_of (answerOfRead d)) w.1));
-      first = numbers_first w.0 lent after a.count (k.leaves ∙ ap (λ d. lent_of d lent) w.1) (count_is a w.0 (k.answers ∙ ap (λ d. read_answer_of (answerOfRead d)) w.1));
+      count_is = sym (count_is a w.0 (k.answers ∙ ap (λ d. read_answer_of (answer_of_read d)) w.1));
+      first = numbers_first w.0 lent after a.count (k.leaves ∙ ap (λ d. lent_of d lent) w.1) (count_is a w.0 (k.answers ∙ ap (λ d. read_answer_of (answer_of_read d)) w.1));
     }
 
 pub check_call : EveryCheck

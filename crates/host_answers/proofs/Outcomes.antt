@@ -6,8 +6,8 @@ use native.Mathlib.Omega.{arith}
 use lib.Dec.{eqb, ltb, leb}
 use lib.ListN.{length}
 use Rattle.bit_row.specs.Row.{bytes_for}
-use Rattle.graph.specs.Check.{Graph, check_of}
-use Rattle.facts.specs.Facts.{mark_count}
+use Rattle.determine_side_effects.specs.graph_crate.Check.{Graph, check_of}
+use Rattle.determine_side_effects.specs.facts_crate.Facts.{mark_count}
 use Rattle.keep_record.specs.declared.Line.{Line}
 use Rattle.starts.specs.Starts.{starts_fault}
 use Rattle.drain_parts.specs.declared.Drained.TheVariants.{Refused as DrainRefused}

@@ -8,15 +8,15 @@ use lib.Dec.{eqb, ltb}
 use lib.ListN.{length, drop}
 use Rattle.leb128.specs.Groups.{groups, good}
 use Rattle.leb128.specs.Read.{Decoded, all, refused, before, numbers_from, read_of}
-use Rattle.rows.specs.declared.Walk.{Walk}
-use Rattle.rows.specs.declared.Walk.TheVariants.{At, Fault}
-use Rattle.rows.specs.Walk.{Parsed, got, fault}
-use Rattle.graph.specs.declared.Checked.{Checked}
-use Rattle.graph.specs.declared.Checked.TheVariants.{Accepted, Refused}
-use Rattle.graph.specs.Check.{Graph, check_of}
+use Rattle.determine_side_effects.specs.rows_crate.declared.Walk.{Walk}
+use Rattle.determine_side_effects.specs.rows_crate.declared.Walk.TheVariants.{At, Fault}
+use Rattle.determine_side_effects.specs.rows_crate.Walk.{Parsed, got, fault}
+use Rattle.determine_side_effects.specs.graph_crate.declared.Checked.{Checked}
+use Rattle.determine_side_effects.specs.graph_crate.declared.Checked.TheVariants.{Accepted, Refused}
+use Rattle.determine_side_effects.specs.graph_crate.Check.{Graph, check_of}
 use Rattle.determine_side_effects.specs.Effects.{last_verdicts}
 use Rattle.determine_side_effects.specs.Operation.{effects_answer}
-use Rattle.facts.specs.declared.Fact.{Fact}
+use Rattle.determine_side_effects.specs.facts_crate.declared.Fact.{Fact}
 use Rattle.keep_record.specs.declared.Line.{Line}
 use Rattle.keep_record.specs.Lines.{has}
 use Rattle.starts.specs.Starts.{starts_fault, starts_walk, starts_of}

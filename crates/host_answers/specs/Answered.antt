@@ -3,17 +3,17 @@
 use Rattle.std.specs.Prelude.{ℕ, ◌*◌, ◌<◌, ◌≤◌, ◌≡◌, ◌↔◌, Bool, true, false, List, length, take, drop}
 use Rattle.bit_row.specs.Row.{bit_at, bytes_for}
 use Rattle.leb128.specs.Read.{all, read_of}
-use Rattle.graph.specs.declared.Checked.TheVariants.{Accepted}
-use Rattle.graph.specs.Check.{Graph, graph_in, check_of, answer_of}
+use Rattle.determine_side_effects.specs.graph_crate.declared.Checked.TheVariants.{Accepted}
+use Rattle.determine_side_effects.specs.graph_crate.Check.{Graph, graph_in, check_of, answer_of}
 use Rattle.determine_side_effects.specs.Effects.{last_verdicts}
-use Rattle.facts.specs.Facts.{mark_count}
+use Rattle.determine_side_effects.specs.facts_crate.Facts.{mark_count}
 use Rattle.keep_record.specs.Held.{lines_of}
 use Rattle.starts.specs.Starts.{starts_of}
 use Rattle.answer_rows.specs.declared.Row.{Row}
 use Rattle.answer_rows.specs.declared.Row.TheVariants.{Modules, Statements, Used, External, Json, NamespaceReason}
 use Rattle.answer_rows.specs.Shown.{row_bytes}
 use Rattle.drain_parts.specs.Operation.{Rows}
-use Rattle.graph_access.specs.Words.{option}
+use Rattle.determine_side_effects.specs.graph_access_crate.Words.{option}
 use Rattle.dead_records.specs.Dead.{record_count}
 use Rattle.run_rows.specs.Run.{run_of}
 use Rattle.run_choices.specs.DeadAtEnd.{DeadAtEnd}

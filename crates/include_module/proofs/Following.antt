@@ -7,10 +7,10 @@ use borrow.Author.Tests.{eq-eqb, ne_eqb, lt-ltb, le-ltb}
 use native.Mathlib.Omega.{arith}
 use lib.Dec.{eqb, ltb}
 use lib.ListN.{length, get_or}
-use Rattle.graph.specs.Check.{Graph}
-use Rattle.graph_access.specs.Names.{exports, module_type, flags, only, named_imports, common_js_export_symbols, dependencies}
-use Rattle.facts.specs.Facts.{module_fact, statement_fact, checked_fact}
-use Rattle.graph_access.specs.Words.{flag, normal, option, module_of}
+use Rattle.determine_side_effects.specs.graph_crate.Check.{Graph}
+use Rattle.determine_side_effects.specs.graph_access_crate.Names.{exports, module_type, flags, only, named_imports, common_js_export_symbols, dependencies}
+use Rattle.determine_side_effects.specs.facts_crate.Facts.{module_fact, statement_fact, checked_fact}
+use Rattle.determine_side_effects.specs.graph_access_crate.Words.{flag, normal, option, module_of}
 use Rattle.determine_side_effects.specs.Effects.{has_effects}
 use Rattle.keep_rules.specs.declared.Candidate.TheVariants.{Gives, Nothing}
 use Rattle.keep_rules.specs.Rules.{when, has_eval, dependency, dependency_candidate, eval_candidates, eval_candidate, export_symbol_candidate, dev_namespace, dev_candidate}

@@ -3,9 +3,9 @@ use Prim.Native.Nat.{ℕ, ◌<◌}
 use mathlib.Core.Path.{◌≡◌}
 use mathlib.Core.List.{List}
 use lib.ListN.{length, get_or}
-use Rattle.graph.specs.Check.{Graph}
-use Rattle.graph_access.specs.Names.{dependencies, common_js_export_symbols}
-use Rattle.graph_access.specs.Words.{module_of, statement_list}
+use Rattle.determine_side_effects.specs.graph_crate.Check.{Graph}
+use Rattle.determine_side_effects.specs.graph_access_crate.Names.{dependencies, common_js_export_symbols}
+use Rattle.determine_side_effects.specs.graph_access_crate.Words.{module_of, statement_list}
 use Rattle.keep_rules.specs.Rules.{Segment, segment, no_segment, sweep_candidate, dependency_candidate, eval_candidates, eval_candidate, export_symbol_candidate, dev_candidate, module_segments}
 use Rattle.keep_rules.proofs.Segments.{last}
 

@@ -6,10 +6,10 @@ use mathlib.Core.Logic.{◌⊎◌, inl, inr, ⊎_elim}
 use mathlib.Core.List.{List}
 use borrow.Author.Tests.{eq-eqb, ne_eqb}
 use lib.ListN.{get_or}
-use Rattle.graph.specs.Check.{Graph}
-use Rattle.graph_access.specs.Names.{flags, statement_bits}
-use Rattle.facts.specs.Facts.{statement_fact}
-use Rattle.graph_access.specs.Words.{flag, option, module_of, statement_of}
+use Rattle.determine_side_effects.specs.graph_crate.Check.{Graph}
+use Rattle.determine_side_effects.specs.graph_access_crate.Names.{flags, statement_bits}
+use Rattle.determine_side_effects.specs.facts_crate.Facts.{statement_fact}
+use Rattle.determine_side_effects.specs.graph_access_crate.Words.{flag, option, module_of, statement_of}
 use Rattle.determine_side_effects.specs.Effects.{has_effects}
 use Rattle.on_demand.specs.Demand.{on_demand, gated}
 use Rattle.keep_rules.specs.declared.Candidate.TheVariants.{Gives, Nothing}

@@ -1,20 +1,20 @@
 // K2 to K6: what follows from a module (include_module of include_statements.rs).
 ghost use Rattle.std.specs.Prelude.{◌≡◌, ℕ, ◌+◌, ◌-◌, ◌<◌, ◌≤◌, List, [], ◌∷◌, Bool, true, false, length, get_or, drop};
-ghost use Rattle.graph_tables.specs.Tables.{header_in};
-ghost use Rattle.graph.specs.Check.{graph_in};
+ghost use Rattle.determine_side_effects.specs.graph_tables_crate.Tables.{header_in};
+ghost use Rattle.determine_side_effects.specs.graph_crate.Check.{graph_in};
 ghost use Rattle.determine_side_effects.specs.Effects.{last_verdicts};
-ghost use Rattle.facts.specs.Facts.{Good, statement_fact, use_fact};
-ghost use Rattle.graph_access.specs.Words.{statement_list, module_of, normal};
-ghost use Rattle.graph_access.specs.Names.{dependencies, common_js_export_symbols, named_imports};
-ghost use Rattle.keep_rules.specs.Rules.{quiet_runtime, effect_bit, swept_shaken, swept_whole, swept as sweptOf, sweep_candidate, dependency_candidate, eval_candidates, eval_candidate, export_symbol_candidate, dev_namespace, dev_candidate, module_segments, no_segment};
+ghost use Rattle.determine_side_effects.specs.facts_crate.Facts.{Good, statement_fact, use_fact};
+ghost use Rattle.determine_side_effects.specs.graph_access_crate.Words.{statement_list, module_of, normal};
+ghost use Rattle.determine_side_effects.specs.graph_access_crate.Names.{dependencies, common_js_export_symbols, named_imports};
+ghost use Rattle.keep_rules.specs.Rules.{quiet_runtime, effect_bit, swept_shaken, swept_whole, swept as swept_of, sweep_candidate, dependency_candidate, eval_candidates, eval_candidate, export_symbol_candidate, dev_namespace, dev_candidate, module_segments, no_segment};
 ghost use Rattle.keep_rules.specs.Prepared.{Prepared, GoodCandidate};
 
-use facts::{Fact, Reason};
-use graph_access::modules::{EVAL, SAFELY_TREESHAKE_COMMONJS};
-use graph_access::options::{COMMONJS_SHAKING, DEV_MODE, TREESHAKE};
-use graph_access::statements::{DECLARES, FORCE, SIDE_EFFECT};
-use graph_access::{modules, statements};
-use index::{ModuleIdx, StmtIdx};
+use determine_side_effects::facts_crate::{Fact, Reason};
+use determine_side_effects::graph_access_crate::modules::{EVAL, SAFELY_TREESHAKE_COMMONJS};
+use determine_side_effects::graph_access_crate::options::{COMMONJS_SHAKING, DEV_MODE, TREESHAKE};
+use determine_side_effects::graph_access_crate::statements::{DECLARES, FORCE, SIDE_EFFECT};
+use determine_side_effects::graph_access_crate::{modules, statements};
+use determine_side_effects::index_crate::{ModuleIdx, StmtIdx};
 use keep_rules::Candidate;
 
 // Whether module m is the runtime and has no effects.
@@ -23,7 +23,7 @@ pub fn is_quiet_runtime(numbers: &[u32], tables: &[usize], m: ModuleIdx) -> bool
     requires m_bound { m.0 < (header_in numbers.now).modules }
     ensures { result ≡ quiet_runtime (graph_in numbers.now) (last_verdicts (graph_in numbers.now)) m.0 }
 {
-    let h = graph::header_of(numbers);
+    let h = determine_side_effects::graph_crate::header_of(numbers);
     if m.0 != h.runtime {
         return false;
     }
@@ -36,7 +36,7 @@ fn effect_bit(numbers: &[u32], tables: &[usize], m: ModuleIdx) -> usize
     requires m_bound { m.0 < (header_in numbers.now).modules }
     ensures { (result ≡ effect_bit (graph_in numbers.now) m.0) × (result < 2) }
 {
-    if !facts::flag(
+    if !determine_side_effects::facts_crate::flag(
         modules::flags(numbers, tables, m),
         SAFELY_TREESHAKE_COMMONJS,
     ) {
@@ -55,7 +55,7 @@ fn swept_shaken(numbers: &[u32], tables: &[usize], m: ModuleIdx, i: StmtIdx) -> 
     ensures { result ≡ swept_shaken (graph_in numbers.now) (last_verdicts (graph_in numbers.now)) m.0 i.0 }
 {
     let bits = statements::bits(numbers, tables, m, i);
-    if facts::flag(bits, effect_bit(numbers, tables, m)) {
+    if determine_side_effects::facts_crate::flag(bits, effect_bit(numbers, tables, m)) {
         if !on_demand::is_on_demand(numbers, tables, m) {
             return true;
         }
@@ -63,10 +63,10 @@ fn swept_shaken(numbers: &[u32], tables: &[usize], m: ModuleIdx, i: StmtIdx) -> 
             return true;
         }
     }
-    if !facts::flag(modules::flags(numbers, tables, m), EVAL) {
+    if !determine_side_effects::facts_crate::flag(modules::flags(numbers, tables, m), EVAL) {
         return false;
     }
-    facts::flag(bits, DECLARES)
+    determine_side_effects::facts_crate::flag(bits, DECLARES)
 }
 
 // Whether an included module keeps statement i by itself, without tree shaking (`include_statements_without_treeshaking`).
@@ -76,17 +76,17 @@ fn swept_whole(numbers: &[u32], tables: &[usize], m: ModuleIdx, i: StmtIdx) -> b
     ensures { result ≡ swept_whole (graph_in numbers.now) m.0 i.0 }
 {
     let bits = statements::bits(numbers, tables, m, i);
-    if !facts::flag(bits, FORCE) {
+    if !determine_side_effects::facts_crate::flag(bits, FORCE) {
         return true;
     }
-    facts::flag(bits, SIDE_EFFECT)
+    determine_side_effects::facts_crate::flag(bits, SIDE_EFFECT)
 }
 
 // Whether an included module keeps statement i by itself.
 fn swept(numbers: &[u32], tables: &[usize], m: ModuleIdx, i: StmtIdx) -> bool
     requires prepared { Prepared numbers.now tables.now }
     requires m_bound { (m.0 < (header_in numbers.now).modules) × (i.0 < length (statement_list (graph_in numbers.now) m.0)) }
-    ensures { result ≡ sweptOf (graph_in numbers.now) (last_verdicts (graph_in numbers.now)) m.0 i.0 }
+    ensures { result ≡ swept_of (graph_in numbers.now) (last_verdicts (graph_in numbers.now)) m.0 i.0 }
 {
     if i.0 == 0 {
         return false;
@@ -136,7 +136,7 @@ pub fn eval_candidates(numbers: &[u32], tables: &[usize], m: ModuleIdx) -> usize
     requires m_bound { m.0 < (header_in numbers.now).modules }
     ensures { result ≡ eval_candidates (graph_in numbers.now) m.0 }
 {
-    if !facts::flag(modules::flags(numbers, tables, m), EVAL) {
+    if !determine_side_effects::facts_crate::flag(modules::flags(numbers, tables, m), EVAL) {
         return 0;
     }
     if modules::module_type(numbers, tables, m) < 2 {
@@ -179,7 +179,7 @@ pub fn dev_namespace(numbers: &[u32], tables: &[usize], m: ModuleIdx) -> bool
     if !keep_rules::option(numbers, DEV_MODE) {
         return false;
     }
-    let h = graph::header_of(numbers);
+    let h = determine_side_effects::graph_crate::header_of(numbers);
     if m.0 == h.runtime {
         return false;
     }

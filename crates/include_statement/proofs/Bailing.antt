@@ -8,10 +8,10 @@ use native.Mathlib.Omega.{arith}
 use borrow.Author.Tests.{eq-eqb, ne_eqb}
 use lib.Dec.{eqb, ltb}
 use lib.ListN.{get_or}
-use Rattle.graph.specs.Check.{Graph}
-use Rattle.graph_access.specs.Names.{exports, flags, reexport_count, import_records, import_record_target, import_record_kind, import_record_bits, only, statement_import_records}
-use Rattle.facts.specs.Facts.{bailout_fact}
-use Rattle.graph_access.specs.Words.{flag, normal, module_of, statement_of}
+use Rattle.determine_side_effects.specs.graph_crate.Check.{Graph}
+use Rattle.determine_side_effects.specs.graph_access_crate.Names.{exports, flags, reexport_count, import_records, import_record_target, import_record_kind, import_record_bits, only, statement_import_records}
+use Rattle.determine_side_effects.specs.facts_crate.Facts.{bailout_fact}
+use Rattle.determine_side_effects.specs.graph_access_crate.Words.{flag, normal, module_of, statement_of}
 use Rattle.determine_side_effects.specs.Effects.{has_effects}
 use Rattle.keep_rules.specs.declared.Candidate.TheVariants.{Gives, Nothing}
 use Rattle.keep_rules.specs.Rules.{when, import_record_of, bails_out, import_record_candidate}

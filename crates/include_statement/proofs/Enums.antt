@@ -6,10 +6,10 @@ use mathlib.Core.List.{List, []}
 use borrow.Author.Tests.{eq-eqb, ne_eqb}
 use lib.Dec.{eqb}
 use lib.ListN.{length, get_or, drop}
-use Rattle.graph.specs.Check.{Graph}
-use Rattle.graph_access.specs.Names.{owner, symbol_name, enum_name, enum_member, enum_members, reference_symbol, reference_flag, property_count, first_property}
-use Rattle.graph_access.specs.Words.{some, normal, module_of, symbol_of, root_of}
-use Rattle.facts.proofs.Folds.{some_next, some_here, some_none}
+use Rattle.determine_side_effects.specs.graph_crate.Check.{Graph}
+use Rattle.determine_side_effects.specs.graph_access_crate.Names.{owner, symbol_name, enum_name, enum_member, enum_members, reference_symbol, reference_flag, property_count, first_property}
+use Rattle.determine_side_effects.specs.graph_access_crate.Words.{some, normal, module_of, symbol_of, root_of}
+use Rattle.determine_side_effects.proofs.facts_crate.Folds.{some_next, some_here, some_none}
 use Rattle.keep_rules.specs.Rules.{inlined}
 
 -- a row of this name and member

@@ -8,9 +8,9 @@ use native.Mathlib.Omega.{arith}
 use borrow.Author.Tests.{eq-eqb, ne_eqb, lt-ltb, le-ltb, eqb-false}
 use lib.Dec.{eqb}
 use lib.ListN.{length, get_or}
-use Rattle.graph.specs.Check.{Graph}
-use Rattle.graph_access.specs.Names.{reference_kind, reference_symbol, reference_flag, depended_on}
-use Rattle.facts.specs.Facts.{use_fact, checked_fact, forward_fact}
+use Rattle.determine_side_effects.specs.graph_crate.Check.{Graph}
+use Rattle.determine_side_effects.specs.graph_access_crate.Names.{reference_kind, reference_symbol, reference_flag, depended_on}
+use Rattle.determine_side_effects.specs.facts_crate.Facts.{use_fact, checked_fact, forward_fact}
 use Rattle.keep_rules.specs.declared.Candidate.{Candidate}
 use Rattle.keep_rules.specs.declared.Candidate.TheVariants.{Gives}
 use Rattle.keep_rules.specs.Rules.{inlined, forwards, forward_candidate, plain_candidate, resolved_candidate, reference_candidates, reference_candidate}

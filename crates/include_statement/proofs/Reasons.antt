@@ -3,9 +3,9 @@ use Prim.Native.Nat.{ℕ, ◌+◌}
 use mathlib.Core.Path.{◌≡◌, ap, ◌∙◌}
 use mathlib.Core.Bool.{Bool, true, false}
 use lib.Dec.{eqb}
-use Rattle.graph.specs.Check.{Graph}
-use Rattle.graph_access.specs.Names.{module_type, statement_bits}
-use Rattle.graph_access.specs.Words.{flag, module_of, statement_of}
+use Rattle.determine_side_effects.specs.graph_crate.Check.{Graph}
+use Rattle.determine_side_effects.specs.graph_access_crate.Names.{module_type, statement_bits}
+use Rattle.determine_side_effects.specs.graph_access_crate.Words.{flag, module_of, statement_of}
 use Rattle.keep_rules.specs.Rules.{reason_of}
 
 module _ (g : Graph) (m i bits type : ℕ) (e : bits ≡ statement_bits (statement_of g m i)) (f : type ≡ module_type (module_of g m)) where

@@ -5,14 +5,14 @@ use mathlib.Core.List.{List, []}
 use native.Mathlib.Omega.{arith}
 use lib.Seq.{get_or-drop}
 use lib.ListN.{length, get_or, length-drop}
-use Rattle.graph_tables.specs.Tables.{header_in}
-use Rattle.graph.specs.Check.{graph_in}
-use Rattle.graph_access.specs.Names.{references, reference_kind, reference_symbol, reference_flag, property_count, first_property, depended_on}
-use Rattle.graph_access.proofs.ReadReferences.{width_0, width_2, width_3, kind_inside}
-use Rattle.graph_access.proofs.StatementRanges.{ReferenceGood}
-use Rattle.graph_access.specs.Words.{statement_of}
-use Rattle.graph.specs.Loaded.{Loaded}
-use Rattle.graph_access.proofs.Indexes.{reference_good_here}
+use Rattle.determine_side_effects.specs.graph_tables_crate.Tables.{header_in}
+use Rattle.determine_side_effects.specs.graph_crate.Check.{graph_in}
+use Rattle.determine_side_effects.specs.graph_access_crate.Names.{references, reference_kind, reference_symbol, reference_flag, property_count, first_property, depended_on}
+use Rattle.determine_side_effects.proofs.graph_access_crate.ReadReferences.{width_0, width_2, width_3, kind_inside}
+use Rattle.determine_side_effects.proofs.graph_access_crate.StatementRanges.{ReferenceGood}
+use Rattle.determine_side_effects.specs.graph_access_crate.Words.{statement_of}
+use Rattle.determine_side_effects.specs.graph_crate.Loaded.{Loaded}
+use Rattle.determine_side_effects.proofs.graph_access_crate.Indexes.{reference_good_here}
 use Rattle.include_statement.specs.Here.{Here}
 
 module _ {numbers : List ℕ} {m i r place : ℕ} (h : Here numbers m i r place) where

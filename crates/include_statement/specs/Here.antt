@@ -1,9 +1,9 @@
 -- A reference and where it stands.
 use Rattle.std.specs.Prelude.{ℕ, ◌<◌, List, [], length, get_or}
-use Rattle.graph.specs.Check.{graph_in}
-use Rattle.graph_access.specs.Names.{references}
-use Rattle.graph_access.specs.References.{ReferenceAt}
-use Rattle.graph_access.specs.Words.{statement_list, statement_of}
+use Rattle.determine_side_effects.specs.graph_crate.Check.{graph_in}
+use Rattle.determine_side_effects.specs.graph_access_crate.Names.{references}
+use Rattle.determine_side_effects.specs.graph_access_crate.References.{ReferenceAt}
+use Rattle.determine_side_effects.specs.graph_access_crate.Words.{statement_list, statement_of}
 
 -- reference r of statement i of module m stands at `place`
 pub record Here (numbers : List ℕ) (m i r place : ℕ) : Type 0 where

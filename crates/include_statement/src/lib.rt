@@ -1,22 +1,22 @@
 // K7 and K8: what follows from a statement (include_statement of include_statements.rs).
 ghost use Rattle.std.specs.Prelude.{◌≡◌, ℕ, ◌+◌, ◌-◌, ◌<◌, ◌≤◌, List, [], ◌∷◌, Bool, true, false, length, get_or, drop, ◌&&◌, eqb};
-ghost use Rattle.graph_tables.specs.Tables.{header_in};
-ghost use Rattle.graph.specs.Check.{graph_in};
+ghost use Rattle.determine_side_effects.specs.graph_tables_crate.Tables.{header_in};
+ghost use Rattle.determine_side_effects.specs.graph_crate.Check.{graph_in};
 ghost use Rattle.determine_side_effects.specs.Effects.{last_verdicts};
-ghost use Rattle.facts.specs.Facts.{Good, statement_fact, use_fact};
-ghost use Rattle.graph_access.specs.Words.{statement_list, statement_of, module_of, normal};
-ghost use Rattle.graph_access.specs.Words.{some};
-ghost use Rattle.graph_access.specs.Names.{import_records, import_record_target, statement_import_records, references, enum_name, enum_member, enum_members};
-ghost use Rattle.graph_access.specs.References.{ReferenceAt};
+ghost use Rattle.determine_side_effects.specs.facts_crate.Facts.{Good, statement_fact, use_fact};
+ghost use Rattle.determine_side_effects.specs.graph_access_crate.Words.{statement_list, statement_of, module_of, normal};
+ghost use Rattle.determine_side_effects.specs.graph_access_crate.Words.{some};
+ghost use Rattle.determine_side_effects.specs.graph_access_crate.Names.{import_records, import_record_target, statement_import_records, references, enum_name, enum_member, enum_members};
+ghost use Rattle.determine_side_effects.specs.graph_access_crate.References.{ReferenceAt};
 ghost use Rattle.keep_rules.specs.Rules.{import_record_of, bails_out, import_record_candidate, reason_of, inlined, plain_candidate, resolved_candidate, reference_candidates, reference_candidate, forwards};
 ghost use Rattle.keep_rules.specs.Prepared.{Prepared, GoodCandidate};
 ghost use Rattle.include_statement.specs.Here.{Here};
 
-use facts::{Fact, Reason};
-use graph_access::modules::{IS_CJS_REEXPORT, TOP_LEVEL_PURE_DYNAMIC_IMPORT};
-use graph_access::statements::REEXPORT_DYNAMIC_EXPORTS;
-use graph_access::{modules, statements, symbols};
-use index::{ImportRecordIdx, ModuleIdx, StmtIdx, SymbolIdx};
+use determine_side_effects::facts_crate::{Fact, Reason};
+use determine_side_effects::graph_access_crate::modules::{IS_CJS_REEXPORT, TOP_LEVEL_PURE_DYNAMIC_IMPORT};
+use determine_side_effects::graph_access_crate::statements::REEXPORT_DYNAMIC_EXPORTS;
+use determine_side_effects::graph_access_crate::{modules, statements, symbols};
+use determine_side_effects::index_crate::{ImportRecordIdx, ModuleIdx, StmtIdx, SymbolIdx};
 use keep_rules::Candidate;
 
 // Whether import record e of module m, which is resolved to module t, bails out that module.
@@ -40,7 +40,7 @@ fn bails_out(
     if modules::import_record_kind(numbers, tables, m, e) == 0 {
         return false;
     }
-    if facts::flag(
+    if determine_side_effects::facts_crate::flag(
         modules::import_record_bits(numbers, tables, m, e),
         TOP_LEVEL_PURE_DYNAMIC_IMPORT,
     ) {
@@ -48,7 +48,7 @@ fn bails_out(
             return false;
         }
     }
-    if !facts::flag(modules::flags(numbers, tables, m), IS_CJS_REEXPORT) {
+    if !determine_side_effects::facts_crate::flag(modules::flags(numbers, tables, m), IS_CJS_REEXPORT) {
         return true;
     }
     modules::reexport_count(numbers, tables, m) > 1
@@ -86,7 +86,7 @@ fn include_kind(numbers: &[u32], tables: &[usize], m: ModuleIdx, i: StmtIdx) -> 
 {
     let bits = statements::bits(numbers, tables, m, i);
     let json = modules::module_type(numbers, tables, m) == 2;
-    if facts::flag(bits, REEXPORT_DYNAMIC_EXPORTS) {
+    if determine_side_effects::facts_crate::flag(bits, REEXPORT_DYNAMIC_EXPORTS) {
         if json {
             return Reason { bits: 12 };
         }
@@ -131,7 +131,7 @@ fn is_inlined_enum_member_access(
     requires place_value { get_or numbers.now place 0 ≡ 3 }
     ensures { result ≡ inlined (graph_in numbers.now) (get_or (references (statement_of (graph_in numbers.now) m.0 i.0)) r []) }
 {
-    let object = SymbolIdx(rows::wide(numbers[place + 1]));
+    let object = SymbolIdx(determine_side_effects::rows_crate::wide(numbers[place + 1]));
     let root = symbols::root(numbers, tables, object);
     let owner = symbols::owner(numbers, tables, root);
     if !modules::is_normal(numbers, tables, owner) {
@@ -144,7 +144,7 @@ fn is_inlined_enum_member_access(
         return false;
     }
     let name = symbols::name(numbers, tables, root);
-    enum_member(numbers, tables, owner, name, rows::wide(numbers[place + 4]))
+    enum_member(numbers, tables, owner, name, determine_side_effects::rows_crate::wide(numbers[place + 4]))
 }
 
 // How many candidates the reference that stands at `place`, reference r of statement i, has.
@@ -165,14 +165,14 @@ pub fn reference_candidates(
         return 0;
     }
     if kind == 2 {
-        return rows::wide(numbers[place + 3]) + 1;
+        return determine_side_effects::rows_crate::wide(numbers[place + 3]) + 1;
     }
     if kind == 3 {
         if is_inlined_enum_member_access(numbers, tables, m, i, r, place) {
             return 0;
         }
     }
-    let s = rows::wide(numbers[place + 1]);
+    let s = determine_side_effects::rows_crate::wide(numbers[place + 1]);
     keep_rules::forward_count(numbers, tables, SymbolIdx(s)) + 1
 }
 
@@ -191,11 +191,11 @@ fn resolved_candidate(
     requires place_value { (get_or numbers.now place 0 ≡ 2) × (k < reference_candidates (graph_in numbers.now) (get_or (references (statement_of (graph_in numbers.now) m.0 i.0)) r [])) }
     ensures { (result ≡ resolved_candidate (get_or (references (statement_of (graph_in numbers.now) m.0 i.0)) r []) (reason_of (graph_in numbers.now) m.0 i.0) k) × GoodCandidate (graph_in numbers.now) result }
 {
-    if k < rows::wide(numbers[place + 3]) {
-        return Candidate::Gives(Fact::Forward(SymbolIdx(rows::wide(numbers[place + 4 + k]))));
+    if k < determine_side_effects::rows_crate::wide(numbers[place + 3]) {
+        return Candidate::Gives(Fact::Forward(SymbolIdx(determine_side_effects::rows_crate::wide(numbers[place + 4 + k]))));
     }
     let x = include_kind(numbers, tables, m, i);
-    let s = SymbolIdx(rows::wide(numbers[place + 1]));
+    let s = SymbolIdx(determine_side_effects::rows_crate::wide(numbers[place + 1]));
     if numbers[place + 2] == 1 {
         return Candidate::Gives(Fact::Use(s, x));
     }
@@ -220,7 +220,7 @@ pub fn reference_candidate(
     if numbers[place] == 2 {
         return resolved_candidate(numbers, tables, m, i, r, place, k);
     }
-    let s = SymbolIdx(rows::wide(numbers[place + 1]));
+    let s = SymbolIdx(determine_side_effects::rows_crate::wide(numbers[place + 1]));
     if k < keep_rules::forward_count(numbers, tables, s) {
         return keep_rules::forward_candidate(numbers, tables, s, k);
     }

@@ -6,11 +6,11 @@ use native.Mathlib.Numerals.{add-one}
 use native.Mathlib.Omega.{arith}
 use lib.Seq.{drop-cons}
 use lib.ListN.{length, get_or, drop, drop_of_length-le}
-use Rattle.graph_tables.specs.Tables.{header_in}
-use Rattle.graph.specs.Check.{Graph, graph_in}
-use Rattle.graph_access.specs.Names.{references}
-use Rattle.graph_access.specs.Words.{statement_list, statement_of}
-use Rattle.graph_access.specs.References.{reference_width, ReferenceAt, ReferencesAt}
+use Rattle.determine_side_effects.specs.graph_tables_crate.Tables.{header_in}
+use Rattle.determine_side_effects.specs.graph_crate.Check.{Graph, graph_in}
+use Rattle.determine_side_effects.specs.graph_access_crate.Names.{references}
+use Rattle.determine_side_effects.specs.graph_access_crate.Words.{statement_list, statement_of}
+use Rattle.determine_side_effects.specs.graph_access_crate.References.{reference_width, ReferenceAt, ReferencesAt}
 use Rattle.include_statement.specs.Here.{Here}
 use Rattle.keep_rules.specs.Rules.{Segment, reference_segment}
 use Rattle.keep_record.specs.declared.Line.{Line}

@@ -1,13 +1,13 @@
 // What follows from a fact by K2 to K14, as lines behind those of the record (include_statements.rs). Each rule has a loop of its own over its
 // candidates, in the record's order, so that a fact's kind and rule are decided once and not for each candidate.
 ghost use Rattle.std.specs.Prelude.{◌≡◌, ℕ, ◌<◌, true, List, [], ◌∷◌, map, length, get_or, drop};
-ghost use Rattle.graph_tables.specs.Tables.{header_in};
-ghost use Rattle.graph.specs.Check.{graph_in};
-ghost use Rattle.graph_access.specs.Words.{module_of, statement_list, statement_of, normal};
-ghost use Rattle.graph_access.specs.Names.{dependencies, common_js_export_symbols, statement_import_records, references};
+ghost use Rattle.determine_side_effects.specs.graph_tables_crate.Tables.{header_in};
+ghost use Rattle.determine_side_effects.specs.graph_crate.Check.{graph_in};
+ghost use Rattle.determine_side_effects.specs.graph_access_crate.Words.{module_of, statement_list, statement_of, normal};
+ghost use Rattle.determine_side_effects.specs.graph_access_crate.Names.{dependencies, common_js_export_symbols, statement_import_records, references};
 ghost use Rattle.determine_side_effects.specs.Effects.{last_verdicts};
-ghost use Rattle.facts.specs.Facts.{Good};
-ghost use Rattle.facts.specs.declared.Fact.TheVariants.{Module, Statement, Use};
+ghost use Rattle.determine_side_effects.specs.facts_crate.Facts.{Good};
+ghost use Rattle.determine_side_effects.specs.facts_crate.declared.Fact.TheVariants.{Module, Statement, Use};
 ghost use Rattle.linking_metadata.specs.Namespaces.{target_of};
 ghost use Rattle.keep_rules.specs.Prepared.{Prepared, GoodCandidate};
 ghost use Rattle.keep_rules.specs.Rules.{segment, segments_of, module_segments, use_segments, sweep_candidate, dependency_candidate, eval_candidates, eval_candidate, export_symbol_candidate, import_record_candidate, reason_of, reference_segment, checked_candidate, demanded, demand_candidates, demand_candidate, wrapper_candidates, wrapper_candidate, declaration_candidates, declaration_candidate, write_candidates, write_candidate};
@@ -16,9 +16,9 @@ ghost use Rattle.keep_record.specs.Lines.{adds};
 ghost use Rattle.keep_record.specs.Held.{lines_of, Held, Grown};
 ghost use Rattle.include_statements.specs.Following.{candidate_lines, lines_by};
 
-use facts::{Fact, Reason};
-use graph_access::{modules, statements};
-use index::{ModuleIdx, StmtIdx, SymbolIdx};
+use determine_side_effects::facts_crate::{Fact, Reason};
+use determine_side_effects::graph_access_crate::{modules, statements};
+use determine_side_effects::index_crate::{ModuleIdx, StmtIdx, SymbolIdx};
 use keep_record::{Added, Line, Stage};
 use keep_rules::Candidate;
 

@@ -4,10 +4,10 @@ use mathlib.Core.Path.{◌≡◌, ap, ◌∙◌, sym}
 use mathlib.Core.Bool.{Bool, true, false}
 use borrow.Author.Tests.{eq-eqb, ne_eqb}
 use lib.Dec.{eqb}
-use Rattle.graph.specs.Check.{Graph}
-use Rattle.graph_access.specs.Names.{owner, alias_namespace, alias_name}
-use Rattle.graph_access.specs.Words.{root_of, symbol_of}
-use Rattle.facts.specs.Facts.{use_fact, bailout_fact}
+use Rattle.determine_side_effects.specs.graph_crate.Check.{Graph}
+use Rattle.determine_side_effects.specs.graph_access_crate.Names.{owner, alias_namespace, alias_name}
+use Rattle.determine_side_effects.specs.graph_access_crate.Words.{root_of, symbol_of}
+use Rattle.determine_side_effects.specs.facts_crate.Facts.{use_fact, bailout_fact}
 use Rattle.linking_metadata.specs.Namespaces.{common_js_of, is_namespace}
 use Rattle.keep_rules.specs.declared.Candidate.{Candidate}
 use Rattle.keep_rules.specs.declared.Candidate.TheVariants.{Gives, Nothing}

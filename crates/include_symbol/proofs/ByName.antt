@@ -7,10 +7,10 @@ use native.Mathlib.Numerals.{add-one}
 use borrow.Author.Tests.{eq-eqb, ne_eqb}
 use lib.Seq.{drop-cons}
 use lib.ListN.{length, get_or, drop, drop_of_length-le}
-use Rattle.graph.specs.Check.{Graph}
-use Rattle.graph_access.specs.Names.{export_name, export_symbol, resolved_exports, alias_namespace, alias_name}
-use Rattle.facts.specs.Facts.{use_fact}
-use Rattle.graph_access.specs.Words.{normal, module_of, symbol_of}
+use Rattle.determine_side_effects.specs.graph_crate.Check.{Graph}
+use Rattle.determine_side_effects.specs.graph_access_crate.Names.{export_name, export_symbol, resolved_exports, alias_namespace, alias_name}
+use Rattle.determine_side_effects.specs.facts_crate.Facts.{use_fact}
+use Rattle.determine_side_effects.specs.graph_access_crate.Words.{normal, module_of, symbol_of}
 use Rattle.linking_metadata.specs.Namespaces.{common_js_of}
 use Rattle.keep_rules.specs.declared.Candidate.{Candidate}
 use Rattle.keep_rules.specs.declared.Candidate.TheVariants.{Gives, Nothing}

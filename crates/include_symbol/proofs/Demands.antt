@@ -7,10 +7,10 @@ use native.Mathlib.Omega.{arith}
 use borrow.Author.Tests.{eq-eqb, ne_eqb, eqb-false}
 use lib.Dec.{eqb}
 use lib.ListN.{length}
-use Rattle.graph.specs.Check.{Graph}
-use Rattle.graph_access.specs.Names.{constant_bits}
-use Rattle.graph_access.specs.Words.{root_of, flag, option, symbol_of, statement_list}
-use Rattle.facts.specs.Facts.{statement_fact}
+use Rattle.determine_side_effects.specs.graph_crate.Check.{Graph}
+use Rattle.determine_side_effects.specs.graph_access_crate.Names.{constant_bits}
+use Rattle.determine_side_effects.specs.graph_access_crate.Words.{root_of, flag, option, symbol_of, statement_list}
+use Rattle.determine_side_effects.specs.facts_crate.Facts.{statement_fact}
 use Rattle.on_demand.specs.Demand.{gated, body_of}
 use Rattle.keep_rules.specs.declared.Candidate.TheVariants.{Gives, Nothing}
 use Rattle.keep_rules.specs.Rules.{when, bypassed, demanded, demand_candidates, demand_candidate}

@@ -3,8 +3,8 @@ use Prim.Native.Nat.{ℕ, ◌<◌}
 use mathlib.Core.Path.{◌≡◌, refl}
 use mathlib.Core.List.{List}
 use lib.ListN.{get_or}
-use Rattle.graph.specs.Check.{Graph}
-use Rattle.graph_access.specs.Words.{root_of}
+use Rattle.determine_side_effects.specs.graph_crate.Check.{Graph}
+use Rattle.determine_side_effects.specs.graph_access_crate.Words.{root_of}
 use Rattle.linking_metadata.specs.Namespaces.{target_of}
 use Rattle.keep_rules.specs.Rules.{Segment, segment, no_segment, demanded, demand_candidates, demand_candidate, alias_candidate, wrapper_candidates, wrapper_candidate, declaration_candidates, declaration_candidate, write_candidates, write_candidate, use_segments}
 use Rattle.keep_rules.proofs.Segments.{last}

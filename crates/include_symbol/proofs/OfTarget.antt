@@ -7,10 +7,10 @@ use native.Mathlib.Omega.{arith}
 use borrow.Author.Tests.{eq-eqb, ne_eqb, lt-ltb, le-ltb, eqb-false}
 use lib.Dec.{eqb}
 use lib.ListN.{length, get_or}
-use Rattle.graph.specs.Check.{Graph}
-use Rattle.graph_access.specs.Names.{wrap, wrapper, owner, only, declaring_statements, written_property_statements}
-use Rattle.facts.specs.Facts.{module_fact, statement_fact, use_fact}
-use Rattle.graph_access.specs.Words.{flag, normal, option, module_of, symbol_of, statement_list}
+use Rattle.determine_side_effects.specs.graph_crate.Check.{Graph}
+use Rattle.determine_side_effects.specs.graph_access_crate.Names.{wrap, wrapper, owner, only, declaring_statements, written_property_statements}
+use Rattle.determine_side_effects.specs.facts_crate.Facts.{module_fact, statement_fact, use_fact}
+use Rattle.determine_side_effects.specs.graph_access_crate.Words.{flag, normal, option, module_of, symbol_of, statement_list}
 use Rattle.linking_metadata.specs.Namespaces.{is_namespace}
 use Rattle.keep_rules.specs.declared.Candidate.{Candidate}
 use Rattle.keep_rules.specs.declared.Candidate.TheVariants.{Gives, Nothing}

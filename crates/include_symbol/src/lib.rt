@@ -1,19 +1,19 @@
 // K9 to K14: what follows from a use, checked or not (include_symbol of include_statements.rs).
 ghost use Rattle.std.specs.Prelude.{◌≡◌, ◌<◌, ◌≤◌, get_or};
-ghost use Rattle.graph_tables.specs.Tables.{header_in, symbols_in};
-ghost use Rattle.graph.specs.Check.{graph_in};
+ghost use Rattle.determine_side_effects.specs.graph_tables_crate.Tables.{header_in, symbols_in};
+ghost use Rattle.determine_side_effects.specs.graph_crate.Check.{graph_in};
 ghost use Rattle.determine_side_effects.specs.Effects.{last_verdicts};
-ghost use Rattle.graph_access.specs.Words.{root_of, module_of};
-ghost use Rattle.graph_access.specs.Names.{resolved_exports};
+ghost use Rattle.determine_side_effects.specs.graph_access_crate.Words.{root_of, module_of};
+ghost use Rattle.determine_side_effects.specs.graph_access_crate.Names.{resolved_exports};
 ghost use Rattle.keep_rules.specs.Rules.{bailout_candidate, default_alias, checked_candidate, bypassed, demanded, demand_candidates, demand_candidate, export_of, export_candidate, alias_candidate, needs_wrapper, wrapper_candidates, wrapper_candidate, declaration_candidates, declaration_candidate, write_candidates, write_candidate, use_segments, no_segment};
 ghost use Rattle.linking_metadata.specs.Namespaces.{target_of};
 ghost use Rattle.keep_rules.specs.Prepared.{Prepared, GoodCandidate};
 
-use facts::{Fact, Reason};
-use graph_access::options::{INLINE_CONST_SMART, PROPERTY_WRITES_FALSE};
-use graph_access::symbols::{COMMONJS, KNOWN, SAFE};
-use graph_access::{modules, symbols};
-use index::{ModuleIdx, StmtIdx, SymbolIdx};
+use determine_side_effects::facts_crate::{Fact, Reason};
+use determine_side_effects::graph_access_crate::options::{INLINE_CONST_SMART, PROPERTY_WRITES_FALSE};
+use determine_side_effects::graph_access_crate::symbols::{COMMONJS, KNOWN, SAFE};
+use determine_side_effects::graph_access_crate::{modules, symbols};
+use determine_side_effects::index_crate::{ModuleIdx, StmtIdx, SymbolIdx};
 use keep_rules::Candidate;
 
 // The bailout of a module given by 1 more than its index; nothing for 0.
@@ -90,19 +90,19 @@ pub fn is_bypassed_inlined_constant(
 {
     let root = symbols::root(numbers, tables, s);
     let bits = symbols::constant_bits(numbers, tables, root);
-    if !facts::flag(bits, KNOWN) {
+    if !determine_side_effects::facts_crate::flag(bits, KNOWN) {
         return false;
     }
-    if facts::flag(bits, COMMONJS) {
+    if determine_side_effects::facts_crate::flag(bits, COMMONJS) {
         return false;
     }
-    if facts::flag(x.bits, 1) {
+    if determine_side_effects::facts_crate::flag(x.bits, 1) {
         return false;
     }
     if !keep_rules::option(numbers, INLINE_CONST_SMART) {
         return true;
     }
-    facts::flag(bits, SAFE)
+    determine_side_effects::facts_crate::flag(bits, SAFE)
 }
 
 // K10: 1 more than the module whose body the use demands, or 0.
@@ -111,7 +111,7 @@ fn demanded_body(numbers: &[u32], tables: &[usize], s: SymbolIdx, x: Reason) -> 
     requires s_bound { s.0 < (header_in numbers.now).symbols }
     ensures { (result ≡ demanded (graph_in numbers.now) (last_verdicts (graph_in numbers.now)) s.0 x.bits) × (result ≤ (header_in numbers.now).modules) }
 {
-    if facts::flag(x.bits, 4) {
+    if determine_side_effects::facts_crate::flag(x.bits, 4) {
         return 0;
     }
     let root = symbols::root(numbers, tables, s);
@@ -293,7 +293,7 @@ pub fn declaration_candidate(
         return Candidate::Gives(Fact::Statement(o, i));
     }
     if linking_metadata::is_namespace(numbers, tables, t) {
-        if facts::flag(x.bits, 4) {
+        if determine_side_effects::facts_crate::flag(x.bits, 4) {
             return Candidate::Nothing;
         }
     }

@@ -6,7 +6,7 @@ use native.Mathlib.Omega.{arith}
 use lib.ListN.{length, replicate, length-replicate}
 use Rattle.bit_row.specs.Row.{bit_at}
 use Rattle.bit_row.proofs.Cleared.{zeros_unset}
-use Rattle.graph_format.specs.declared.Header.{Header}
+use Rattle.graph.specs.graph_format_crate.declared.Header.{Header}
 
 -- both rows of marks, for a graph of at most so many modules, symbols and statements
 abbrev pub Clear : Header → ℕ → Type 0

@@ -1,14 +1,14 @@
 // The judge of a keep record: a graph, starts and a record in; passed, or the first refusal. Here is which tables it takes.
 ghost use Rattle.std.specs.Prelude.{◌≡◌};
-ghost use Rattle.tables.specs.Layout.{FitsSize};
-ghost use Rattle.tables.specs.declared.Size.TheVariants.{Small, Middle, Large, Largest};
+ghost use Rattle.graph.specs.tables_crate.Layout.{FitsSize};
+ghost use Rattle.graph.specs.tables_crate.declared.Size.TheVariants.{Small, Middle, Large, Largest};
 ghost use Rattle.graph.specs.Check.{HeaderRead};
 ghost use Rattle.judge_parts.specs.Operation.{judge_of};
 
-use graph_format::Header;
+use graph::graph_format_crate::Header;
 use judge_parts::Judged;
-use rows::Walk;
-use tables::{LARGE, LARGEST, MIDDLE, SMALL, Size};
+use graph::rows_crate::Walk;
+use graph::tables_crate::{LARGE, LARGEST, MIDDLE, SMALL, Size};
 
 // The judge with tables for a small graph.
 fn judge_small(numbers: &[u32], starts: &[u32], lines: &[u32], h: Header) -> Judged
@@ -94,10 +94,10 @@ fn judge_larger(numbers: &[u32], starts: &[u32], lines: &[u32], h: Header, again
     if again > 0 {
         return judge_larger(numbers, starts, lines, h, again - 1);
     }
-    if tables::fits(h, Size::Middle) {
+    if graph::tables_crate::fits(h, Size::Middle) {
         return judge_middle(numbers, starts, lines, h);
     }
-    if tables::fits(h, Size::Large) {
+    if graph::tables_crate::fits(h, Size::Large) {
         return judge_large(numbers, starts, lines, h);
     }
     judge_largest(numbers, starts, lines, h)
@@ -111,7 +111,7 @@ pub fn judge(numbers: &[u32], starts: &[u32], lines: &[u32]) -> Judged
         Walk::Fault(n, p) => Judged::Refused(n, p),
         Walk::At(_) => {
             let h = graph::header_of(numbers);
-            if tables::fits(h, Size::Small) {
+            if graph::tables_crate::fits(h, Size::Small) {
                 return judge_small(numbers, starts, lines, h);
             }
             judge_larger(numbers, starts, lines, h, frames::apart(numbers))

@@ -4,10 +4,10 @@ use mathlib.Core.Path.{◌≡◌, ◌∙◌, sym}
 use mathlib.Core.List.{List}
 use borrow.Author.Tests.{eq-eqb, ne_eqb}
 use lib.ListN.{length}
-use Rattle.rows.specs.declared.Walk.TheVariants.{At, Fault}
-use Rattle.graph.specs.declared.Checked.TheVariants.{Accepted, Refused}
-use Rattle.graph.specs.Check.{graph_in, check_of, answer_of}
-use Rattle.graph.proofs.Checking.{once_refused}
+use Rattle.determine_side_effects.specs.rows_crate.declared.Walk.TheVariants.{At, Fault}
+use Rattle.determine_side_effects.specs.graph_crate.declared.Checked.TheVariants.{Accepted, Refused}
+use Rattle.determine_side_effects.specs.graph_crate.Check.{graph_in, check_of, answer_of}
+use Rattle.determine_side_effects.proofs.graph_crate.Checking.{once_refused}
 use Rattle.keep_rules.specs.Prepared.{Prepared}
 use Rattle.starts.specs.Starts.{starts_walk, starts_of, StartsGood}
 use Rattle.rule_tables.proofs.Readying.{by_refusal, by_graph}

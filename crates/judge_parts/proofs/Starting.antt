@@ -8,11 +8,11 @@ use native.Mathlib.Omega.{arith}
 use lib.Seq.{take-suc, take_all}
 use lib.ListN.{length, get_or, take}
 use Rattle.bit_row.specs.Row.{bit_at}
-use Rattle.graph_format.specs.declared.Header.{Header}
-use Rattle.graph_tables.specs.Tables.{header_in}
-use Rattle.graph.specs.Check.{Graph, graph_in}
-use Rattle.facts.specs.declared.Fact.{Fact}
-use Rattle.facts.specs.Facts.{fact_of, module_fact, mark_count}
+use Rattle.determine_side_effects.specs.graph_format_crate.declared.Header.{Header}
+use Rattle.determine_side_effects.specs.graph_tables_crate.Tables.{header_in}
+use Rattle.determine_side_effects.specs.graph_crate.Check.{Graph, graph_in}
+use Rattle.determine_side_effects.specs.facts_crate.declared.Fact.{Fact}
+use Rattle.determine_side_effects.specs.facts_crate.Facts.{fact_of, module_fact, mark_count}
 use Rattle.keep_record.specs.Lines.{elem}
 use Rattle.starts.specs.Starts.{starts_of}
 use Rattle.fact_marks.specs.Marks.{Marks, MarksOne}

@@ -1,11 +1,11 @@
 -- What the judge answers (docs/OPERATIONS.md, Judge): the steps in their order. That exactly the keep records are passed is `judge_exactly` in
 -- `judged_records`.
 use Rattle.std.specs.Prelude.{ℕ, ◌/◌, ◌%◌, Bool, true, false, List, eqb, length}
-use Rattle.rows.specs.Walk.{Parsed, got, fault}
-use Rattle.rows.specs.declared.Walk.TheVariants.{At, Fault}
-use Rattle.graph.specs.Check.{Graph, check_of}
+use Rattle.determine_side_effects.specs.rows_crate.Walk.{Parsed, got, fault}
+use Rattle.determine_side_effects.specs.rows_crate.declared.Walk.TheVariants.{At, Fault}
+use Rattle.determine_side_effects.specs.graph_crate.Check.{Graph, check_of}
 use Rattle.determine_side_effects.specs.Effects.{last_verdicts}
-use Rattle.facts.specs.declared.Fact.{Fact}
+use Rattle.determine_side_effects.specs.facts_crate.declared.Fact.{Fact}
 use Rattle.keep_record.specs.declared.Line.{Line}
 use Rattle.keep_record.specs.Lines.{has}
 use Rattle.keep_record.specs.Held.{lines_of}

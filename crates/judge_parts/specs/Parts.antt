@@ -1,8 +1,8 @@
 -- What is known once the lines may be judged.
 use Rattle.std.specs.Prelude.{ℕ, ◌≡◌, List}
-use Rattle.graph.specs.declared.Checked.{Checked}
-use Rattle.graph.specs.declared.Checked.TheVariants.{Accepted, Refused}
-use Rattle.graph.specs.Check.{graph_in}
+use Rattle.determine_side_effects.specs.graph_crate.declared.Checked.{Checked}
+use Rattle.determine_side_effects.specs.graph_crate.declared.Checked.TheVariants.{Accepted, Refused}
+use Rattle.determine_side_effects.specs.graph_crate.Check.{graph_in}
 use Rattle.keep_rules.specs.Prepared.{Prepared}
 use Rattle.starts.specs.Starts.{starts_of, StartsGood}
 use Rattle.judge_parts.specs.declared.Judged.TheVariants.{Refused as JudgedRefused}

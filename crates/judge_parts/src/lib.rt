@@ -1,17 +1,17 @@
 // The judge's parts: whether the lines may be judged, the lines one after another, what may be absent, and all in their order.
 ghost use Rattle.std.specs.Prelude.{◌≡◌, ℕ, ◌+◌, ◌*◌, ◌<◌, ◌≤◌, Bool, true, false, List, [], length};
 ghost use Rattle.bit_row.specs.Row.{bit_at};
-ghost use Rattle.tables.specs.Layout.{start_of, all_sections};
-ghost use Rattle.graph.specs.Check.{graph_in, HeaderRead};
+ghost use Rattle.determine_side_effects.specs.tables_crate.Layout.{start_of, all_sections};
+ghost use Rattle.determine_side_effects.specs.graph_crate.Check.{graph_in, HeaderRead};
 ghost use Rattle.keep_rules.specs.Prepared.{Prepared};
 ghost use Rattle.starts.specs.Starts.{starts_of, StartsGood};
 ghost use Rattle.fact_marks.specs.Marks.{Marks};
 ghost use Rattle.judge_parts.specs.Operation.{judged_lines, judge_of};
 ghost use Rattle.judge_parts.specs.Parts.{MayJudge};
 
-use graph::Checked;
-use graph_format::Header;
-use rows::Walk;
+use determine_side_effects::graph_crate::Checked;
+use determine_side_effects::graph_format_crate::Header;
+use determine_side_effects::rows_crate::Walk;
 
 // What the judge says of a record: it is passed, or refused with a number and a place.
 #[derive(Clone, Copy)]

@@ -5,8 +5,8 @@ use mathlib.Core.List.{List, [], ◌∷◌, ◌++◌}
 use native.Mathlib.Omega.{arith}
 use lib.ListN.{length, get_or, get_or-append}
 use lib.Seq.{get_or-append-add, ext_get_or}
-use Rattle.facts.specs.Facts.{kind_of, first_part, second_part}
-use Rattle.facts.proofs.Marks.{fact_back}
+use Rattle.determine_side_effects.specs.facts_crate.Facts.{kind_of, first_part, second_part}
+use Rattle.determine_side_effects.proofs.facts_crate.Marks.{fact_back}
 use Rattle.keep_record.specs.declared.Line.{Line}
 use Rattle.keep_record.specs.Lines.{numbers_of, written}
 use Rattle.keep_record.specs.Held.{line_at, lines_of}

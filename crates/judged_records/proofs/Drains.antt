@@ -5,12 +5,12 @@ use mathlib.Core.List.{List, []}
 use native.Mathlib.Omega.{arith}
 use lib.ListN.{length, get_or, take}
 use lib.Seq.{take_at}
-use Rattle.graph.specs.Check.{Graph, graph_in}
-use Rattle.graph.specs.Loaded.{Loaded}
+use Rattle.determine_side_effects.specs.graph_crate.Check.{Graph, graph_in}
+use Rattle.determine_side_effects.specs.graph_crate.Loaded.{Loaded}
 use Rattle.determine_side_effects.specs.Effects.{last_verdicts}
-use Rattle.facts.specs.declared.Fact.{Fact}
-use Rattle.facts.specs.declared.Fact.TheVariants.{Module, Statement, Use, CheckedUse, Forward, Bailout}
-use Rattle.facts.specs.Facts.{module_fact, kind_of, second_part, Good}
+use Rattle.determine_side_effects.specs.facts_crate.declared.Fact.{Fact}
+use Rattle.determine_side_effects.specs.facts_crate.declared.Fact.TheVariants.{Module, Statement, Use, CheckedUse, Forward, Bailout}
+use Rattle.determine_side_effects.specs.facts_crate.Facts.{module_fact, kind_of, second_part, Good}
 use Rattle.keep_rules.specs.Rules.{gives}
 use Rattle.keep_record.specs.declared.Line.{Line}
 use Rattle.keep_record.specs.Lines.{written, marks_from}

@@ -6,12 +6,12 @@ use mathlib.Core.Bool.{true}
 use mathlib.Core.List.{List, []}
 use borrow.Author.Tests.{eq-eqb}
 use lib.ListN.{length, get_or}
-use Rattle.graph.specs.Check.{Graph}
-use Rattle.graph_access.specs.Names.{owner, declaring_statements, only}
-use Rattle.graph_access.specs.Words.{symbol_of}
-use Rattle.facts.specs.declared.Fact.{Fact}
-use Rattle.facts.specs.Facts.{fact_of, kind_of, first_part, second_part, module_fact, statement_fact}
-use Rattle.facts.proofs.Marks.{fact_back}
+use Rattle.determine_side_effects.specs.graph_crate.Check.{Graph}
+use Rattle.determine_side_effects.specs.graph_access_crate.Names.{owner, declaring_statements, only}
+use Rattle.determine_side_effects.specs.graph_access_crate.Words.{symbol_of}
+use Rattle.determine_side_effects.specs.facts_crate.declared.Fact.{Fact}
+use Rattle.determine_side_effects.specs.facts_crate.Facts.{fact_of, kind_of, first_part, second_part, module_fact, statement_fact}
+use Rattle.determine_side_effects.proofs.facts_crate.Marks.{fact_back}
 use Rattle.keep_rules.specs.Rules.{Given, gives}
 use Rattle.worklist.specs.Drain.{is_forward_of}
 use Rattle.justification.specs.Justify.{same_fact, is_given_by, follows, declares, joined_by, joined_by_either}

@@ -8,16 +8,16 @@ use native.Mathlib.Omega.{arith}
 use borrow.Author.Tests.{eq-eqb, ne_eqb, eqb-true, eqb-false}
 use lib.Dec.{eqb, ltb}
 use lib.ListN.{length, get_or}
-use Rattle.rows.specs.Walk.{no_item}
-use Rattle.graph_format.specs.Format.{module_rules, statement_limit}
-use Rattle.graph_tables.specs.Tables.{modules_in}
-use Rattle.graph_tables.proofs.Facts.{its-read, number_same}
-use Rattle.graph.specs.Check.{Graph, graph_in}
-use Rattle.graph.specs.Loaded.{Loaded}
-use Rattle.graph_access.specs.Names.{kind}
-use Rattle.graph_access.specs.Words.{module_of, statement_list, normal}
-use Rattle.graph_access.proofs.StatementNumbers.{all_long}
-use Rattle.facts.specs.Facts.{fact_of, second_part, Good}
+use Rattle.determine_side_effects.specs.rows_crate.Walk.{no_item}
+use Rattle.determine_side_effects.specs.graph_format_crate.Format.{module_rules, statement_limit}
+use Rattle.determine_side_effects.specs.graph_tables_crate.Tables.{modules_in}
+use Rattle.determine_side_effects.proofs.graph_tables_crate.Facts.{its-read, number_same}
+use Rattle.determine_side_effects.specs.graph_crate.Check.{Graph, graph_in}
+use Rattle.determine_side_effects.specs.graph_crate.Loaded.{Loaded}
+use Rattle.determine_side_effects.specs.graph_access_crate.Names.{kind}
+use Rattle.determine_side_effects.specs.graph_access_crate.Words.{module_of, statement_list, normal}
+use Rattle.determine_side_effects.proofs.graph_access_crate.StatementNumbers.{all_long}
+use Rattle.determine_side_effects.specs.facts_crate.Facts.{fact_of, second_part, Good}
 use Rattle.starts.specs.Starts.{unused_fault, is_normal_index, start_fault}
 use Rattle.starts.proofs.Starting.{kind_none}
 use Rattle.record_form.specs.Form.{parts_fit, is_earlier, names_fit, in_form}

@@ -3,9 +3,9 @@ use Prim.Native.Nat.{ℕ, zero, suc, ◌-◌, ◌<◌, ◌≤◌}
 use mathlib.Core.Path.{◌≡◌, subst}
 use mathlib.Core.List.{List}
 use native.Mathlib.Omega.{arith}
-use Rattle.graph.specs.Check.{Graph}
+use Rattle.determine_side_effects.specs.graph_crate.Check.{Graph}
 use Rattle.determine_side_effects.specs.Effects.{last_verdicts}
-use Rattle.facts.specs.declared.Fact.{Fact}
+use Rattle.determine_side_effects.specs.facts_crate.declared.Fact.{Fact}
 use Rattle.closed_choices.specs.Choice.{Choice, HoldsStarts}
 use Rattle.judged_records.specs.Choice.{ClosedByRules}
 use Rattle.judged_records.specs.Sentence.{rule_at, because_at, and_at, fact_in, named_in, Names, of_start, of_K1, of_rule, Justified, as_start, by_K1, by_K1_exchanged, by_rule}

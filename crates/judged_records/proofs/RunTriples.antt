@@ -6,13 +6,13 @@ use mathlib.Core.List.{List, [], ◌∷◌}
 use native.Mathlib.Omega.{arith}
 use lib.ListN.{length, get_or}
 use lib.Seq.{ext_get_or}
-use Rattle.rows.specs.declared.Walk.TheVariants.{At}
-use Rattle.graph.specs.Check.{Graph}
-use Rattle.graph_access.specs.Words.{tabulate, normal}
-use Rattle.facts.specs.declared.Fact.{Fact}
-use Rattle.facts.specs.declared.Fact.TheVariants.{Module, Statement, Use, CheckedUse, Forward, Bailout}
-use Rattle.facts.specs.Facts.{kind_of, first_part, second_part, fact_of, module_fact, Good}
-use Rattle.facts.proofs.Marks.{fact_back}
+use Rattle.determine_side_effects.specs.rows_crate.declared.Walk.TheVariants.{At}
+use Rattle.determine_side_effects.specs.graph_crate.Check.{Graph}
+use Rattle.determine_side_effects.specs.graph_access_crate.Words.{tabulate, normal}
+use Rattle.determine_side_effects.specs.facts_crate.declared.Fact.{Fact}
+use Rattle.determine_side_effects.specs.facts_crate.declared.Fact.TheVariants.{Module, Statement, Use, CheckedUse, Forward, Bailout}
+use Rattle.determine_side_effects.specs.facts_crate.Facts.{kind_of, first_part, second_part, fact_of, module_fact, Good}
+use Rattle.determine_side_effects.proofs.facts_crate.Marks.{fact_back}
 use Rattle.keep_record.proofs.Rows.{tabulate-length, tabulate-at}
 use Rattle.starts.specs.Starts.{start_fault, starts_fault, starts_walk, starts_of}
 use Rattle.starts.proofs.Starting.{kept_in, unused_none, module_kept, statement_in, use-in, bailout_in, fault_at, starts_turn, starts_end, good_checked}

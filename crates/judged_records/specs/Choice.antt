@@ -1,9 +1,9 @@
 -- Closed and smallest by the rules as a relation, without a list of consequences: what demand 3's sentence says. On accepted graphs, for good
 -- starts, the smallest choice by the rules is `Smallest` of `closed_choices` (`smallest_by_rules` in proofs/ByRules.antt).
 use Rattle.std.specs.Prelude.{ℕ, List}
-use Rattle.graph.specs.Check.{Graph}
+use Rattle.determine_side_effects.specs.graph_crate.Check.{Graph}
 use Rattle.determine_side_effects.specs.Effects.{last_verdicts}
-use Rattle.facts.specs.declared.Fact.{Fact}
+use Rattle.determine_side_effects.specs.facts_crate.declared.Fact.{Fact}
 use Rattle.rule_relation.specs.Relation.{Gives, Joins}
 use Rattle.closed_choices.specs.Choice.{Choice, HoldsStarts}
 

@@ -1,17 +1,17 @@
 -- T9 and T10 over the operations, for all numbers, starts, records and lent rows, and T5 and T8 by the rules. The theorems are `judge_exactly`,
 -- `drain_passes`, `run_passes`, `smallest_by_rules`, `drain_smallest` and `run_smallest` in proofs/OfOperations.antt.
 use Rattle.std.specs.Prelude.{ℕ, ◌*◌, ◌/◌, ◌%◌, ◌≡◌, ◌↔◌, List, length, take}
-use Rattle.rows.specs.declared.Walk.TheVariants.{At}
-use Rattle.graph.specs.declared.Checked.TheVariants.{Accepted}
-use Rattle.graph.specs.Check.{Graph, graph_in, check_of, answer_of}
+use Rattle.determine_side_effects.specs.rows_crate.declared.Walk.TheVariants.{At}
+use Rattle.determine_side_effects.specs.graph_crate.declared.Checked.TheVariants.{Accepted}
+use Rattle.determine_side_effects.specs.graph_crate.Check.{Graph, graph_in, check_of, answer_of}
 use Rattle.determine_side_effects.specs.Effects.{last_verdicts}
-use Rattle.facts.specs.declared.Fact.{Fact}
+use Rattle.determine_side_effects.specs.facts_crate.declared.Fact.{Fact}
 use Rattle.keep_record.specs.declared.Line.{Line}
 use Rattle.starts.specs.Starts.{starts_walk, starts_of, StartsGood}
 use Rattle.drain_parts.specs.Operation.{Rooms, done, outcome_of, record_after}
 use Rattle.tree_shaking.specs.Own.{run_starts}
 use Rattle.run_rows.specs.Run.{Run}
-use Rattle.run_parts.specs.Operation.{Rooms as RunRooms, done as runDone, outcome_of as runOutcomeOf, record_after as runRecordAfter}
+use Rattle.run_parts.specs.Operation.{Rooms as RunRooms, done as run_done, outcome_of as run_outcome_of, record_after as run_record_after}
 use Rattle.own_starts.specs.Once.{once, triples}
 use Rattle.judge_parts.specs.declared.Judged.TheVariants.{Passed}
 use Rattle.judge_parts.specs.Operation.{judge_of}
@@ -42,7 +42,7 @@ EveryDrainSmallest =
 
 abbrev pub EveryRunSmallest : Type 1
 EveryRunSmallest =
-    (numbers : List ℕ) (room : RunRooms) (g : Graph) (r : Run) → runOutcomeOf numbers room ≡ runDone g r
+    (numbers : List ℕ) (room : RunRooms) (g : Graph) (r : Run) → run_outcome_of numbers room ≡ run_done g r
     → SmallestByRules g (run_starts g (last_verdicts g)) (HasLine r.main)
 
 -- T10: the lines that a drain leaves in any lent record, beside the same numbers and starts
@@ -55,6 +55,6 @@ EveryDrainPasses =
 -- started, with repeats
 abbrev pub EveryRunPasses : Type 0
 EveryRunPasses =
-    (numbers : List ℕ) (room : RunRooms) (g : Graph) (r : Run) → runOutcomeOf numbers room ≡ runDone g r → (lent : List ℕ)
-    → (judge_of numbers (triples (once g (run_starts g (last_verdicts g)))) (take (6 * length r.main) (runRecordAfter (runDone g r) lent)) ≡ Passed)
-    × (judge_of numbers (triples (run_starts g (last_verdicts g))) (take (6 * length r.main) (runRecordAfter (runDone g r) lent)) ≡ Passed)
+    (numbers : List ℕ) (room : RunRooms) (g : Graph) (r : Run) → run_outcome_of numbers room ≡ run_done g r → (lent : List ℕ)
+    → (judge_of numbers (triples (once g (run_starts g (last_verdicts g)))) (take (6 * length r.main) (run_record_after (run_done g r) lent)) ≡ Passed)
+    × (judge_of numbers (triples (run_starts g (last_verdicts g))) (take (6 * length r.main) (run_record_after (run_done g r) lent)) ≡ Passed)

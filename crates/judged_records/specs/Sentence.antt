@@ -2,10 +2,10 @@
 -- two, each is a start or follows by its rule from the earlier lines it names, and their facts are the smallest closed choice that holds the
 -- starts. The rules are those of the relation in `rule_relation`.
 use Rattle.std.specs.Prelude.{ℕ, ◌+◌, ◌*◌, ◌-◌, ◌/◌, ◌%◌, ◌<◌, ◌≤◌, ◌≡◌, List, length, get_or}
-use Rattle.graph.specs.Check.{Graph}
+use Rattle.determine_side_effects.specs.graph_crate.Check.{Graph}
 use Rattle.determine_side_effects.specs.Effects.{last_verdicts}
-use Rattle.facts.specs.declared.Fact.{Fact}
-use Rattle.facts.specs.Facts.{fact_of, second_part, module_fact, Good}
+use Rattle.determine_side_effects.specs.facts_crate.declared.Fact.{Fact}
+use Rattle.determine_side_effects.specs.facts_crate.Facts.{fact_of, second_part, module_fact, Good}
 use Rattle.keep_record.specs.declared.Line.{Line}
 use Rattle.keep_record.specs.Held.{lines_of}
 use Rattle.rule_relation.specs.Relation.{Gives, Joins}

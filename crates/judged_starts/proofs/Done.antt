@@ -7,11 +7,11 @@ use native.Mathlib.Omega.{arith}
 use lib.Dec.{ltb, leb}
 use lib.ListN.{length}
 use Rattle.bit_row.specs.Row.{bytes_for}
-use Rattle.rows.specs.Walk.{Parsed, got, fault}
-use Rattle.graph.specs.declared.Checked.TheVariants.{Accepted}
-use Rattle.graph.specs.Check.{Graph, graph_in, check_of, answer_of}
-use Rattle.graph.proofs.WellFormed.{accepted_is}
-use Rattle.facts.specs.Facts.{mark_count}
+use Rattle.determine_side_effects.specs.rows_crate.Walk.{Parsed, got, fault}
+use Rattle.determine_side_effects.specs.graph_crate.declared.Checked.TheVariants.{Accepted}
+use Rattle.determine_side_effects.specs.graph_crate.Check.{Graph, graph_in, check_of, answer_of}
+use Rattle.determine_side_effects.proofs.graph_crate.WellFormed.{accepted_is}
+use Rattle.determine_side_effects.specs.facts_crate.Facts.{mark_count}
 use Rattle.run_rows.specs.Run.{run_of}
 use Rattle.run_starts.specs.Operation.{Rooms, own_starts_once, before, short, done, worked, outcome_in, outcome_of}
 

@@ -1,10 +1,10 @@
 -- What is known of a run's own starts as they are given, over the operation, for all numbers and lent rows. The theorem is `starts_given` in
 -- proofs/OfStarts.antt.
 use Rattle.std.specs.Prelude.{ℕ, ◌*◌, ◌<◌, ◌≡◌, List, length, get_or, take}
-use Rattle.graph.specs.Check.{Graph, graph_in}
+use Rattle.determine_side_effects.specs.graph_crate.Check.{Graph, graph_in}
 use Rattle.determine_side_effects.specs.Effects.{last_verdicts}
-use Rattle.facts.specs.declared.Fact.{Fact}
-use Rattle.facts.specs.Facts.{module_fact}
+use Rattle.determine_side_effects.specs.facts_crate.declared.Fact.{Fact}
+use Rattle.determine_side_effects.specs.facts_crate.Facts.{module_fact}
 use Rattle.tree_shaking.specs.Own.{run_starts}
 use Rattle.run_rows.specs.Run.{run_of}
 use Rattle.run_starts.specs.Operation.{Rooms, own_starts_once, done, outcome_of, record_after, starts_after}

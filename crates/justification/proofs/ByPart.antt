@@ -4,8 +4,8 @@ use mathlib.Core.Path.{◌≡◌, sym}
 use mathlib.Core.Bool.{false}
 use borrow.Author.Tests.{eq-eqb, ne_eqb}
 use lib.Dec.{eqb}
-use Rattle.facts.specs.declared.Fact.{Fact}
-use Rattle.facts.specs.Facts.{kind_of, first_part, second_part}
+use Rattle.determine_side_effects.specs.facts_crate.declared.Fact.{Fact}
+use Rattle.determine_side_effects.specs.facts_crate.Facts.{kind_of, first_part, second_part}
 use Rattle.justification.specs.Justify.{same_fact}
 
 module _ (a b : Fact) (k l : ℕ) (ka : k ≡ kind_of a) (lb : l ≡ kind_of b) where

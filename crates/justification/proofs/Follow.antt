@@ -7,9 +7,9 @@ use native.Mathlib.Omega.{arith}
 use borrow.Author.Tests.{eq-eqb, ne_eqb, eqb-true, eqb-false}
 use lib.Dec.{eqb}
 use lib.ListN.{length, get_or}
-use Rattle.graph.specs.Check.{graph_in}
-use Rattle.graph_access.specs.Words.{some}
-use Rattle.facts.specs.declared.Fact.{Fact}
+use Rattle.determine_side_effects.specs.graph_crate.Check.{graph_in}
+use Rattle.determine_side_effects.specs.graph_access_crate.Words.{some}
+use Rattle.determine_side_effects.specs.facts_crate.declared.Fact.{Fact}
 use Rattle.determine_side_effects.specs.Effects.{last_verdicts}
 use Rattle.keep_rules.specs.declared.Candidate.{Candidate}
 use Rattle.keep_rules.specs.declared.Candidate.TheVariants.{Gives, Nothing}

@@ -6,7 +6,7 @@ use mathlib.Core.List.{List}
 use native.Mathlib.Omega.{arith}
 use borrow.Author.Tests.{eqb-true, eqb-false}
 use lib.Dec.{eqb}
-use Rattle.facts.specs.declared.Fact.{Fact}
+use Rattle.determine_side_effects.specs.facts_crate.declared.Fact.{Fact}
 use Rattle.keep_rules.specs.declared.Candidate.{Candidate}
 use Rattle.consequences.specs.declared.Cursor.{Cursor}
 use Rattle.consequences.specs.Cursors.{segment_in, Placed}

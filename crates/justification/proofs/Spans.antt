@@ -5,13 +5,13 @@ use mathlib.Core.Logic.{◌≢◌}
 use mathlib.Core.List.{List}
 use native.Mathlib.Omega.{arith}
 use lib.ListN.{length}
-use Rattle.index.specs.declared.ModuleIdx.{ModuleIdx}
-use Rattle.index.specs.declared.StmtIdx.{StmtIdx}
-use Rattle.index.specs.declared.SymbolIdx.{SymbolIdx}
-use Rattle.facts.specs.declared.Reason.{Reason}
-use Rattle.facts.specs.declared.Fact.{Fact}
-use Rattle.facts.specs.declared.Fact.TheVariants.{Module, Statement, Use, CheckedUse, Forward, Bailout}
-use Rattle.facts.specs.Facts.{kind_of}
+use Rattle.determine_side_effects.specs.index_crate.declared.ModuleIdx.{ModuleIdx}
+use Rattle.determine_side_effects.specs.index_crate.declared.StmtIdx.{StmtIdx}
+use Rattle.determine_side_effects.specs.index_crate.declared.SymbolIdx.{SymbolIdx}
+use Rattle.determine_side_effects.specs.facts_crate.declared.Reason.{Reason}
+use Rattle.determine_side_effects.specs.facts_crate.declared.Fact.{Fact}
+use Rattle.determine_side_effects.specs.facts_crate.declared.Fact.TheVariants.{Module, Statement, Use, CheckedUse, Forward, Bailout}
+use Rattle.determine_side_effects.specs.facts_crate.Facts.{kind_of}
 use Rattle.consequences.specs.Cursors.{segments_in, segment_in, Placed}
 use Rattle.consequences.proofs.BySegment.{count_statement, count_checked, count_forward, count_bailout, rule_module, rule_use, rule_checked, rule_record, rule_reference, placed_other}
 use Rattle.justification.specs.declared.Span.{Span}

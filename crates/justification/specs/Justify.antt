@@ -1,10 +1,10 @@
 -- Whether a fact follows from others by a rule, as one line of a record says (docs/OPERATIONS.md, Judge).
 use Rattle.std.specs.Prelude.{ℕ, Bool, true, false, ◌&&◌, ◌||◌, List, eqb}
-use Rattle.graph.specs.Check.{Graph}
-use Rattle.graph_access.specs.Names.{owner, declaring_statements, only}
-use Rattle.graph_access.specs.Words.{some, symbol_of}
-use Rattle.facts.specs.declared.Fact.{Fact}
-use Rattle.facts.specs.Facts.{kind_of, first_part, second_part, statement_fact}
+use Rattle.determine_side_effects.specs.graph_crate.Check.{Graph}
+use Rattle.determine_side_effects.specs.graph_access_crate.Names.{owner, declaring_statements, only}
+use Rattle.determine_side_effects.specs.graph_access_crate.Words.{some, symbol_of}
+use Rattle.determine_side_effects.specs.facts_crate.declared.Fact.{Fact}
+use Rattle.determine_side_effects.specs.facts_crate.Facts.{kind_of, first_part, second_part, statement_fact}
 use Rattle.keep_rules.specs.Rules.{Given, gives}
 use Rattle.worklist.specs.Drain.{is_forward_of}
 

@@ -1,17 +1,17 @@
 // Whether a fact follows from others by a rule: the search of one rule's candidates, for the judge.
 ghost use Rattle.std.specs.Prelude.{◌≡◌, ℕ, ◌+◌, ◌<◌, ◌≤◌, length};
-ghost use Rattle.graph_tables.specs.Tables.{header_in};
-ghost use Rattle.graph.specs.Check.{graph_in};
-ghost use Rattle.facts.specs.Facts.{Good};
+ghost use Rattle.determine_side_effects.specs.graph_tables_crate.Tables.{header_in};
+ghost use Rattle.determine_side_effects.specs.graph_crate.Check.{graph_in};
+ghost use Rattle.determine_side_effects.specs.facts_crate.Facts.{Good};
 ghost use Rattle.keep_rules.specs.Prepared.{Prepared};
 ghost use Rattle.consequences.specs.Cursors.{segments_in, segment_in, Placed};
 ghost use Rattle.justification.specs.Justify.{same_fact};
 ghost use Rattle.justification.specs.Search.{is_candidate, SpanAt, RuleSpan, SegmentSearched, SpanSearched, Followed, DeclaringSearched, Declared, JoinedOne, Joined};
 
 use consequences::Cursor;
-use facts::Fact;
-use graph_access::symbols;
-use index::SymbolIdx;
+use determine_side_effects::facts_crate::Fact;
+use determine_side_effects::graph_access_crate::symbols;
+use determine_side_effects::index_crate::SymbolIdx;
 use keep_rules::Candidate;
 
 // Where a fact stands among candidates.
@@ -40,13 +40,13 @@ pub enum Search {
 pub fn same(a: Fact, b: Fact) -> bool
     ensures { result ≡ same_fact a b }
 {
-    if facts::kind_of(a) != facts::kind_of(b) {
+    if determine_side_effects::facts_crate::kind_of(a) != determine_side_effects::facts_crate::kind_of(b) {
         return false;
     }
-    if facts::first_part(a) != facts::first_part(b) {
+    if determine_side_effects::facts_crate::first_part(a) != determine_side_effects::facts_crate::first_part(b) {
         return false;
     }
-    facts::second_part(a) == facts::second_part(b)
+    determine_side_effects::facts_crate::second_part(a) == determine_side_effects::facts_crate::second_part(b)
 }
 
 // Whether a candidate gives the fact.
@@ -241,7 +241,7 @@ fn joined_by(numbers: &[u32], tables: &[usize], a: Fact, b: Fact, fact: Fact, k:
     requires good { Good (graph_in numbers.now) b }
     ensures { JoinedOne numbers.now a b fact result }
 {
-    if facts::kind_of(a) != 1 {
+    if determine_side_effects::facts_crate::kind_of(a) != 1 {
         return Found::Nowhere;
     }
     match b {
@@ -251,7 +251,7 @@ fn joined_by(numbers: &[u32], tables: &[usize], a: Fact, b: Fact, fact: Fact, k:
         Fact::CheckedUse(_, _) => Found::Nowhere,
         Fact::Forward(s) => {
             let owner = symbols::owner(numbers, tables, s);
-            if owner.0 != facts::first_part(a) {
+            if owner.0 != determine_side_effects::facts_crate::first_part(a) {
                 return Found::Nowhere;
             }
             find_declaring(numbers, tables, s, fact, k)

@@ -9,10 +9,10 @@ use native.Mathlib.Omega.{arith}
 use borrow.Author.Tests.{eq-eqb, eqb-true}
 use lib.Dec.{eqb}
 use lib.ListN.{length, get_or}
-use Rattle.graph.specs.Check.{Graph, graph_in}
+use Rattle.facts.specs.graph_crate.Check.{Graph, graph_in}
 use Rattle.facts.specs.declared.Fact.{Fact}
 use Rattle.facts.specs.Facts.{Good, mark_of, mark_count, module_fact}
-use Rattle.graph.specs.Loaded.{Loaded}
+use Rattle.facts.specs.graph_crate.Loaded.{Loaded}
 use Rattle.facts.proofs.Marks.{mark_below}
 use Rattle.keep_record.specs.declared.Line.{Line}
 use Rattle.keep_record.specs.Lines.{elem, marks_of, stays, marks_from, has}

@@ -9,12 +9,12 @@ use lib.Dec.{eqb}
 use lib.ListN.{length, get_or, set, take, drop, replicate, length-append}
 use lib.Seq.{sets-eq, take_at, drop_at, drop-drop, length-take-le}
 use Rattle.bit_row.specs.Row.{bit_at}
-use Rattle.graph.specs.Check.{Graph, graph_in}
+use Rattle.facts.specs.graph_crate.Check.{Graph, graph_in}
 use Rattle.facts.specs.declared.Fact.{Fact}
 use Rattle.facts.specs.declared.Fact.TheVariants.{Module, Statement, Use, CheckedUse, Forward, Bailout}
 use Rattle.facts.specs.Facts.{kind_of, first_part, second_part, Good, mark_of}
-use Rattle.graph.specs.Loaded.{Loaded}
-use Rattle.graph_access.proofs.Indexes.{statements_few}
+use Rattle.facts.specs.graph_crate.Loaded.{Loaded}
+use Rattle.facts.proofs.graph_access_crate.Indexes.{statements_few}
 use Rattle.keep_record.specs.declared.Line.{Line}
 use Rattle.keep_record.specs.declared.Added.TheVariants.{Lines, Full}
 use Rattle.keep_record.specs.Lines.{numbers_of, written, elem, marks_of, marks_from, has, added}

@@ -7,9 +7,9 @@ use lib.ListN.{length, get_or, take, replicate, length-replicate, drop_of_length
 use lib.Seq.{get_or-take, get_or-append-add}
 use Rattle.bit_row.specs.Row.{cleared}
 use Rattle.bit_row.proofs.Cleared.{zeros_unset}
-use Rattle.graph.specs.Check.{Graph}
+use Rattle.facts.specs.graph_crate.Check.{Graph}
 use Rattle.facts.specs.Facts.{kind_of, mark_count}
-use Rattle.graph_access.specs.Words.{tabulate}
+use Rattle.facts.specs.graph_access_crate.Words.{tabulate}
 use Rattle.facts.proofs.Marks.{fact_back}
 use Rattle.keep_record.specs.declared.Line.{Line}
 use Rattle.keep_record.specs.Lines.{numbers_of, written, elem, marks_of, marks_from}

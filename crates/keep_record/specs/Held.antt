@@ -1,8 +1,8 @@
 -- What the rows of marks and of lines hold while the record grows.
 use Rattle.std.specs.Prelude.{ℕ, ◌+◌, ◌*◌, ◌-◌, ◌<◌, ◌≤◌, ◌≡◌, false, List, [], ◌∷◌, ◌++◌, length, get_or, replicate}
 use Rattle.bit_row.specs.Row.{bit_at}
-use Rattle.graph.specs.Check.{Graph}
-use Rattle.graph_access.specs.Words.{tabulate}
+use Rattle.facts.specs.graph_crate.Check.{Graph}
+use Rattle.facts.specs.graph_access_crate.Words.{tabulate}
 use Rattle.facts.specs.Facts.{fact_of, Good, mark_count}
 use Rattle.keep_record.specs.declared.Line.{Line}
 use Rattle.keep_record.specs.declared.Added.{Added}

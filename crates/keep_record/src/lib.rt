@@ -1,9 +1,9 @@
 // The keep record and the marks: a line for each fact.
 ghost use Rattle.std.specs.Prelude.{◌≡◌, ℕ, ◌+◌, ◌*◌, ◌-◌, ◌<◌, ◌≤◌, List, [], ◌∷◌, ◌++◌, length, get_or, take, drop, replicate};
-ghost use Rattle.graph_tables.specs.Tables.{header_in};
-ghost use Rattle.graph.specs.Check.{graph_in};
+ghost use Rattle.facts.specs.graph_tables_crate.Tables.{header_in};
+ghost use Rattle.facts.specs.graph_crate.Check.{graph_in};
 ghost use Rattle.facts.specs.Facts.{kind_of, first_part, second_part, Good, mark_of};
-ghost use Rattle.graph.specs.Loaded.{Loaded};
+ghost use Rattle.facts.specs.graph_crate.Loaded.{Loaded};
 ghost use Rattle.keep_record.specs.Lines.{numbers_of, added};
 ghost use Rattle.keep_record.specs.Held.{line_at, lines_of, Held, Grown, Writable};
 
@@ -39,9 +39,9 @@ pub fn fact_at(lines: &[u32], k: usize) -> Fact
 {
     let p = 6 * k;
     facts::fact_of(
-        rows::wide(lines[p]),
-        rows::wide(lines[p + 1]),
-        rows::wide(lines[p + 2]),
+        facts::rows_crate::wide(lines[p]),
+        facts::rows_crate::wide(lines[p + 1]),
+        facts::rows_crate::wide(lines[p + 2]),
     )
 }
 

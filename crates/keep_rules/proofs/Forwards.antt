@@ -5,10 +5,10 @@ use mathlib.Core.List.{[]}
 use native.Mathlib.Omega.{arith}
 use borrow.Author.Tests.{eq-eqb, ne_eqb}
 use lib.ListN.{length, get_or}
-use Rattle.graph.specs.Check.{Graph}
-use Rattle.graph_access.specs.Names.{only, export_chain}
-use Rattle.facts.specs.Facts.{forward_fact}
-use Rattle.graph_access.specs.Words.{symbol_of}
+use Rattle.determine_side_effects.specs.graph_crate.Check.{Graph}
+use Rattle.determine_side_effects.specs.graph_access_crate.Names.{only, export_chain}
+use Rattle.determine_side_effects.specs.facts_crate.Facts.{forward_fact}
+use Rattle.determine_side_effects.specs.graph_access_crate.Words.{symbol_of}
 use Rattle.keep_rules.specs.Rules.{forwards, forward_candidate}
 use Rattle.keep_rules.specs.declared.Candidate.TheVariants.{Gives}
 

@@ -1,9 +1,9 @@
 -- An accepted graph with all tables that the rules read.
 use Rattle.std.specs.Prelude.{ℕ, ◌≡◌, List}
-use Rattle.graph.specs.Check.{Graph}
-use Rattle.graph.specs.Loaded.{Loaded}
-use Rattle.facts.specs.declared.Fact.{Fact}
-use Rattle.facts.specs.Facts.{Good}
+use Rattle.determine_side_effects.specs.graph_crate.Check.{Graph}
+use Rattle.determine_side_effects.specs.graph_crate.Loaded.{Loaded}
+use Rattle.determine_side_effects.specs.facts_crate.declared.Fact.{Fact}
+use Rattle.determine_side_effects.specs.facts_crate.Facts.{Good}
 use Rattle.determine_side_effects.specs.Tabled.{Settled}
 use Rattle.on_demand.specs.Tabled.{Demands, Keyed}
 use Rattle.linking_metadata.specs.Tabled.{Named}

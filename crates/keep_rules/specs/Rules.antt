@@ -1,13 +1,13 @@
 -- The keep rules K2 to K14 (docs/RULES.md, Keep rules; 000, include_statements.rs; 001, on_demand.rs). K1, which has two premises, is
 -- in `worklist`. Each rule has a number of candidates in the graph, in their order, and each candidate gives a fact or nothing.
 use Rattle.std.specs.Prelude.{ℕ, zero, suc, ◌+◌, ◌-◌, Bool, true, false, ◌&&◌, ◌||◌, not, List, [], ◌∷◌, ◌++◌, map, eqb, ltb, length, get_or}
-use Rattle.graph.specs.Check.{Graph}
-use Rattle.graph_access.specs.Names.{exports, module_type, flags, wrap, wrapper, reexport_count, import_records, dependencies, named_imports, common_js_export_symbols, resolved_exports, enum_members, only, import_record_target, import_record_kind, import_record_bits, export_name, export_symbol, enum_name, enum_member, owner, symbol_name, alias_namespace, alias_name, constant_bits, export_chain, declaring_statements, written_property_statements, statement_bits, statement_import_records, references, reference_kind, reference_symbol, reference_flag, property_count, first_property, depended_on}
-use Rattle.graph_access.specs.Words.{root_of}
-use Rattle.facts.specs.declared.Fact.{Fact}
-use Rattle.facts.specs.declared.Fact.TheVariants.{Module, Statement, Use, CheckedUse, Forward, Bailout}
-use Rattle.facts.specs.Facts.{module_fact, statement_fact, use_fact, checked_fact, forward_fact, bailout_fact}
-use Rattle.graph_access.specs.Words.{flag, some, module_of, symbol_of, statement_list, statement_of, normal, option}
+use Rattle.determine_side_effects.specs.graph_crate.Check.{Graph}
+use Rattle.determine_side_effects.specs.graph_access_crate.Names.{exports, module_type, flags, wrap, wrapper, reexport_count, import_records, dependencies, named_imports, common_js_export_symbols, resolved_exports, enum_members, only, import_record_target, import_record_kind, import_record_bits, export_name, export_symbol, enum_name, enum_member, owner, symbol_name, alias_namespace, alias_name, constant_bits, export_chain, declaring_statements, written_property_statements, statement_bits, statement_import_records, references, reference_kind, reference_symbol, reference_flag, property_count, first_property, depended_on}
+use Rattle.determine_side_effects.specs.graph_access_crate.Words.{root_of}
+use Rattle.determine_side_effects.specs.facts_crate.declared.Fact.{Fact}
+use Rattle.determine_side_effects.specs.facts_crate.declared.Fact.TheVariants.{Module, Statement, Use, CheckedUse, Forward, Bailout}
+use Rattle.determine_side_effects.specs.facts_crate.Facts.{module_fact, statement_fact, use_fact, checked_fact, forward_fact, bailout_fact}
+use Rattle.determine_side_effects.specs.graph_access_crate.Words.{flag, some, module_of, symbol_of, statement_list, statement_of, normal, option}
 use Rattle.determine_side_effects.specs.Effects.{has_effects}
 use Rattle.on_demand.specs.Demand.{on_demand, gated, body_of}
 use Rattle.linking_metadata.specs.Namespaces.{common_js_of, is_namespace, target_of}

@@ -1,16 +1,16 @@
 // What the rules of every kind of fact share.
 ghost use Rattle.std.specs.Prelude.{◌≡◌, ℕ, ◌+◌, ◌-◌, ◌<◌, ◌≤◌, List, [], ◌∷◌, Bool, true, false, length, get_or, drop};
-ghost use Rattle.graph_tables.specs.Tables.{header_in};
-ghost use Rattle.graph.specs.Check.{graph_in};
+ghost use Rattle.determine_side_effects.specs.graph_tables_crate.Tables.{header_in};
+ghost use Rattle.determine_side_effects.specs.graph_crate.Check.{graph_in};
 ghost use Rattle.determine_side_effects.specs.Effects.{last_verdicts};
-ghost use Rattle.facts.specs.Facts.{Good, statement_fact, use_fact};
-ghost use Rattle.graph_access.specs.Words.{option as optionOf};
+ghost use Rattle.determine_side_effects.specs.facts_crate.Facts.{Good, statement_fact, use_fact};
+ghost use Rattle.determine_side_effects.specs.graph_access_crate.Words.{option as option_of};
 ghost use Rattle.keep_rules.specs.Rules.{forwards, forward_candidate};
 ghost use Rattle.keep_rules.specs.Prepared.{Prepared, GoodCandidate};
 
-use facts::Fact;
-use graph_access::symbols;
-use index::SymbolIdx;
+use determine_side_effects::facts_crate::Fact;
+use determine_side_effects::graph_access_crate::symbols;
+use determine_side_effects::index_crate::SymbolIdx;
 
 // What one candidate of a rule gives.
 #[derive(Clone, Copy)]
@@ -22,10 +22,10 @@ pub enum Candidate {
 // An option bit.
 pub fn option(numbers: &[u32], k: usize) -> bool
     requires { (7 ≤ length numbers.now) × (k < 32) }
-    ensures { result ≡ optionOf (graph_in numbers.now) k }
+    ensures { result ≡ option_of (graph_in numbers.now) k }
 {
-    let h = graph::header_of(numbers);
-    facts::flag(h.options, k)
+    let h = determine_side_effects::graph_crate::header_of(numbers);
+    determine_side_effects::facts_crate::flag(h.options, k)
 }
 
 // How many forwards a symbol has: itself and its chain (`retain_forwarding_declarations`).

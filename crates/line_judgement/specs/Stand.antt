@@ -1,9 +1,9 @@
 -- Whether a line of a record stands: it is in form, its fact has no earlier line, and it is a start or follows by its rule from the earlier
 -- lines that it names (docs/OPERATIONS.md, Judge).
 use Rattle.std.specs.Prelude.{ℕ, zero, suc, ◌+◌, ◌-◌, Bool, true, false, ◌&&◌, not, List, map, eqb}
-use Rattle.graph.specs.Check.{Graph}
-use Rattle.facts.specs.declared.Fact.{Fact}
-use Rattle.facts.specs.Facts.{mark_of}
+use Rattle.determine_side_effects.specs.graph_crate.Check.{Graph}
+use Rattle.determine_side_effects.specs.facts_crate.declared.Fact.{Fact}
+use Rattle.determine_side_effects.specs.facts_crate.Facts.{mark_of}
 use Rattle.keep_record.specs.declared.Line.{Line}
 use Rattle.keep_record.specs.Lines.{elem, has}
 use Rattle.keep_record.specs.Held.{line_at, lines_of}

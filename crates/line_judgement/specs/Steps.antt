@@ -1,8 +1,8 @@
 -- What the steps of judging lines take and leave.
 use Rattle.std.specs.Prelude.{ℕ, ◌+◌, ◌/◌, ◌<◌, ◌≤◌, ◌≡◌, true, false, List, map, length}
-use Rattle.graph.specs.Check.{Graph, graph_in}
+use Rattle.determine_side_effects.specs.graph_crate.Check.{Graph, graph_in}
 use Rattle.determine_side_effects.specs.Effects.{last_verdicts}
-use Rattle.facts.specs.declared.Fact.{Fact}
+use Rattle.determine_side_effects.specs.facts_crate.declared.Fact.{Fact}
 use Rattle.keep_record.specs.declared.Line.{Line}
 use Rattle.keep_record.specs.Held.{lines_of}
 use Rattle.fact_marks.specs.Marks.{Marks}

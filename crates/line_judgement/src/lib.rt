@@ -2,7 +2,7 @@
 // A drain writes the consequences of a line together and in order, so the lines of drains and runs are judged in one walk (`Trail`). Any other line
 // costs at most two searches of one rule's candidates of the line that it names.
 ghost use Rattle.std.specs.Prelude.{◌≡◌, ℕ, ◌+◌, ◌*◌, ◌/◌, ◌<◌, ◌≤◌, Bool, true, false, List, [], length};
-ghost use Rattle.graph.specs.Check.{graph_in};
+ghost use Rattle.determine_side_effects.specs.graph_crate.Check.{graph_in};
 ghost use Rattle.determine_side_effects.specs.Effects.{last_verdicts};
 ghost use Rattle.keep_rules.specs.Prepared.{Prepared};
 ghost use Rattle.keep_record.specs.Held.{lines_of};
@@ -76,15 +76,15 @@ fn justify(
 {
     let p = 6 * k;
     let fact = keep_record::fact_at(lines, k);
-    let rule = rows::wide(lines[p + 3]);
+    let rule = determine_side_effects::rows_crate::wide(lines[p + 3]);
     if rule == 0 {
         if is_marked(numbers, tables, begun, fact) {
             return Standing::Stands(trail);
         }
         return Standing::Bad;
     }
-    let because = rows::wide(lines[p + 4]);
-    let and = rows::wide(lines[p + 5]);
+    let because = determine_side_effects::rows_crate::wide(lines[p + 4]);
+    let and = determine_side_effects::rows_crate::wide(lines[p + 5]);
     let cursor = begin(trail, rule, because, and);
     let premise = keep_record::fact_at(lines, because - 1);
     if rule == 1 {

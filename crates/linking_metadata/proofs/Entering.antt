@@ -11,10 +11,10 @@ use borrow.Author.Tests.{eqb-true, eqb-false, eq-eqb, ne_eqb}
 use lib.Dec.{eqb}
 use lib.Seq.{drop-cons, get_or-set_same, get_or-set_other}
 use lib.ListN.{length, get_or, set, drop, drop_of_length-le}
-use Rattle.graph_format.specs.declared.Header.{Header}
-use Rattle.tables.specs.Layout.{sizes, start_of, Laid, Kept, namespaces_in, at_namespaces, all_sections}
-use Rattle.tables.proofs.Sections.{section-length, kept_none, kept_set}
-use Rattle.tables.proofs.Writing.{section-set}
+use Rattle.graph_access.specs.graph_format_crate.declared.Header.{Header}
+use Rattle.graph_access.specs.tables_crate.Layout.{sizes, start_of, Laid, Kept, namespaces_in, at_namespaces, all_sections}
+use Rattle.graph_access.proofs.tables_crate.Sections.{section-length, kept_none, kept_set}
+use Rattle.graph_access.proofs.tables_crate.Writing.{section-set}
 use Rattle.graph_access.specs.Names.{namespace_symbol, namespace_module}
 use Rattle.linking_metadata.specs.Namespaces.{namespace_in}
 

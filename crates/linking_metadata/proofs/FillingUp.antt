@@ -8,12 +8,12 @@ use native.Mathlib.Omega.{arith}
 use borrow.Author.Tests.{eq-eqb, ne_eqb}
 use lib.Dec.{eqb}
 use lib.ListN.{length, get_or}
-use Rattle.tables.specs.Layout.{start_of, Kept}
-use Rattle.tables.proofs.Sections.{laid_kept, laid_less, section_kept}
-use Rattle.graph_tables.specs.Tables.{header_in}
-use Rattle.graph.specs.Check.{Graph, graph_in}
-use Rattle.graph.specs.Loaded.{Loaded}
-use Rattle.graph.proofs.Kept.{loaded_kept}
+use Rattle.graph_access.specs.tables_crate.Layout.{start_of, Kept}
+use Rattle.graph_access.proofs.tables_crate.Sections.{laid_kept, laid_less, section_kept}
+use Rattle.graph_access.specs.graph_tables_crate.Tables.{header_in}
+use Rattle.graph_access.specs.graph_crate.Check.{Graph, graph_in}
+use Rattle.graph_access.specs.graph_crate.Loaded.{Loaded}
+use Rattle.graph_access.proofs.graph_crate.Kept.{loaded_kept}
 use Rattle.graph_access.specs.Names.{owner, common_js_namespaces, namespace_symbol, namespace_module}
 use Rattle.graph_access.specs.Words.{module_of, symbol_of}
 use Rattle.linking_metadata.specs.Namespaces.{namespace_in, common_js_of}

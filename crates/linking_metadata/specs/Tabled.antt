@@ -1,9 +1,9 @@
 -- The section of the CommonJS namespaces.
 use Rattle.std.specs.Prelude.{ℕ, ◌<◌, ◌≤◌, ◌≡◌, true, false, List, eqb, length, get_or}
-use Rattle.tables.specs.Layout.{Laid, namespaces_in, all_sections}
-use Rattle.graph_tables.specs.Tables.{header_in}
-use Rattle.graph.specs.Check.{Graph, graph_in}
-use Rattle.graph.specs.Loaded.{Loaded}
+use Rattle.graph_access.specs.tables_crate.Layout.{Laid, namespaces_in, all_sections}
+use Rattle.graph_access.specs.graph_tables_crate.Tables.{header_in}
+use Rattle.graph_access.specs.graph_crate.Check.{Graph, graph_in}
+use Rattle.graph_access.specs.graph_crate.Loaded.{Loaded}
 use Rattle.graph_access.specs.Names.{owner, common_js_namespaces}
 use Rattle.graph_access.specs.Words.{module_of, symbol_of}
 use Rattle.linking_metadata.specs.Namespaces.{namespace_in, common_js_of}

@@ -1,15 +1,15 @@
 // CommonJS namespaces by symbol, and where a symbol leads (linking_metadata.rs).
 ghost use Rattle.std.specs.Prelude.{◌≡◌, ℕ, ◌+◌, ◌-◌, ◌<◌, ◌≤◌, Bool, length, get_or};
-ghost use Rattle.tables.specs.Layout.{start_of, Laid, Kept, namespaces_in, at_namespaces, all_sections};
-ghost use Rattle.graph_tables.specs.Tables.{header_in};
-ghost use Rattle.graph.specs.Check.{graph_in};
-ghost use Rattle.graph.specs.Loaded.{Loaded};
+ghost use Rattle.graph_access.specs.tables_crate.Layout.{start_of, Laid, Kept, namespaces_in, at_namespaces, all_sections};
+ghost use Rattle.graph_access.specs.graph_tables_crate.Tables.{header_in};
+ghost use Rattle.graph_access.specs.graph_crate.Check.{graph_in};
+ghost use Rattle.graph_access.specs.graph_crate.Loaded.{Loaded};
 ghost use Rattle.linking_metadata.specs.Namespaces.{common_js_of, is_namespace, target_of};
 ghost use Rattle.linking_metadata.specs.Tabled.{entered, NamespaceTable, Named};
 
 use graph_access::{modules, symbols};
-use index::{ModuleIdx, SymbolIdx};
-use tables::NAMESPACES;
+use graph_access::index_crate::{ModuleIdx, SymbolIdx};
+use graph_access::tables_crate::NAMESPACES;
 
 // Whether a symbol is the namespace of its owner.
 pub fn is_namespace(numbers: &[u32], tables: &[usize], s: SymbolIdx) -> bool
@@ -41,7 +41,7 @@ pub fn commonjs_of(numbers: &[u32], tables: &[usize], s: SymbolIdx) -> usize
     requires s_bound { s.0 < (header_in numbers.now).symbols }
     ensures { (result ≡ common_js_of (graph_in numbers.now) s.0) × (result ≤ (header_in numbers.now).modules) }
 {
-    let namespaces = tables::section(tables, NAMESPACES);
+    let namespaces = graph_access::tables_crate::section(tables, NAMESPACES);
     let i = s.0;
     namespaces[i]
 }
@@ -73,8 +73,8 @@ pub fn fill_namespaces(numbers: &[u32], tables: &mut [usize])
     requires laid { Laid (header_in numbers.now) all_sections tables.old }
     ensures { NamespaceTable (graph_in numbers.now) (namespaces_in tables.new) × Kept (start_of (header_in numbers.now) at_namespaces) tables.old tables.new }
 {
-    let h = graph::header_of(numbers);
-    tables::clear(tables, NAMESPACES);
+    let h = graph_access::graph_crate::header_of(numbers);
+    graph_access::tables_crate::clear(tables, NAMESPACES);
     let mut m: usize = 0;
     while m < h.modules {
         enter_namespaces(numbers, tables, ModuleIdx(m));

@@ -6,7 +6,7 @@ use mathlib.Core.List.{List, [], ◌∷◌}
 use lib.Dec.{eqb}
 use lib.ListN.{length, get_or}
 use Rattle.bit_row.specs.Row.{bit_at}
-use Rattle.graph.specs.Check.{Graph}
+use Rattle.graph_access.specs.graph_crate.Check.{Graph}
 use Rattle.graph_access.specs.Names.{entry_module, entry_kind, owner, import_records}
 use Rattle.graph_access.specs.Words.{module_of, symbol_of, statement_list, entry_of, normal}
 use Rattle.answer_rows.specs.Shown.{bytes_before, bit_value}

@@ -6,8 +6,8 @@ use native.Mathlib.Omega.{arith}
 use lib.ListN.{length, get_or}
 use Rattle.bit_row.specs.Row.{bytes_for}
 use Rattle.bit_row.proofs.Size.{bytes_hold, bytes_at_most}
-use Rattle.rows.specs.Walk.{Item, no_item}
-use Rattle.graph.specs.Check.{Graph}
+use Rattle.graph_access.specs.rows_crate.Walk.{Item, no_item}
+use Rattle.graph_access.specs.graph_crate.Check.{Graph}
 use Rattle.graph_access.specs.Names.{import_records}
 use Rattle.graph_access.specs.Words.{module_of, statement_list}
 use Rattle.answer_rows.specs.Shown.{bytes_before}

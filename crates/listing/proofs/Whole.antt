@@ -4,9 +4,9 @@ use mathlib.Core.Path.{◌≡◌, refl, ap, ◌∙◌, sym}
 use mathlib.Core.List.{List, [], ◌∷◌, ◌++◌}
 use native.Mathlib.Omega.{arith}
 use lib.ListN.{length, get_or}
-use Rattle.graph_format.specs.declared.Header.{Header}
-use Rattle.graph_tables.specs.Tables.{header_in}
-use Rattle.graph.specs.Check.{graph_in}
+use Rattle.graph_access.specs.graph_format_crate.declared.Header.{Header}
+use Rattle.graph_access.specs.graph_tables_crate.Tables.{header_in}
+use Rattle.graph_access.specs.graph_crate.Check.{graph_in}
 use Rattle.graph_access.specs.Names.{import_records}
 use Rattle.graph_access.specs.Words.{module_of, statement_list}
 use Rattle.answer_rows.specs.Shown.{bytes_before}

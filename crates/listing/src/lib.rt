@@ -2,9 +2,9 @@
 // first `skip` bytes.
 ghost use Rattle.std.specs.Prelude.{◌≡◌, ℕ, ◌+◌, ◌*◌, ◌<◌, ◌≤◌, Bool, true, false, ◌&&◌, List, [], ◌∷◌, ◌++◌, eqb, length, get_or};
 ghost use Rattle.bit_row.specs.Row.{bit_at};
-ghost use Rattle.graph_tables.specs.Tables.{header_in};
-ghost use Rattle.graph.specs.Check.{graph_in};
-ghost use Rattle.graph.specs.Loaded.{Loaded};
+ghost use Rattle.graph_access.specs.graph_tables_crate.Tables.{header_in};
+ghost use Rattle.graph_access.specs.graph_crate.Check.{graph_in};
+ghost use Rattle.graph_access.specs.graph_crate.Loaded.{Loaded};
 ghost use Rattle.graph_access.specs.Names.{owner, import_records};
 ghost use Rattle.graph_access.specs.Words.{module_of, symbol_of, statement_list};
 ghost use Rattle.answer_rows.specs.Shown.{bytes_before, bit_value};
@@ -14,7 +14,7 @@ ghost use Rattle.listing.specs.Listing.{shown, Fits, statement_word, dead_word, 
 ghost use Rattle.listing.specs.Parts.{of_entries, of_modules, of_statements, of_json, of_dead, pair_text};
 
 use graph_access::{entries, modules, statements, symbols};
-use index::{EntryIdx, ModuleIdx, SymbolIdx};
+use graph_access::index_crate::{EntryIdx, ModuleIdx, SymbolIdx};
 
 // Adds a byte behind a text of `at` bytes. Gives how long the text is then.
 fn put_byte(skip: usize, at: usize, byte: u8, out: &mut [u8]) -> usize
@@ -112,7 +112,7 @@ fn put_line_if(
 pub fn refuse(number: u32, skip: usize, out: &mut [u8]) -> usize
     ensures { (result ≡ length (refused_text number)) × (out.new ≡ shown_in skip (refused_text number) out.old) }
 {
-    let numbers = [rows::wide(number)];
+    let numbers = [graph_access::rows_crate::wide(number)];
     put_line(b"refused", &numbers, skip, 0, out)
 }
 
@@ -130,7 +130,7 @@ fn put_entry(
     requires at_bound { (at < 549755813888) × (k < length row.now) × (get_or row.now k 0 < (header_in numbers.now).entries) }
     ensures { Emits skip (entry_text (graph_in numbers.now) (of_entries row.now) k) at out.old out.new result × (result ≤ at + 128) }
 {
-    let e = EntryIdx(rows::wide(row[k]));
+    let e = EntryIdx(graph_access::rows_crate::wide(row[k]));
     let m = entries::entry_module(numbers, tables, e);
     let line = [m.0, entries::entry_kind(numbers, tables, e)];
     put_line(b"entry", &line, skip, at, out)
@@ -189,9 +189,9 @@ fn put_module(
 {
     let is_normal = modules::is_normal(numbers, tables, ModuleIdx(m));
     let is_kept = bit_value(kept, m);
-    let effects = rows::wide(verdicts[m]);
+    let effects = graph_access::rows_crate::wide(verdicts[m]);
     let reason_bits = reason[m] as usize;
-    let helper_bits = rows::wide(helpers[m]);
+    let helper_bits = graph_access::rows_crate::wide(helpers[m]);
     let line = [m, is_kept, effects, reason_bits, helper_bits];
     put_line_if(is_normal, b"module", &line, skip, at, out)
 }
@@ -458,7 +458,7 @@ pub fn form(
     requires fits { Fits (graph_in numbers.now) (shown rounds count verdicts.now entries.now modules_row.now statements_row.now used.now external.now json.now reason.now dead.now helpers.now) }
     ensures { (result ≡ length (listing_of (graph_in numbers.now) (shown rounds count verdicts.now entries.now modules_row.now statements_row.now used.now external.now json.now reason.now dead.now helpers.now))) × (out.new ≡ shown_in skip (listing_of (graph_in numbers.now) (shown rounds count verdicts.now entries.now modules_row.now statements_row.now used.now external.now json.now reason.now dead.now helpers.now)) out.old) }
 {
-    let h = graph::header_of(numbers);
+    let h = graph_access::graph_crate::header_of(numbers);
     let line = [rounds];
     let mut at = put_line(b"rounds", &line, skip, 0, out);
     at = put_entries(numbers, tables, entries, count, skip, at, out);

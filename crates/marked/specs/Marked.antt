@@ -1,7 +1,7 @@
 -- Whether a fact is kept, by its mark.
 use Rattle.std.specs.Prelude.{ℕ, Bool, List}
 use Rattle.bit_row.specs.Row.{bit_at}
-use Rattle.graph.specs.Check.{Graph}
+use Rattle.facts.specs.graph_crate.Check.{Graph}
 use Rattle.facts.specs.declared.Fact.{Fact}
 use Rattle.facts.specs.Facts.{mark_of}
 

@@ -1,7 +1,7 @@
 // Whether a fact is kept, by its mark.
 ghost use Rattle.std.specs.Prelude.{◌≡◌, ℕ, ◌*◌, ◌≤◌, length};
-ghost use Rattle.graph.specs.Check.{graph_in};
-ghost use Rattle.graph.specs.Loaded.{Loaded};
+ghost use Rattle.facts.specs.graph_crate.Check.{graph_in};
+ghost use Rattle.facts.specs.graph_crate.Loaded.{Loaded};
 ghost use Rattle.facts.specs.Facts.{Good, mark_count};
 ghost use Rattle.marked.specs.Marked.{marked};
 

@@ -1,10 +1,10 @@
 // A further stage of a record: it begins with the modules and the statements that are kept, but no other facts (include_statements.rs makes a
 // new `IncludeContext` over the same bits).
 ghost use Rattle.std.specs.Prelude.{◌≡◌, ℕ, ◌+◌, ◌*◌, ◌<◌, ◌≤◌, length, get_or};
-ghost use Rattle.graph_tables.specs.Tables.{header_in};
-ghost use Rattle.graph.specs.Check.{graph_in};
-ghost use Rattle.graph.specs.Loaded.{Loaded};
-ghost use Rattle.keep_record.specs.Lines.{stays as staysOn};
+ghost use Rattle.facts.specs.graph_tables_crate.Tables.{header_in};
+ghost use Rattle.facts.specs.graph_crate.Check.{graph_in};
+ghost use Rattle.facts.specs.graph_crate.Loaded.{Loaded};
+ghost use Rattle.keep_record.specs.Lines.{stays as stays_on};
 ghost use Rattle.keep_record.specs.Held.{Held};
 ghost use Rattle.entry_starts.specs.Working.{Working};
 
@@ -12,7 +12,7 @@ use facts::Fact;
 
 // Whether a fact of an earlier stage still counts.
 fn stays(fact: Fact) -> bool
-    ensures { result ≡ staysOn fact }
+    ensures { result ≡ stays_on fact }
 {
     let kind = facts::kind_of(fact);
     if kind == 1 {
@@ -65,7 +65,7 @@ pub fn begin(
     requires working { Working (graph_in numbers.now) 0 partners.old marks.old lines.now count }
     ensures { Working (graph_in numbers.now) count partners.new marks.new lines.now count }
 {
-    let h = graph::header_of(numbers);
+    let h = facts::graph_crate::header_of(numbers);
     mark_kept(numbers, tables, marks, lines, count);
     let firsts = worklist::firsts_at(h);
     let nexts = worklist::nexts_at(h);

@@ -2,9 +2,9 @@
 use Prim.Native.Nat.{ℕ, ◌≤◌}
 use mathlib.Core.List.{List}
 use native.Mathlib.Omega.{arith}
-use Rattle.tables.specs.Layout.{start_of, Kept}
-use Rattle.tables.proofs.Sections.{laid_kept, section_kept}
-use Rattle.graph_tables.specs.Tables.{header_in}
+use Rattle.determine_side_effects.specs.tables_crate.Layout.{start_of, Kept}
+use Rattle.determine_side_effects.proofs.tables_crate.Sections.{laid_kept, section_kept}
+use Rattle.determine_side_effects.specs.graph_tables_crate.Tables.{header_in}
 use Rattle.on_demand.specs.Tabled.{Demands, Keyed}
 
 module _ {numbers xs ys : List ℕ} (j : ℕ) (b : j ≤ 10) (q : Kept (start_of (header_in numbers) j) xs ys) where

@@ -8,9 +8,9 @@ use native.Mathlib.Omega.{arith}
 use borrow.Author.Tests.{eq-eqb, ne_eqb, lt-ltb, le-ltb}
 use lib.Dec.{eqb}
 use lib.ListN.{length, get_or}
-use Rattle.graph.specs.Check.{Graph}
-use Rattle.graph_access.specs.Names.{exports, flags, statement_bits, statement_import_records, references}
-use Rattle.graph_access.specs.Words.{flag, module_of, statement_of, normal}
+use Rattle.determine_side_effects.specs.graph_crate.Check.{Graph}
+use Rattle.determine_side_effects.specs.graph_access_crate.Names.{exports, flags, statement_bits, statement_import_records, references}
+use Rattle.determine_side_effects.specs.graph_access_crate.Words.{flag, module_of, statement_of, normal}
 use Rattle.on_demand.specs.Demand.{user_entry, on_demand, gated, has_gated, has_body}
 use Rattle.on_demand.specs.Tabled.{one}
 

@@ -10,15 +10,15 @@ use native.Mathlib.Omega.{arith}
 use borrow.Author.Tests.{eq-eqb, ne_eqb, lt-ltb, ltb-true}
 use lib.Dec.{eqb, ltb}
 use lib.ListN.{length, get_or, set, drop}
-use Rattle.graph_format.specs.declared.Header.{Header}
-use Rattle.tables.specs.Layout.{sizes, start_of, Laid, Kept, on_demand_in, at_on_demand, all_sections}
-use Rattle.tables.proofs.Sections.{section-length, laid_kept}
-use Rattle.rows.specs.Walk.{Item, no_item}
-use Rattle.graph.specs.Check.{Graph}
-use Rattle.graph_access.specs.Names.{entry_module, entry_kind, namespace, own_exports, only}
-use Rattle.graph_access.specs.Words.{root_of}
-use Rattle.graph_access.specs.Words.{some, module_of, option}
-use Rattle.facts.proofs.Folds.{by_some, by_some_step, set_here, set_there}
+use Rattle.determine_side_effects.specs.graph_format_crate.declared.Header.{Header}
+use Rattle.determine_side_effects.specs.tables_crate.Layout.{sizes, start_of, Laid, Kept, on_demand_in, at_on_demand, all_sections}
+use Rattle.determine_side_effects.proofs.tables_crate.Sections.{section-length, laid_kept}
+use Rattle.determine_side_effects.specs.rows_crate.Walk.{Item, no_item}
+use Rattle.determine_side_effects.specs.graph_crate.Check.{Graph}
+use Rattle.determine_side_effects.specs.graph_access_crate.Names.{entry_module, entry_kind, namespace, own_exports, only}
+use Rattle.determine_side_effects.specs.graph_access_crate.Words.{root_of}
+use Rattle.determine_side_effects.specs.graph_access_crate.Words.{some, module_of, option}
+use Rattle.determine_side_effects.proofs.facts_crate.Folds.{by_some, by_some_step, set_here, set_there}
 use Rattle.determine_side_effects.proofs.InSection.{kept_written, section_written}
 use Rattle.on_demand.specs.Demand.{user_entry, has_body, claims, claimed, body_of}
 use Rattle.on_demand.specs.Tabled.{one, keyed}

@@ -6,12 +6,12 @@ use native.Mathlib.Decide.{ℕ_discrete}
 use native.Mathlib.Omega.{arith}
 use borrow.Author.Tests.{eq-eqb, ne_eqb}
 use lib.ListN.{length, get_or, set}
-use Rattle.rows.proofs.Items.{many-length}
-use Rattle.graph_format.specs.Format.{entries_at}
-use Rattle.graph_tables.specs.Tables.{header_in, entries_read}
-use Rattle.graph_tables.specs.Places.{EntryTable}
-use Rattle.graph.specs.Check.{Graph, graph_in}
-use Rattle.facts.proofs.Folds.{set_here, set_there}
+use Rattle.determine_side_effects.proofs.rows_crate.Items.{many-length}
+use Rattle.determine_side_effects.specs.graph_format_crate.Format.{entries_at}
+use Rattle.determine_side_effects.specs.graph_tables_crate.Tables.{header_in, entries_read}
+use Rattle.determine_side_effects.specs.graph_tables_crate.Places.{EntryTable}
+use Rattle.determine_side_effects.specs.graph_crate.Check.{Graph, graph_in}
+use Rattle.determine_side_effects.proofs.facts_crate.Folds.{set_here, set_there}
 use Rattle.on_demand.specs.Demand.{user_entry, on_demand}
 use Rattle.on_demand.specs.Tabled.{one}
 

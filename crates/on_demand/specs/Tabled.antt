@@ -1,10 +1,10 @@
 -- The sections of the modules on demand and of the keys of their bodies.
 use Rattle.std.specs.Prelude.{ℕ, ◌+◌, ◌<◌, ◌≤◌, ◌≡◌, Bool, true, false, ◌||◌, List, eqb, length, get_or}
-use Rattle.tables.specs.Layout.{Laid, on_demand_in, bodies_in, all_sections}
-use Rattle.graph_tables.specs.Tables.{header_in}
-use Rattle.graph.specs.Check.{Graph, graph_in}
-use Rattle.graph_access.specs.Names.{namespace, own_exports, only}
-use Rattle.graph_access.specs.Words.{some, module_of, root_of}
+use Rattle.determine_side_effects.specs.tables_crate.Layout.{Laid, on_demand_in, bodies_in, all_sections}
+use Rattle.determine_side_effects.specs.graph_tables_crate.Tables.{header_in}
+use Rattle.determine_side_effects.specs.graph_crate.Check.{Graph, graph_in}
+use Rattle.determine_side_effects.specs.graph_access_crate.Names.{namespace, own_exports, only}
+use Rattle.determine_side_effects.specs.graph_access_crate.Words.{some, module_of, root_of}
 use Rattle.determine_side_effects.specs.Effects.{last_verdicts}
 use Rattle.on_demand.specs.Demand.{user_entry, on_demand, body_of}
 

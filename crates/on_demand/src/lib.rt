@@ -1,21 +1,21 @@
 // Bodies whose side effects are included on demand (on_demand.rs).
 ghost use Rattle.std.specs.Prelude.{◌≡◌, ℕ, ◌+◌, ◌-◌, ◌<◌, ◌≤◌, Bool, true, false, length, get_or};
-ghost use Rattle.tables.specs.Layout.{start_of, Laid, Kept, on_demand_in, bodies_in, at_on_demand, at_bodies, all_sections};
-ghost use Rattle.graph_tables.specs.Tables.{header_in};
-ghost use Rattle.graph.specs.Check.{graph_in};
-ghost use Rattle.graph.specs.Loaded.{Loaded};
-ghost use Rattle.graph_access.specs.Words.{statement_list, normal};
+ghost use Rattle.determine_side_effects.specs.tables_crate.Layout.{start_of, Laid, Kept, on_demand_in, bodies_in, at_on_demand, at_bodies, all_sections};
+ghost use Rattle.determine_side_effects.specs.graph_tables_crate.Tables.{header_in};
+ghost use Rattle.determine_side_effects.specs.graph_crate.Check.{graph_in};
+ghost use Rattle.determine_side_effects.specs.graph_crate.Loaded.{Loaded};
+ghost use Rattle.determine_side_effects.specs.graph_access_crate.Words.{statement_list, normal};
 ghost use Rattle.determine_side_effects.specs.Effects.{last_verdicts};
 ghost use Rattle.determine_side_effects.specs.Tabled.{Settled};
 ghost use Rattle.on_demand.specs.Demand.{user_entry, on_demand, gated, has_gated, has_body, body_of};
 ghost use Rattle.on_demand.specs.Tabled.{one, keyed, EntriesMarked, DemandTable, KeyTable, Demands, Keyed};
 
-use graph_access::modules::EVAL;
-use graph_access::options::TREESHAKE;
-use graph_access::statements::SIDE_EFFECT;
-use graph_access::{entries, modules, statements, symbols};
-use index::{EntryIdx, ModuleIdx, StmtIdx, SymbolIdx};
-use tables::{BODY_OF_KEY, ON_DEMAND};
+use determine_side_effects::graph_access_crate::modules::EVAL;
+use determine_side_effects::graph_access_crate::options::TREESHAKE;
+use determine_side_effects::graph_access_crate::statements::SIDE_EFFECT;
+use determine_side_effects::graph_access_crate::{entries, modules, statements, symbols};
+use determine_side_effects::index_crate::{EntryIdx, ModuleIdx, StmtIdx, SymbolIdx};
+use determine_side_effects::tables_crate::{BODY_OF_KEY, ON_DEMAND};
 
 // Whether a module's side effects are included on demand.
 pub fn is_on_demand(numbers: &[u32], tables: &[usize], m: ModuleIdx) -> bool
@@ -23,7 +23,7 @@ pub fn is_on_demand(numbers: &[u32], tables: &[usize], m: ModuleIdx) -> bool
     requires m_bound { m.0 < (header_in numbers.now).modules }
     ensures { result ≡ on_demand (graph_in numbers.now) (last_verdicts (graph_in numbers.now)) m.0 }
 {
-    let demand = tables::section(tables, ON_DEMAND);
+    let demand = determine_side_effects::tables_crate::section(tables, ON_DEMAND);
     let i = m.0;
     demand[i] == 1
 }
@@ -34,7 +34,7 @@ pub fn body_of_key(numbers: &[u32], tables: &[usize], s: SymbolIdx) -> usize
     requires s_bound { s.0 < (header_in numbers.now).symbols }
     ensures { (result ≡ body_of (graph_in numbers.now) (last_verdicts (graph_in numbers.now)) s.0) × (result ≤ (header_in numbers.now).modules) }
 {
-    let bodies = tables::section(tables, BODY_OF_KEY);
+    let bodies = determine_side_effects::tables_crate::section(tables, BODY_OF_KEY);
     let i = s.0;
     bodies[i]
 }
@@ -45,8 +45,8 @@ fn mark_user_defined_entries(numbers: &[u32], tables: &mut [usize])
     requires laid { Laid (header_in numbers.now) all_sections tables.old }
     ensures { EntriesMarked (graph_in numbers.now) (on_demand_in tables.new) × Kept (start_of (header_in numbers.now) at_on_demand) tables.old tables.new }
 {
-    let h = graph::header_of(numbers);
-    tables::clear(tables, ON_DEMAND);
+    let h = determine_side_effects::graph_crate::header_of(numbers);
+    determine_side_effects::tables_crate::clear(tables, ON_DEMAND);
     let base = tables[ON_DEMAND];
     let mut e: usize = 0;
     while e < h.entries {
@@ -75,7 +75,7 @@ fn side_effects_included_on_demand(
     if modules::exports(numbers, tables, m) != 0 {
         return 0;
     }
-    if facts::flag(modules::flags(numbers, tables, m), EVAL) {
+    if determine_side_effects::facts_crate::flag(modules::flags(numbers, tables, m), EVAL) {
         return 0;
     }
     1 - entry
@@ -88,7 +88,7 @@ pub fn fill_on_demand(numbers: &[u32], tables: &mut [usize])
     ensures { DemandTable (graph_in numbers.now) (on_demand_in tables.new) × Kept (start_of (header_in numbers.now) at_on_demand) tables.old tables.new }
 {
     mark_user_defined_entries(numbers, tables);
-    let h = graph::header_of(numbers);
+    let h = determine_side_effects::graph_crate::header_of(numbers);
     let base = tables[ON_DEMAND];
     let mut m: usize = 0;
     while m < h.modules {
@@ -116,7 +116,7 @@ pub fn is_gated_side_effect_stmt(
     if i.0 == 0 {
         return false;
     }
-    if !facts::flag(statements::bits(numbers, tables, m, i), SIDE_EFFECT) {
+    if !determine_side_effects::facts_crate::flag(statements::bits(numbers, tables, m, i), SIDE_EFFECT) {
         return false;
     }
     if statements::reference_count(numbers, tables, m, i) == 0 {
@@ -182,9 +182,9 @@ pub fn compute_body_demand_keys(numbers: &[u32], tables: &mut [usize])
     requires { Loaded numbers.now tables.old × Demands numbers.now tables.old }
     ensures { KeyTable (graph_in numbers.now) (bodies_in tables.new) × Kept (start_of (header_in numbers.now) at_bodies) tables.old tables.new }
 {
-    let h = graph::header_of(numbers);
-    tables::clear(tables, BODY_OF_KEY);
-    if !facts::flag(h.options, TREESHAKE) {
+    let h = determine_side_effects::graph_crate::header_of(numbers);
+    determine_side_effects::tables_crate::clear(tables, BODY_OF_KEY);
+    if !determine_side_effects::facts_crate::flag(h.options, TREESHAKE) {
         return;
     }
     let mut m: usize = 0;

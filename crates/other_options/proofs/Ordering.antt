@@ -4,9 +4,9 @@ use mathlib.Core.Path.{◌≡◌, refl, ap, ◌∙◌}
 use mathlib.Core.Bool.{Bool, true, false, not, ◌||◌}
 use mathlib.Core.List.{List, [], ◌∷◌, ◌++◌}
 use lib.Dec.{eqb}
-use Rattle.graph.specs.Check.{Graph}
-use Rattle.graph_access.specs.Names.{import_records}
-use Rattle.graph_access.specs.Words.{module_of, normal, entry_of}
+use Rattle.determine_side_effects.specs.graph_crate.Check.{Graph}
+use Rattle.determine_side_effects.specs.graph_access_crate.Names.{import_records}
+use Rattle.determine_side_effects.specs.graph_access_crate.Words.{module_of, normal, entry_of}
 use Rattle.keep_record.specs.Lines.{elem}
 use Rattle.entry_order.specs.Order.{those, module_of_entry, is_dynamic, is_user_defined, grouped_entries, user_entries, dynamic_entries}
 use Rattle.entry_graph.specs.Ordering.{Ordering, no_ordering, nothing, visit, all_records, construct, from_entry, from_entries, entry_graph}

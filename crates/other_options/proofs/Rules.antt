@@ -7,13 +7,13 @@ use mathlib.Core.List.{List, [], ◌∷◌}
 use native.Mathlib.Omega.{arith}
 use lib.Dec.{eqb}
 use lib.ListN.{length, get_or}
-use Rattle.rows.specs.Walk.{Item}
-use Rattle.graph.specs.Check.{Graph}
-use Rattle.graph_access.specs.Names.{exports, flags, dependencies, common_js_export_symbols, owner, constant_bits, written_property_statements, statement_bits}
-use Rattle.graph_access.specs.Words.{flag, module_of, symbol_of, statement_list, statement_of, normal, option, root_of}
-use Rattle.facts.specs.declared.Fact.{Fact}
-use Rattle.facts.specs.declared.Fact.TheVariants.{Module, Statement, Use, CheckedUse, Forward, Bailout}
-use Rattle.facts.specs.Facts.{module_fact, statement_fact}
+use Rattle.determine_side_effects.specs.rows_crate.Walk.{Item}
+use Rattle.determine_side_effects.specs.graph_crate.Check.{Graph}
+use Rattle.determine_side_effects.specs.graph_access_crate.Names.{exports, flags, dependencies, common_js_export_symbols, owner, constant_bits, written_property_statements, statement_bits}
+use Rattle.determine_side_effects.specs.graph_access_crate.Words.{flag, module_of, symbol_of, statement_list, statement_of, normal, option, root_of}
+use Rattle.determine_side_effects.specs.facts_crate.declared.Fact.{Fact}
+use Rattle.determine_side_effects.specs.facts_crate.declared.Fact.TheVariants.{Module, Statement, Use, CheckedUse, Forward, Bailout}
+use Rattle.determine_side_effects.specs.facts_crate.Facts.{module_fact, statement_fact}
 use Rattle.determine_side_effects.specs.Effects.{has_effects}
 use Rattle.on_demand.specs.Demand.{user_entry, on_demand, gated, has_gated, has_body, claims, claimed, body_of}
 use Rattle.linking_metadata.specs.Namespaces.{common_js_of, is_namespace, target_of}

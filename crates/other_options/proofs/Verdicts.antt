@@ -2,9 +2,9 @@
 use Prim.Native.Nat.{ℕ, zero, suc}
 use mathlib.Core.Path.{◌≡◌, refl, ap, ◌∙◌}
 use mathlib.Core.List.{List}
-use Rattle.rows.specs.Walk.{Item}
-use Rattle.graph.specs.Check.{Graph}
-use Rattle.graph_access.specs.Words.{module_of, statement_list, normal}
+use Rattle.determine_side_effects.specs.rows_crate.Walk.{Item}
+use Rattle.determine_side_effects.specs.graph_crate.Check.{Graph}
+use Rattle.determine_side_effects.specs.graph_access_crate.Words.{module_of, statement_list, normal}
 use Rattle.determine_side_effects.specs.Effects.{seeds, moves, moved, pass, passes, settle, relaxed, rescanned, recomputed, first_verdict, first_verdicts, last_verdicts}
 use Rattle.other_options.proofs.Changed.{changed}
 

@@ -1,8 +1,8 @@
 -- Graphs that differ in their options alone (docs/GRAPH.md, Header).
 use Rattle.std.specs.Prelude.{ℕ, ◌≡◌}
-use Rattle.graph_format.specs.declared.Header.{Header}
-use Rattle.graph.specs.Check.{Graph}
-use Rattle.graph_access.specs.Words.{option}
+use Rattle.determine_side_effects.specs.graph_format_crate.declared.Header.{Header}
+use Rattle.determine_side_effects.specs.graph_crate.Check.{Graph}
+use Rattle.determine_side_effects.specs.graph_access_crate.Words.{option}
 
 -- a header and a graph with other options
 abbrev pub header_with : Header → ℕ → Header

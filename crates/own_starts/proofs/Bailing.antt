@@ -7,10 +7,10 @@ use native.Mathlib.Omega.{arith}
 use borrow.Author.Tests.{eq-eqb, ne_eqb}
 use lib.ListN.{length, get_or, drop, drop_of_length-le}
 use lib.Seq.{drop-cons}
-use Rattle.graph.specs.Check.{Graph}
-use Rattle.graph_access.specs.Names.{resolved_exports, export_symbol, export_from_common_js}
-use Rattle.graph_access.specs.Words.{module_of}
-use Rattle.index.specs.declared.SymbolIdx.{SymbolIdx}
+use Rattle.facts.specs.graph_crate.Check.{Graph}
+use Rattle.facts.specs.graph_access_crate.Names.{resolved_exports, export_symbol, export_from_common_js}
+use Rattle.facts.specs.graph_access_crate.Words.{module_of}
+use Rattle.facts.specs.index_crate.declared.SymbolIdx.{SymbolIdx}
 use Rattle.facts.specs.declared.Fact.{Fact}
 use Rattle.facts.specs.declared.Fact.TheVariants.{Module, Statement, Use, CheckedUse, Forward, Bailout}
 use Rattle.facts.specs.Facts.{kind_of, first_part, module_fact, checked_fact, bailout_fact, Good}

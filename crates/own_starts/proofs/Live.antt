@@ -7,8 +7,8 @@ use native.Mathlib.Omega.{arith}
 use borrow.Author.Tests.{lt-ltb, ne_eqb}
 use lib.Dec.{ltb}
 use lib.ListN.{get_or}
-use Rattle.graph_format.specs.declared.Header.{Header}
-use Rattle.graph.specs.Check.{Graph}
+use Rattle.facts.specs.graph_format_crate.declared.Header.{Header}
+use Rattle.facts.specs.graph_crate.Check.{Graph}
 use Rattle.facts.specs.declared.Fact.{Fact}
 use Rattle.entry_order.specs.Plan.{is_set, live_in}
 use Rattle.entry_starts.specs.Starts.{module_starts}

@@ -7,8 +7,8 @@ use native.Mathlib.Omega.{arith}
 use borrow.Author.Count.{below_more}
 use lib.ListN.{length, get_or, replicate, length-append, length-replicate, length-map, get_or-append, get_or-map}
 use lib.Seq.{get_or-append_seam}
-use Rattle.graph.specs.Check.{Graph, graph_in}
-use Rattle.graph.specs.Loaded.{Loaded}
+use Rattle.facts.specs.graph_crate.Check.{Graph, graph_in}
+use Rattle.facts.specs.graph_crate.Loaded.{Loaded}
 use Rattle.facts.specs.declared.Fact.{Fact}
 use Rattle.facts.specs.Facts.{first_part, second_part, module_fact, Good, mark_of, mark_count}
 use Rattle.facts.proofs.Marks.{mark_below}

@@ -1,10 +1,10 @@
 // A run's own starts, noted as triples, each once: what entries and bailouts start, beside `entry_starts` and `passes`, which start it. They are worked
 // out by kind from what the main part of a run leaves.
 ghost use Rattle.std.specs.Prelude.{◌≡◌, ℕ, ◌+◌, ◌*◌, ◌<◌, ◌≤◌, List, [], ◌∷◌, length};
-ghost use Rattle.graph_tables.specs.Tables.{header_in};
-ghost use Rattle.graph.specs.Check.{graph_in};
-ghost use Rattle.graph_access.specs.Names.{resolved_exports};
-ghost use Rattle.graph_access.specs.Words.{module_of};
+ghost use Rattle.facts.specs.graph_tables_crate.Tables.{header_in};
+ghost use Rattle.facts.specs.graph_crate.Check.{graph_in};
+ghost use Rattle.facts.specs.graph_access_crate.Names.{resolved_exports};
+ghost use Rattle.facts.specs.graph_access_crate.Words.{module_of};
 ghost use Rattle.facts.specs.Facts.{Good, first_part, second_part};
 ghost use Rattle.keep_rules.specs.Prepared.{Prepared};
 ghost use Rattle.keep_record.specs.Held.{line_at, lines_of};
@@ -18,8 +18,8 @@ ghost use Rattle.tree_shaking.specs.Own.{live_starts, starts_by_kind};
 ghost use Rattle.own_starts.specs.Noting.{Noted, Notes, Writes};
 
 use facts::{Fact, Reason};
-use graph_access::{entries, modules, symbols};
-use index::{EntryIdx, ModuleIdx, SymbolIdx};
+use facts::graph_access_crate::{entries, modules, symbols};
+use facts::index_crate::{EntryIdx, ModuleIdx, SymbolIdx};
 use marked::is_marked;
 use tree_shaking::Reached;
 
@@ -255,7 +255,7 @@ fn note_live_modules(
     requires noted { Noted (graph_in numbers.now) seen.old out.old n × (plan_size (header_in numbers.now) ≤ length plan.now) }
     ensures { Notes (graph_in numbers.now) (live_starts (graph_in numbers.now) (live_in (header_in numbers.now) plan.now) 0 (header_in numbers.now).modules) seen.old out.old n seen.new out.new result }
 {
-    let h = graph::header_of(numbers);
+    let h = facts::graph_crate::header_of(numbers);
     let live = entry_order::live_at(h);
     let mut total = n;
     let mut m: usize = 0;

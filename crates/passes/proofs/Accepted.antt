@@ -5,17 +5,17 @@ use mathlib.Core.Bool.{Bool, true, false, false≢true}
 use mathlib.Core.List.{List}
 use borrow.Author.Tests.{ltb-true}
 use lib.Dec.{ltb}
-use Rattle.rows.specs.Walk.{cells}
-use Rattle.rows.proofs.Cells.{then_got}
-use Rattle.graph_format.specs.declared.Header.{Header}
-use Rattle.graph_format.specs.Format.{header_rules, kind_of}
-use Rattle.graph_tables.specs.Tables.{header_in}
-use Rattle.graph.specs.Check.{graph_in, walked, runtime_normal, check_of}
-use Rattle.graph.specs.Loaded.{Loaded}
-use Rattle.graph.proofs.Checking.{few_helpers}
-use Rattle.graph.proofs.WellFormed.{accepted_is, runtime_is_normal}
-use Rattle.graph_access.specs.Names.{kind}
-use Rattle.graph_access.specs.Words.{module_of, normal}
+use Rattle.determine_side_effects.specs.rows_crate.Walk.{cells}
+use Rattle.determine_side_effects.proofs.rows_crate.Cells.{then_got}
+use Rattle.determine_side_effects.specs.graph_format_crate.declared.Header.{Header}
+use Rattle.determine_side_effects.specs.graph_format_crate.Format.{header_rules, kind_of}
+use Rattle.determine_side_effects.specs.graph_tables_crate.Tables.{header_in}
+use Rattle.determine_side_effects.specs.graph_crate.Check.{graph_in, walked, runtime_normal, check_of}
+use Rattle.determine_side_effects.specs.graph_crate.Loaded.{Loaded}
+use Rattle.determine_side_effects.proofs.graph_crate.Checking.{few_helpers}
+use Rattle.determine_side_effects.proofs.graph_crate.WellFormed.{accepted_is, runtime_is_normal}
+use Rattle.determine_side_effects.specs.graph_access_crate.Names.{kind}
+use Rattle.determine_side_effects.specs.graph_access_crate.Words.{module_of, normal}
 
 module _ {numbers tables : List ℕ} (t : Loaded numbers tables) where
   pub helpers_few : (header_in numbers).helpers ≤ 32

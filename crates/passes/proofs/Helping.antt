@@ -8,12 +8,12 @@ use borrow.Author.Tests.{eq-eqb, ne_eqb}
 use lib.Dec.{eqb}
 use lib.ListN.{length, get_or, drop}
 use Rattle.bit_row.specs.Row.{bit_at}
-use Rattle.graph.specs.Check.{Graph}
-use Rattle.graph_access.specs.Names.{module_helpers, helper_number, helper_statement}
-use Rattle.graph_access.specs.Words.{flag, some, tabulate, module_of}
-use Rattle.facts.specs.declared.Fact.{Fact}
-use Rattle.facts.specs.Facts.{module_fact, statement_fact, mark_of}
-use Rattle.facts.proofs.Folds.{some_next, some_here, some_none, some_tabulate_next, some-tabulate-here, some-tabulate-none}
+use Rattle.determine_side_effects.specs.graph_crate.Check.{Graph}
+use Rattle.determine_side_effects.specs.graph_access_crate.Names.{module_helpers, helper_number, helper_statement}
+use Rattle.determine_side_effects.specs.graph_access_crate.Words.{flag, some, tabulate, module_of}
+use Rattle.determine_side_effects.specs.facts_crate.declared.Fact.{Fact}
+use Rattle.determine_side_effects.specs.facts_crate.Facts.{module_fact, statement_fact, mark_of}
+use Rattle.determine_side_effects.proofs.facts_crate.Folds.{some_next, some_here, some_none, some_tabulate_next, some-tabulate-here, some-tabulate-none}
 use Rattle.marked.specs.Marked.{marked}
 use Rattle.passes.specs.Helpers.{has_all, needs_helper, word_of, helper_word, helper_union}
 use Rattle.passes.proofs.Words.{word_none}

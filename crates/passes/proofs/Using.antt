@@ -6,15 +6,15 @@ use mathlib.Core.List.{List, [], ◌∷◌, ◌++◌, map}
 use native.Mathlib.Omega.{arith}
 use borrow.Author.Tests.{eq-eqb, ne_eqb}
 use lib.ListN.{get_or}
-use Rattle.graph_format.specs.declared.Header.{Header}
-use Rattle.graph.specs.Check.{Graph}
-use Rattle.graph_access.specs.Names.{only}
-use Rattle.graph_access.specs.Words.{flag, tabulate}
-use Rattle.index.specs.declared.SymbolIdx.{SymbolIdx}
-use Rattle.facts.specs.declared.Fact.{Fact}
-use Rattle.facts.specs.declared.Fact.TheVariants.{Use}
-use Rattle.facts.specs.Facts.{module_fact, use_fact}
-use Rattle.facts.proofs.Folds.{tabulate_next, tabulate-none}
+use Rattle.determine_side_effects.specs.graph_format_crate.declared.Header.{Header}
+use Rattle.determine_side_effects.specs.graph_crate.Check.{Graph}
+use Rattle.determine_side_effects.specs.graph_access_crate.Names.{only}
+use Rattle.determine_side_effects.specs.graph_access_crate.Words.{flag, tabulate}
+use Rattle.determine_side_effects.specs.index_crate.declared.SymbolIdx.{SymbolIdx}
+use Rattle.determine_side_effects.specs.facts_crate.declared.Fact.{Fact}
+use Rattle.determine_side_effects.specs.facts_crate.declared.Fact.TheVariants.{Use}
+use Rattle.determine_side_effects.specs.facts_crate.Facts.{module_fact, use_fact}
+use Rattle.determine_side_effects.proofs.facts_crate.Folds.{tabulate_next, tabulate-none}
 use Rattle.determine_side_effects.specs.Effects.{last_verdicts, has_effects}
 use Rattle.keep_record.specs.declared.Line.{Line}
 use Rattle.keep_record.specs.declared.Added.TheVariants.{Lines, Full}

@@ -1,11 +1,11 @@
 -- The exports of CommonJS modules that were bailed out (004:26-42, `include_cjs_bailout_exports`).
 use Rattle.std.specs.Prelude.{ℕ, zero, suc, Bool, true, false, List, [], ◌∷◌, ◌++◌, eqb}
-use Rattle.graph.specs.Check.{Graph}
-use Rattle.graph_access.specs.Names.{resolved_exports, export_symbol, export_from_common_js}
-use Rattle.graph_access.specs.Words.{module_of}
-use Rattle.facts.specs.declared.Fact.{Fact}
-use Rattle.facts.specs.declared.Fact.TheVariants.{Module, Statement, Use, CheckedUse, Forward, Bailout}
-use Rattle.facts.specs.Facts.{checked_fact}
+use Rattle.determine_side_effects.specs.graph_crate.Check.{Graph}
+use Rattle.determine_side_effects.specs.graph_access_crate.Names.{resolved_exports, export_symbol, export_from_common_js}
+use Rattle.determine_side_effects.specs.graph_access_crate.Words.{module_of}
+use Rattle.determine_side_effects.specs.facts_crate.declared.Fact.{Fact}
+use Rattle.determine_side_effects.specs.facts_crate.declared.Fact.TheVariants.{Module, Statement, Use, CheckedUse, Forward, Bailout}
+use Rattle.determine_side_effects.specs.facts_crate.Facts.{checked_fact}
 use Rattle.keep_record.specs.declared.Line.{Line}
 
 -- a checked use, with Normal, for each resolved export that is from CommonJS (docs/RULES.md, Step 3)

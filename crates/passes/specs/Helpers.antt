@@ -1,10 +1,10 @@
 -- Runtime helpers: which a module needs, their union, and what it starts (docs/RULES.md, Step 6; 000:410-445; 004).
 use Rattle.std.specs.Prelude.{ℕ, zero, suc, ◌+◌, Bool, true, false, not, ◌||◌, ◌&&◌, List, [], ◌∷◌, ◌++◌, map, eqb, get_or}
-use Rattle.graph.specs.Check.{Graph}
-use Rattle.graph_access.specs.Names.{module_helpers, helper_number, helper_statement, only}
-use Rattle.graph_access.specs.Words.{flag, some, tabulate, module_of}
-use Rattle.facts.specs.declared.Fact.{Fact}
-use Rattle.facts.specs.Facts.{module_fact, statement_fact, use_fact}
+use Rattle.determine_side_effects.specs.graph_crate.Check.{Graph}
+use Rattle.determine_side_effects.specs.graph_access_crate.Names.{module_helpers, helper_number, helper_statement, only}
+use Rattle.determine_side_effects.specs.graph_access_crate.Words.{flag, some, tabulate, module_of}
+use Rattle.determine_side_effects.specs.facts_crate.declared.Fact.{Fact}
+use Rattle.determine_side_effects.specs.facts_crate.Facts.{module_fact, statement_fact, use_fact}
 use Rattle.determine_side_effects.specs.Effects.{has_effects}
 use Rattle.answer_rows.specs.Shown.{bit_value}
 use Rattle.entry_order.specs.Order.{those}

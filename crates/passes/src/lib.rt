@@ -1,10 +1,10 @@
 // Passes around the rounds: the exports of bailed out CommonJS modules, runtime helpers (passes.rs).
 ghost use Rattle.std.specs.Prelude.{◌≡◌, ℕ, ◌+◌, ◌*◌, ◌<◌, ◌≤◌, Bool, ◌&&◌, List, [], ◌∷◌, map, length, get_or, drop};
-ghost use Rattle.graph_tables.specs.Tables.{header_in};
-ghost use Rattle.graph.specs.Check.{graph_in};
-ghost use Rattle.graph_access.specs.Names.{resolved_exports, only};
-ghost use Rattle.graph_access.specs.Words.{flag, some, tabulate, module_of};
-ghost use Rattle.facts.specs.Facts.{module_fact, use_fact, mark_count};
+ghost use Rattle.determine_side_effects.specs.graph_tables_crate.Tables.{header_in};
+ghost use Rattle.determine_side_effects.specs.graph_crate.Check.{graph_in};
+ghost use Rattle.determine_side_effects.specs.graph_access_crate.Names.{resolved_exports, only};
+ghost use Rattle.determine_side_effects.specs.graph_access_crate.Words.{flag, some, tabulate, module_of};
+ghost use Rattle.determine_side_effects.specs.facts_crate.Facts.{module_fact, use_fact, mark_count};
 ghost use Rattle.determine_side_effects.specs.Effects.{last_verdicts};
 ghost use Rattle.keep_rules.specs.Prepared.{Prepared};
 ghost use Rattle.keep_record.specs.Held.{lines_of};
@@ -15,9 +15,9 @@ ghost use Rattle.entry_starts.specs.Working.{Working, Started};
 ghost use Rattle.passes.specs.Bailouts.{export_starts, bailouts_starts};
 ghost use Rattle.passes.specs.Helpers.{has_all, needs_helper, helper_word, helper_union, runtime_starts};
 
-use facts::{Fact, Reason};
-use graph_access::{helpers, modules};
-use index::ModuleIdx;
+use determine_side_effects::facts_crate::{Fact, Reason};
+use determine_side_effects::graph_access_crate::{helpers, modules};
+use determine_side_effects::index_crate::ModuleIdx;
 use keep_record::{Added, Stage};
 
 // Uses the exports from CommonJS of module m.
@@ -86,8 +86,8 @@ pub fn include_cjs_bailout_exports(
     let mut k = taken;
     while k < count {
         let fact = keep_record::fact_at(lines, k);
-        if facts::kind_of(fact) == 6 {
-            let m = ModuleIdx(facts::first_part(fact));
+        if determine_side_effects::facts_crate::kind_of(fact) == 6 {
+            let m = ModuleIdx(determine_side_effects::facts_crate::first_part(fact));
             match include_cjs_exports(numbers, tables, partners, marks, lines, total, m) {
                 Added::Full => {
                     return Added::Full;
@@ -108,7 +108,7 @@ fn has_all(numbers: &[u32], tables: &[usize], marks: &[u8], m: ModuleIdx) -> boo
     requires m_bound { (m.0 < (header_in numbers.now).modules) × (mark_count (graph_in numbers.now) ≤ 8 * length marks.now) }
     ensures { result ≡ has_all (graph_in numbers.now) (marked (graph_in numbers.now) marks.now) m.0 }
 {
-    let h = graph::header_of(numbers);
+    let h = determine_side_effects::graph_crate::header_of(numbers);
     if m.0 == h.runtime {
         return false;
     }
@@ -152,7 +152,7 @@ fn helper_word(numbers: &[u32], tables: &[usize], marks: &[u8], m: ModuleIdx) ->
     requires m_bound { (m.0 < (header_in numbers.now).modules) × (mark_count (graph_in numbers.now) ≤ 8 * length marks.now) }
     ensures { (result ≡ helper_word (graph_in numbers.now) (marked (graph_in numbers.now) marks.now) m.0) × (result < 4294967296) }
 {
-    let h = graph::header_of(numbers);
+    let h = determine_side_effects::graph_crate::header_of(numbers);
     if h.helpers == 0 {
         return 0;
     }
@@ -178,7 +178,7 @@ pub fn collect_helpers(numbers: &[u32], tables: &[usize], marks: &[u8], plan: &m
     ensures by_index { (m : ℕ) → m < (header_in numbers.now).modules → (get_or plan.new (words_at (header_in numbers.now) + m) 0 ≡ helper_word (graph_in numbers.now) (marked (graph_in numbers.now) marks.now) m) × (get_or plan.new (words_at (header_in numbers.now) + m) 0 < 4294967296) }
     ensures untouched { Untouched (words_at (header_in numbers.now)) (plan_size (header_in numbers.now)) plan.old plan.new }
 {
-    let h = graph::header_of(numbers);
+    let h = determine_side_effects::graph_crate::header_of(numbers);
     let at = entry_order::words_at(h);
     let mut m: usize = 0;
     while m < h.modules {
@@ -194,11 +194,11 @@ fn is_needed(numbers: &[u32], tables: &[usize], marks: &[u8], plan: &[usize], he
     requires by_index { (m : ℕ) → m < (header_in numbers.now).modules → get_or plan.now (words_at (header_in numbers.now) + m) 0 ≡ helper_word (graph_in numbers.now) (marked (graph_in numbers.now) marks.now) m }
     ensures { result ≡ some (λ m. marked (graph_in numbers.now) marks.now (module_fact m) && flag helper (helper_word (graph_in numbers.now) (marked (graph_in numbers.now) marks.now) m)) (tabulate (λ m. m) 0 (header_in numbers.now).modules) }
 {
-    let h = graph::header_of(numbers);
+    let h = determine_side_effects::graph_crate::header_of(numbers);
     let at = entry_order::words_at(h);
     let mut m: usize = 0;
     while m < h.modules {
-        if facts::flag(plan[at + m], helper) {
+        if determine_side_effects::facts_crate::flag(plan[at + m], helper) {
             if bit_row::test(marks, m) {
                 return true;
             }
@@ -220,7 +220,7 @@ pub fn collect_depended_runtime_helpers(
     requires by_index { (m : ℕ) → m < (header_in numbers.now).modules → get_or plan.now (words_at (header_in numbers.now) + m) 0 ≡ helper_word (graph_in numbers.now) (marked (graph_in numbers.now) marks.now) m }
     ensures { result ≡ helper_union (graph_in numbers.now) (marked (graph_in numbers.now) marks.now) }
 {
-    let h = graph::header_of(numbers);
+    let h = determine_side_effects::graph_crate::header_of(numbers);
     let mut word: usize = 0;
     let mut k: usize = 0;
     while k < h.helpers {
@@ -246,12 +246,12 @@ fn include_helpers(
     requires working { Working (graph_in numbers.now) stage.base partners.old marks.old lines.old stage.count }
     ensures { Started (graph_in numbers.now) stage.base (map (λ h. use_fact (only (get_or (graph_in numbers.now).helpers h [])) 1) (those (λ h. flag h word) (tabulate (λ h. h) 0 (header_in numbers.now).helpers))) (lines_of stage.count lines.old) partners.new marks.new lines.new result }
 {
-    let h = graph::header_of(numbers);
+    let h = determine_side_effects::graph_crate::header_of(numbers);
     let base = stage.base;
     let mut total = stage.count;
     let mut k: usize = 0;
     while k < h.helpers {
-        if facts::flag(word, k) {
+        if determine_side_effects::facts_crate::flag(word, k) {
             let s = helpers::helper_symbol(numbers, tables, k);
             match entry_starts::start_one(
                 numbers,
@@ -292,7 +292,7 @@ pub fn include_runtime_symbol(
     if word > 0 {
         return include_helpers(numbers, tables, partners, marks, lines, stage, word);
     }
-    let h = graph::header_of(numbers);
+    let h = determine_side_effects::graph_crate::header_of(numbers);
     let runtime = ModuleIdx(h.runtime);
     if !determine_side_effects::has_effects(numbers, tables, runtime) {
         return Added::Lines(stage.count);

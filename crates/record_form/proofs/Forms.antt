@@ -7,8 +7,8 @@ use native.Mathlib.Omega.{arith}
 use borrow.Author.Tests.{lt-ltb, le-ltb, ltb-true, eq-eqb, ne_eqb, eqb-true}
 use lib.Dec.{eqb, ltb, leb}
 use lib.ListN.{get_or}
-use Rattle.graph.specs.Check.{Graph}
-use Rattle.facts.specs.Facts.{fact_of, Good}
+use Rattle.determine_side_effects.specs.graph_crate.Check.{Graph}
+use Rattle.determine_side_effects.specs.facts_crate.Facts.{fact_of, Good}
 use Rattle.determine_side_effects.proofs.Lists.{both}
 use Rattle.starts.specs.Starts.{start_fault}
 use Rattle.starts.proofs.Starting.{start_good}

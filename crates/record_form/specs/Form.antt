@@ -1,7 +1,7 @@
 -- Whether the six numbers of a line are in form (docs/OPERATIONS.md, Record): a fact's kind and parts, a rule, two names of earlier lines, and 0
 -- where one is not used.
 use Rattle.std.specs.Prelude.{ℕ, ◌+◌, ◌*◌, Bool, true, false, ◌&&◌, List, eqb, ltb, leb, get_or}
-use Rattle.graph.specs.Check.{Graph}
+use Rattle.determine_side_effects.specs.graph_crate.Check.{Graph}
 use Rattle.starts.specs.Starts.{start_fault}
 
 -- a fact's numbers: those of a start, or of a forward

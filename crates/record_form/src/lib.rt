@@ -1,7 +1,7 @@
 // Whether a line of a record is in form.
 ghost use Rattle.std.specs.Prelude.{◌≡◌, ◌+◌, ◌*◌, ◌≤◌, length};
-ghost use Rattle.graph.specs.Check.{graph_in};
-ghost use Rattle.graph.specs.Loaded.{Loaded};
+ghost use Rattle.determine_side_effects.specs.graph_crate.Check.{graph_in};
+ghost use Rattle.determine_side_effects.specs.graph_crate.Loaded.{Loaded};
 ghost use Rattle.record_form.specs.Form.{parts_fit, is_earlier, names_fit, in_form};
 
 // Whether these are the numbers of a fact.
@@ -10,7 +10,7 @@ fn parts_fit(numbers: &[u32], tables: &[usize], kind: usize, a: usize, b: usize)
     ensures { result ≡ parts_fit (graph_in numbers.now) kind a b }
 {
     if kind == 5 {
-        let h = graph::header_of(numbers);
+        let h = determine_side_effects::graph_crate::header_of(numbers);
         if a >= h.symbols {
             return false;
         }
@@ -55,15 +55,15 @@ pub fn is_in_form(numbers: &[u32], tables: &[usize], lines: &[u32], k: usize) ->
     ensures { result ≡ in_form (graph_in numbers.now) lines.now k }
 {
     let p = 6 * k;
-    let kind = rows::wide(lines[p]);
-    let a = rows::wide(lines[p + 1]);
-    let b = rows::wide(lines[p + 2]);
+    let kind = determine_side_effects::rows_crate::wide(lines[p]);
+    let a = determine_side_effects::rows_crate::wide(lines[p + 1]);
+    let b = determine_side_effects::rows_crate::wide(lines[p + 2]);
     if !parts_fit(numbers, tables, kind, a, b) {
         return false;
     }
-    let rule = rows::wide(lines[p + 3]);
+    let rule = determine_side_effects::rows_crate::wide(lines[p + 3]);
     if rule >= 15 {
         return false;
     }
-    names_fit(k, rule, rows::wide(lines[p + 4]), rows::wide(lines[p + 5]))
+    names_fit(k, rule, determine_side_effects::rows_crate::wide(lines[p + 4]), determine_side_effects::rows_crate::wide(lines[p + 5]))
 }

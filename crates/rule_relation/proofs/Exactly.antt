@@ -5,10 +5,10 @@ use mathlib.Core.Logic.{inl, inr}
 use mathlib.Core.Bool.{Bool, true, false}
 use mathlib.Core.List.{List, [], ◌∷◌}
 use borrow.Author.Tests.{not_true}
-use Rattle.graph.specs.Check.{Graph}
-use Rattle.facts.specs.declared.Fact.{Fact}
-use Rattle.facts.specs.declared.Fact.TheVariants.{Module, Statement, Use, CheckedUse, Forward, Bailout}
-use Rattle.facts.specs.Facts.{module_fact, statement_fact, use_fact, checked_fact}
+use Rattle.determine_side_effects.specs.graph_crate.Check.{Graph}
+use Rattle.determine_side_effects.specs.facts_crate.declared.Fact.{Fact}
+use Rattle.determine_side_effects.specs.facts_crate.declared.Fact.TheVariants.{Module, Statement, Use, CheckedUse, Forward, Bailout}
+use Rattle.determine_side_effects.specs.facts_crate.Facts.{module_fact, statement_fact, use_fact, checked_fact}
 use Rattle.keep_rules.specs.Rules.{segment, quiet_runtime, checked_candidate, bypassed, module_segments, statement_segments, use_segments, segments_of, gives}
 use Rattle.rule_relation.specs.Relation.{Sweeps, Follows, Gives}
 use Rattle.rule_relation.specs.Relation.{K2_effect, K2_eval, K2_unforced, K2_forced, K3_effects, K3_whole, K4, K5, K6, K7, K8_forward, K8_use, K8_depended, K8_target, K8_member, K9_use, K9_namespace, K9_own, K9_default, K10, K11, K12_use, K12_forward, K13_statement, K13_module, K14}

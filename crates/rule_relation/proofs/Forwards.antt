@@ -4,9 +4,9 @@ use mathlib.Core.Path.{◌≡◌, refl}
 use native.Mathlib.Omega.{arith}
 use borrow.Author.Tests.{eqb-false}
 use lib.Dec.{eqb, eqb-suc-zero}
-use Rattle.graph.specs.Check.{Graph}
-use Rattle.facts.specs.declared.Fact.{Fact}
-use Rattle.facts.specs.Facts.{forward_fact}
+use Rattle.determine_side_effects.specs.graph_crate.Check.{Graph}
+use Rattle.determine_side_effects.specs.facts_crate.declared.Fact.{Fact}
+use Rattle.determine_side_effects.specs.facts_crate.Facts.{forward_fact}
 use Rattle.keep_rules.specs.Rules.{forwards, forward_candidate}
 use Rattle.rule_relation.specs.Relation.{Along, itself, chained}
 use Rattle.rule_relation.proofs.Listing.{Only, only_fact, only_if, Picks}

@@ -9,8 +9,8 @@ use native.Mathlib.Omega.{arith}
 use borrow.Author.Tests.{eqb-false}
 use lib.Dec.{eqb, eqb-suc-zero}
 use lib.ListN.{length, get_or}
-use Rattle.facts.specs.declared.Fact.{Fact}
-use Rattle.facts.specs.Facts.{module_fact}
+use Rattle.determine_side_effects.specs.facts_crate.declared.Fact.{Fact}
+use Rattle.determine_side_effects.specs.facts_crate.Facts.{module_fact}
 use Rattle.keep_rules.specs.declared.Candidate.{Candidate}
 use Rattle.keep_rules.specs.declared.Candidate.TheVariants.{Gives, Nothing}
 use Rattle.keep_rules.specs.Rules.{Segment, when, Given, picked, given_by}

@@ -7,10 +7,10 @@ use mathlib.Core.List.{List, []}
 use native.Mathlib.Omega.{arith}
 use lib.Dec.{eqb, ltb}
 use lib.ListN.{length, get_or}
-use Rattle.graph.specs.Check.{Graph}
-use Rattle.graph_access.specs.Names.{exports, module_type, flags, dependencies, named_imports, common_js_export_symbols, only}
-use Rattle.graph_access.specs.Words.{flag, module_of, statement_list, normal, option}
-use Rattle.facts.specs.Facts.{module_fact, statement_fact, checked_fact}
+use Rattle.determine_side_effects.specs.graph_crate.Check.{Graph}
+use Rattle.determine_side_effects.specs.graph_access_crate.Names.{exports, module_type, flags, dependencies, named_imports, common_js_export_symbols, only}
+use Rattle.determine_side_effects.specs.graph_access_crate.Words.{flag, module_of, statement_list, normal, option}
+use Rattle.determine_side_effects.specs.facts_crate.Facts.{module_fact, statement_fact, checked_fact}
 use Rattle.determine_side_effects.specs.Effects.{has_effects}
 use Rattle.on_demand.specs.Demand.{on_demand, gated}
 use Rattle.keep_rules.specs.Rules.{quiet_runtime, has_eval, effect_bit, swept_shaken, swept_whole, swept, sweep_candidate, dependency, dependency_candidate, eval_candidates, eval_candidate, export_symbol_candidate, dev_namespace, dev_candidate, module_segments}

@@ -7,11 +7,11 @@ use native.Mathlib.Omega.{arith}
 use borrow.Author.Tests.{eqb-true, eqb-false, eq-eqb, ne_eqb, ltb-true, lt-ltb, le-ltb}
 use lib.Dec.{eqb, ltb}
 use lib.ListN.{length, get_or}
-use Rattle.graph.specs.Check.{Graph}
-use Rattle.graph_access.specs.Names.{exports, module_type, flags, reexport_count, enum_members, import_record_target, import_record_kind, import_record_bits, enum_name, enum_member, owner, symbol_name, statement_import_records, references, reference_kind, reference_symbol, reference_flag, property_count, first_property, depended_on}
-use Rattle.graph_access.specs.Words.{flag, module_of, symbol_of, statement_of, normal}
-use Rattle.facts.specs.declared.Fact.{Fact}
-use Rattle.facts.specs.Facts.{statement_fact, use_fact, checked_fact, forward_fact, bailout_fact}
+use Rattle.determine_side_effects.specs.graph_crate.Check.{Graph}
+use Rattle.determine_side_effects.specs.graph_access_crate.Names.{exports, module_type, flags, reexport_count, enum_members, import_record_target, import_record_kind, import_record_bits, enum_name, enum_member, owner, symbol_name, statement_import_records, references, reference_kind, reference_symbol, reference_flag, property_count, first_property, depended_on}
+use Rattle.determine_side_effects.specs.graph_access_crate.Words.{flag, module_of, symbol_of, statement_of, normal}
+use Rattle.determine_side_effects.specs.facts_crate.declared.Fact.{Fact}
+use Rattle.determine_side_effects.specs.facts_crate.Facts.{statement_fact, use_fact, checked_fact, forward_fact, bailout_fact}
 use Rattle.determine_side_effects.specs.Effects.{has_effects}
 use Rattle.keep_rules.specs.Rules.{bails_out, import_record_of, import_record_candidate, reason_of, inlined, forwards, forward_candidate, plain_candidate, resolved_candidate, reference_candidates, reference_candidate, reference_segment, statement_segments}
 use Rattle.rule_relation.specs.Relation.{BailsOut, record_at, reference_at, Reasoned, Inlined, Plain, Along, Gives, bits_at, root_symbol}

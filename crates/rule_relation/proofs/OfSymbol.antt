@@ -7,11 +7,11 @@ use native.Mathlib.Omega.{arith}
 use borrow.Author.Tests.{eqb-true, eqb-false, ne_eqb, ltb-true, lt-ltb, le-ltb}
 use lib.Dec.{eqb, ltb, eqb-suc-zero}
 use lib.ListN.{length, get_or}
-use Rattle.graph.specs.Check.{Graph}
-use Rattle.graph_access.specs.Names.{wrap, wrapper, namespace, resolved_exports, only, owner, alias_namespace, alias_name, constant_bits, declaring_statements, written_property_statements}
-use Rattle.graph_access.specs.Words.{flag, module_of, symbol_of, statement_list, normal, option}
-use Rattle.facts.specs.declared.Fact.{Fact}
-use Rattle.facts.specs.Facts.{module_fact, statement_fact, use_fact, checked_fact, forward_fact, bailout_fact}
+use Rattle.determine_side_effects.specs.graph_crate.Check.{Graph}
+use Rattle.determine_side_effects.specs.graph_access_crate.Names.{wrap, wrapper, namespace, resolved_exports, only, owner, alias_namespace, alias_name, constant_bits, declaring_statements, written_property_statements}
+use Rattle.determine_side_effects.specs.graph_access_crate.Words.{flag, module_of, symbol_of, statement_list, normal, option}
+use Rattle.determine_side_effects.specs.facts_crate.declared.Fact.{Fact}
+use Rattle.determine_side_effects.specs.facts_crate.Facts.{module_fact, statement_fact, use_fact, checked_fact, forward_fact, bailout_fact}
 use Rattle.on_demand.specs.Demand.{gated, body_of}
 use Rattle.linking_metadata.specs.Namespaces.{common_js_of, is_namespace, target_of}
 use Rattle.keep_rules.specs.Rules.{segment, forwards, bailout_candidate, default_alias, checked_candidate, bypassed, demanded, demand_candidates, demand_candidate, export_of, export_candidate, alias_candidate, needs_wrapper, wrapper_candidates, wrapper_candidate, declaration_candidates, declaration_candidate, write_candidates, write_candidate, use_segments}

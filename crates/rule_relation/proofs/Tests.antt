@@ -7,7 +7,7 @@ use mathlib.Core.List.{List}
 use borrow.Author.Tests.{eqb-true, ltb-true, lt-ltb, eq-eqb}
 use lib.Dec.{eqb, ltb}
 use lib.ListN.{length, get_or}
-use Rattle.graph_access.specs.Words.{some}
+use Rattle.determine_side_effects.specs.graph_access_crate.Words.{some}
 use Rattle.determine_side_effects.proofs.Lists.{both, either, some_found, some_holds}
 
 pub record Says (b : Bool) (A : Type 0) : Type 0 where

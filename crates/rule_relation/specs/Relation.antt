@@ -3,11 +3,11 @@
 -- this for every fact but an external module, which is never kept (`GivesExactly` in Same.antt). Where the Rust asks whether the module of a statement
 -- is normal (000:508, 000:1028) nothing is asked here: in an accepted graph an external module has no statement, and its symbols are declared by none.
 use Rattle.std.specs.Prelude.{ℕ, suc, ◌+◌, ◌<◌, ◌≤◌, ◌≡◌, Bool, true, false, List, [], length, get_or}
-use Rattle.graph.specs.Check.{Graph}
-use Rattle.graph_access.specs.Names.{exports, module_type, flags, wrap, wrapper, namespace, reexport_count, import_records, dependencies, named_imports, common_js_export_symbols, resolved_exports, enum_members, only, import_record_target, import_record_kind, import_record_bits, enum_name, enum_member, owner, symbol_name, alias_namespace, alias_name, constant_bits, export_chain, declaring_statements, written_property_statements, statement_bits, statement_import_records, references, reference_kind, reference_symbol, reference_flag, property_count, first_property, depended_on}
-use Rattle.graph_access.specs.Words.{root_of, flag, module_of, symbol_of, statement_list, statement_of, normal, option}
-use Rattle.facts.specs.declared.Fact.{Fact}
-use Rattle.facts.specs.Facts.{module_fact, statement_fact, use_fact, checked_fact, forward_fact, bailout_fact}
+use Rattle.determine_side_effects.specs.graph_crate.Check.{Graph}
+use Rattle.determine_side_effects.specs.graph_access_crate.Names.{exports, module_type, flags, wrap, wrapper, namespace, reexport_count, import_records, dependencies, named_imports, common_js_export_symbols, resolved_exports, enum_members, only, import_record_target, import_record_kind, import_record_bits, enum_name, enum_member, owner, symbol_name, alias_namespace, alias_name, constant_bits, export_chain, declaring_statements, written_property_statements, statement_bits, statement_import_records, references, reference_kind, reference_symbol, reference_flag, property_count, first_property, depended_on}
+use Rattle.determine_side_effects.specs.graph_access_crate.Words.{root_of, flag, module_of, symbol_of, statement_list, statement_of, normal, option}
+use Rattle.determine_side_effects.specs.facts_crate.declared.Fact.{Fact}
+use Rattle.determine_side_effects.specs.facts_crate.Facts.{module_fact, statement_fact, use_fact, checked_fact, forward_fact, bailout_fact}
 use Rattle.determine_side_effects.specs.Effects.{has_effects}
 use Rattle.on_demand.specs.Demand.{on_demand, gated, body_of}
 use Rattle.linking_metadata.specs.Namespaces.{common_js_of, target_of}

@@ -3,12 +3,12 @@ use Prim.Native.Nat.{ℕ, ◌<◌, ◌≤◌}
 use mathlib.Core.Path.{◌≡◌, ◌∙◌}
 use mathlib.Core.List.{List}
 use native.Mathlib.Omega.{arith}
-use Rattle.tables.specs.Layout.{start_of, verdicts_in, on_demand_in, bodies_in, namespaces_in, first_bytes_in, Laid, Kept, all_sections}
-use Rattle.tables.proofs.Sections.{laid_less, laid_kept, section_kept}
-use Rattle.graph_tables.specs.Tables.{header_in}
-use Rattle.graph.specs.Check.{graph_in}
-use Rattle.graph.specs.Loaded.{Loaded}
-use Rattle.graph.proofs.Kept.{loaded_kept}
+use Rattle.determine_side_effects.specs.tables_crate.Layout.{start_of, verdicts_in, on_demand_in, bodies_in, namespaces_in, first_bytes_in, Laid, Kept, all_sections}
+use Rattle.determine_side_effects.proofs.tables_crate.Sections.{laid_less, laid_kept, section_kept}
+use Rattle.determine_side_effects.specs.graph_tables_crate.Tables.{header_in}
+use Rattle.determine_side_effects.specs.graph_crate.Check.{graph_in}
+use Rattle.determine_side_effects.specs.graph_crate.Loaded.{Loaded}
+use Rattle.determine_side_effects.proofs.graph_crate.Kept.{loaded_kept}
 use Rattle.determine_side_effects.specs.Effects.{last_verdicts}
 use Rattle.determine_side_effects.specs.Tabled.{Settled}
 use Rattle.on_demand.specs.Tabled.{DemandTable, KeyTable, Demands, Keyed}

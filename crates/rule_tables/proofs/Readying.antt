@@ -4,17 +4,17 @@ use mathlib.Core.Path.{◌≡◌, refl, ap, ◌∙◌, sym}
 use mathlib.Core.List.{List}
 use native.Mathlib.Omega.{arith}
 use lib.ListN.{length}
-use Rattle.rows.specs.Walk.{Parsed, got, fault}
-use Rattle.tables.specs.Layout.{start_of, Laid, at_verdicts, all_sections}
-use Rattle.tables.proofs.Sections.{start_mono, laid_more}
-use Rattle.graph_format.specs.declared.Header.{Header}
-use Rattle.graph_tables.specs.Tables.{header_in}
-use Rattle.graph.specs.declared.Checked.TheVariants.{Accepted, Refused}
-use Rattle.graph.specs.Check.{Graph, graph_in, check_of, answer_of}
-use Rattle.graph.specs.Loaded.{Loaded}
-use Rattle.graph.proofs.Checking.{once_refused}
-use Rattle.graph.proofs.WellFormed.{accepted_is}
-use Rattle.facts.specs.Facts.{mark_count}
+use Rattle.determine_side_effects.specs.rows_crate.Walk.{Parsed, got, fault}
+use Rattle.determine_side_effects.specs.tables_crate.Layout.{start_of, Laid, at_verdicts, all_sections}
+use Rattle.determine_side_effects.proofs.tables_crate.Sections.{start_mono, laid_more}
+use Rattle.determine_side_effects.specs.graph_format_crate.declared.Header.{Header}
+use Rattle.determine_side_effects.specs.graph_tables_crate.Tables.{header_in}
+use Rattle.determine_side_effects.specs.graph_crate.declared.Checked.TheVariants.{Accepted, Refused}
+use Rattle.determine_side_effects.specs.graph_crate.Check.{Graph, graph_in, check_of, answer_of}
+use Rattle.determine_side_effects.specs.graph_crate.Loaded.{Loaded}
+use Rattle.determine_side_effects.proofs.graph_crate.Checking.{once_refused}
+use Rattle.determine_side_effects.proofs.graph_crate.WellFormed.{accepted_is}
+use Rattle.determine_side_effects.specs.facts_crate.Facts.{mark_count}
 
 -- the tables of a graph that is loaded, by all sections
 pub all_laid : (numbers tables : List ℕ) (h : Header) (n : ℕ) → h ≡ header_in numbers → Loaded numbers tables → length tables ≡ n → start_of h all_sections ≤ n → Laid (header_in numbers) all_sections tables

@@ -1,14 +1,14 @@
 // The sections behind the places: what the rules and the answer rows read. And getting ready for an operation: the check and all sections.
 ghost use Rattle.std.specs.Prelude.{◌≡◌, ◌<◌, ◌≤◌, length};
-ghost use Rattle.tables.specs.Layout.{start_of, Laid, all_sections};
-ghost use Rattle.graph_tables.specs.Tables.{header_in};
-ghost use Rattle.graph.specs.Check.{check_of, answer_of, HeaderRead, OnceAccepted};
-ghost use Rattle.graph.specs.Loaded.{Loaded};
+ghost use Rattle.determine_side_effects.specs.tables_crate.Layout.{start_of, Laid, all_sections};
+ghost use Rattle.determine_side_effects.specs.graph_tables_crate.Tables.{header_in};
+ghost use Rattle.determine_side_effects.specs.graph_crate.Check.{check_of, answer_of, HeaderRead, OnceAccepted};
+ghost use Rattle.determine_side_effects.specs.graph_crate.Loaded.{Loaded};
 ghost use Rattle.keep_rules.specs.Prepared.{Prepared};
 ghost use Rattle.answer_rows.specs.Tabled.{FirstBytes};
 
-use graph::Checked;
-use graph_format::Header;
+use determine_side_effects::graph_crate::Checked;
+use determine_side_effects::graph_format_crate::Header;
 
 // Fills them: the last verdicts, the modules on demand, the keys of their bodies, the CommonJS namespaces, the modules' first bytes.
 fn fill(numbers: &[u32], tables: &mut [usize])
@@ -29,7 +29,7 @@ pub fn ready(numbers: &[u32], h: Header, tables: &mut [usize]) -> Checked
     requires all_sections_in_bounds { (start_of h all_sections ≤ length tables.old) × (length tables.old < 4294967296) }
     ensures { (result ≡ answer_of (check_of numbers.now)) × OnceAccepted result (Prepared numbers.now tables.new × FirstBytes numbers.now tables.new) }
 {
-    match graph::load(numbers, h, tables) {
+    match determine_side_effects::graph_crate::load(numbers, h, tables) {
         Checked::Refused(n, p) => Checked::Refused(n, p),
         Checked::Accepted => {
             fill(numbers, tables);

@@ -1,14 +1,14 @@
 // The run: a graph and lent rows in; a keep record and the answer rows out. Here is which tables it takes, and the run with the small ones.
 ghost use Rattle.std.specs.Prelude.{◌≡◌};
-ghost use Rattle.tables.specs.Layout.{FitsSize};
-ghost use Rattle.tables.specs.declared.Size.TheVariants.{Small};
+ghost use Rattle.graph.specs.tables_crate.Layout.{FitsSize};
+ghost use Rattle.graph.specs.tables_crate.declared.Size.TheVariants.{Small};
 ghost use Rattle.graph.specs.Check.{HeaderRead};
 ghost use Rattle.run_parts.specs.Operation.{rows as rows_of, Runs};
 
-use graph_format::Header;
-use rows::Walk;
+use graph::graph_format_crate::Header;
+use graph::rows_crate::Walk;
 use run_parts::Ran;
-use tables::{SMALL, Size};
+use graph::tables_crate::{SMALL, Size};
 
 // The run with tables for a small graph.
 fn run_small(
@@ -73,7 +73,7 @@ pub fn run(
         Walk::Fault(n, p) => Ran::Refused(n, p),
         Walk::At(_) => {
             let h = graph::header_of(numbers);
-            if tables::fits(h, Size::Small) {
+            if graph::tables_crate::fits(h, Size::Small) {
                 return run_small(
                     numbers,
                     h,

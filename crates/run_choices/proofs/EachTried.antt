@@ -8,9 +8,9 @@ use native.Mathlib.Omega.{arith}
 use borrow.Author.Tests.{eq-eqb}
 use lib.Dec.{eqb}
 use lib.ListN.{length}
-use Rattle.graph.specs.Check.{Graph, graph_in}
-use Rattle.graph.specs.Loaded.{Loaded}
-use Rattle.facts.specs.declared.Fact.{Fact}
+use Rattle.determine_side_effects.specs.graph_crate.Check.{Graph, graph_in}
+use Rattle.determine_side_effects.specs.graph_crate.Loaded.{Loaded}
+use Rattle.determine_side_effects.specs.facts_crate.declared.Fact.{Fact}
 use Rattle.entry_order.specs.Order.{module_of_entry, is_dynamic}
 use Rattle.entry_starts.specs.Starts.{module_starts}
 use Rattle.cycles.proofs.Members.{In, in_none, in_cases, never_both}

@@ -8,19 +8,19 @@ use native.Mathlib.Omega.{arith}
 use borrow.Author.Tests.{eqb-true, ltb-true}
 use lib.Dec.{eqb, ltb}
 use lib.ListN.{length, get_or, get_or-eq_default}
-use Rattle.rows.specs.Walk.{Item, no_item}
-use Rattle.graph_format.specs.Format as format
-use Rattle.graph_tables.specs.Tables.{header_in, modules_in}
-use Rattle.graph_tables.proofs.Facts.{modules_long}
-use Rattle.graph.specs.Check.{Graph, graph_in, runtime_normal}
-use Rattle.graph.specs.Loaded.{Loaded}
-use Rattle.graph.proofs.WellFormed.{runtime_is_normal}
-use Rattle.graph_access.specs.Names.{kind, owner, declaring_statements, entry_references, resolved_exports, export_symbol, export_from_common_js, only}
-use Rattle.graph_access.specs.Words.{flag, tabulate, module_of, symbol_of, normal}
-use Rattle.graph_access.proofs.Indexes as index
-use Rattle.facts.specs.declared.Fact.{Fact}
-use Rattle.facts.specs.declared.Fact.TheVariants.{Module, Statement, Use, CheckedUse, Forward, Bailout}
-use Rattle.facts.specs.Facts.{module_fact, statement_fact, use_fact, checked_fact, bailout_fact, Good}
+use Rattle.determine_side_effects.specs.rows_crate.Walk.{Item, no_item}
+use Rattle.determine_side_effects.specs.graph_format_crate.Format as format
+use Rattle.determine_side_effects.specs.graph_tables_crate.Tables.{header_in, modules_in}
+use Rattle.determine_side_effects.proofs.graph_tables_crate.Facts.{modules_long}
+use Rattle.determine_side_effects.specs.graph_crate.Check.{Graph, graph_in, runtime_normal}
+use Rattle.determine_side_effects.specs.graph_crate.Loaded.{Loaded}
+use Rattle.determine_side_effects.proofs.graph_crate.WellFormed.{runtime_is_normal}
+use Rattle.determine_side_effects.specs.graph_access_crate.Names.{kind, owner, declaring_statements, entry_references, resolved_exports, export_symbol, export_from_common_js, only}
+use Rattle.determine_side_effects.specs.graph_access_crate.Words.{flag, tabulate, module_of, symbol_of, normal}
+use Rattle.determine_side_effects.proofs.graph_access_crate.Indexes as index
+use Rattle.determine_side_effects.specs.facts_crate.declared.Fact.{Fact}
+use Rattle.determine_side_effects.specs.facts_crate.declared.Fact.TheVariants.{Module, Statement, Use, CheckedUse, Forward, Bailout}
+use Rattle.determine_side_effects.specs.facts_crate.Facts.{module_fact, statement_fact, use_fact, checked_fact, bailout_fact, Good}
 use Rattle.determine_side_effects.specs.Effects.{has_effects}
 use Rattle.keep_record.specs.declared.Line.{Line}
 use Rattle.entry_order.specs.Order.{those, module_of_entry}

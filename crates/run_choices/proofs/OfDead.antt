@@ -9,14 +9,14 @@ use lib.Dec.{eqb}
 use lib.ListN.{get_or, drop}
 use Rattle.bit_row.specs.Row.{bit_at, bytes_for}
 use Rattle.bit_row.proofs.Size.{bytes_hold}
-use Rattle.graph.specs.declared.Checked.TheVariants.{Accepted}
-use Rattle.graph_tables.specs.Tables.{header_in}
-use Rattle.graph.specs.Check.{Graph, graph_in, check_of, answer_of}
-use Rattle.graph_access.specs.Names.{related, related_module, related_statement, unreachable}
-use Rattle.graph_access.specs.Words.{some, tabulate, option, entry_of}
-use Rattle.graph_access.proofs.Indexes.{related_here}
-use Rattle.facts.specs.declared.Fact.{Fact}
-use Rattle.facts.specs.Facts.{statement_fact, Good}
+use Rattle.determine_side_effects.specs.graph_crate.declared.Checked.TheVariants.{Accepted}
+use Rattle.determine_side_effects.specs.graph_tables_crate.Tables.{header_in}
+use Rattle.determine_side_effects.specs.graph_crate.Check.{Graph, graph_in, check_of, answer_of}
+use Rattle.determine_side_effects.specs.graph_access_crate.Names.{related, related_module, related_statement, unreachable}
+use Rattle.determine_side_effects.specs.graph_access_crate.Words.{some, tabulate, option, entry_of}
+use Rattle.determine_side_effects.proofs.graph_access_crate.Indexes.{related_here}
+use Rattle.determine_side_effects.specs.facts_crate.declared.Fact.{Fact}
+use Rattle.determine_side_effects.specs.facts_crate.Facts.{statement_fact, Good}
 use Rattle.determine_side_effects.specs.Effects.{last_verdicts}
 use Rattle.determine_side_effects.proofs.Lists.{both, some_found, some_holds, length-tabulate, get_d_tabulate}
 use Rattle.keep_record.specs.declared.Line.{Line}

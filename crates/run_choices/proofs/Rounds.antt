@@ -5,7 +5,7 @@ use mathlib.Core.Bool.{Bool, true, false}
 use mathlib.Core.List.{List}
 use native.Mathlib.Omega.{arith}
 use lib.ListN.{length}
-use Rattle.graph.specs.Check.{Graph}
+use Rattle.determine_side_effects.specs.graph_crate.Check.{Graph}
 use Rattle.dynamic_entries.specs.Tries.{Progress}
 use Rattle.tree_shaking.specs.Rounds.{round, goes_on, rounds_fuel, Ended, ended_at, rounds_from, begun, main_part}
 

@@ -11,16 +11,16 @@ use borrow.Author.Tests.{eqb-true}
 use lib.Dec.{eqb}
 use lib.ListN.{length, get_or, drop, get_or-append}
 use Rattle.bit_row.specs.Row.{bit_at, bit_of, bytes_for}
-use Rattle.graph.specs.declared.Checked.TheVariants.{Accepted}
-use Rattle.graph_tables.specs.Tables.{header_in}
-use Rattle.graph.specs.Check.{Graph, graph_in, check_of, answer_of}
-use Rattle.graph.specs.Loaded.{Loaded}
-use Rattle.graph_access.specs.Names.{related, related_module, related_import_record, unreachable}
-use Rattle.graph_access.specs.Words.{entry_of, option, tabulate}
-use Rattle.graph_access.proofs.Indexes.{related_here}
-use Rattle.facts.specs.declared.Fact.{Fact}
-use Rattle.facts.specs.Facts.{Good, mark_of, mark_count}
-use Rattle.facts.proofs.Marks.{mark_below}
+use Rattle.determine_side_effects.specs.graph_crate.declared.Checked.TheVariants.{Accepted}
+use Rattle.determine_side_effects.specs.graph_tables_crate.Tables.{header_in}
+use Rattle.determine_side_effects.specs.graph_crate.Check.{Graph, graph_in, check_of, answer_of}
+use Rattle.determine_side_effects.specs.graph_crate.Loaded.{Loaded}
+use Rattle.determine_side_effects.specs.graph_access_crate.Names.{related, related_module, related_import_record, unreachable}
+use Rattle.determine_side_effects.specs.graph_access_crate.Words.{entry_of, option, tabulate}
+use Rattle.determine_side_effects.proofs.graph_access_crate.Indexes.{related_here}
+use Rattle.determine_side_effects.specs.facts_crate.declared.Fact.{Fact}
+use Rattle.determine_side_effects.specs.facts_crate.Facts.{Good, mark_of, mark_count}
+use Rattle.determine_side_effects.proofs.facts_crate.Marks.{mark_below}
 use Rattle.determine_side_effects.specs.Effects.{last_verdicts}
 use Rattle.determine_side_effects.proofs.Lists.{both, either, some_found}
 use Rattle.linking_metadata.specs.Namespaces.{target_of}

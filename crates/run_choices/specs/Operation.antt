@@ -2,10 +2,10 @@
 -- `run_enough` and `run_spares` in proofs/OfRuns.antt.
 use Rattle.std.specs.Prelude.{ℕ, ◌+◌, ◌*◌, ◌<◌, ◌≤◌, ◌≡◌, ◌↔◌, true, false, List}
 use Rattle.bit_row.specs.Row.{bit_at, bytes_for}
-use Rattle.graph.specs.declared.Checked.TheVariants.{Accepted}
-use Rattle.graph.specs.Check.{Graph, graph_in, check_of, answer_of}
-use Rattle.graph_access.specs.Words.{option}
-use Rattle.facts.specs.Facts.{mark_count}
+use Rattle.determine_side_effects.specs.graph_crate.declared.Checked.TheVariants.{Accepted}
+use Rattle.determine_side_effects.specs.graph_crate.Check.{Graph, graph_in, check_of, answer_of}
+use Rattle.determine_side_effects.specs.graph_access_crate.Words.{option}
+use Rattle.determine_side_effects.specs.facts_crate.Facts.{mark_count}
 use Rattle.determine_side_effects.specs.Effects.{last_verdicts}
 use Rattle.starts.specs.Starts.{StartsGood}
 use Rattle.entry_graph.specs.Ordering.{entry_graph}

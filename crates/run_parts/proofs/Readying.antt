@@ -7,10 +7,10 @@ use native.Mathlib.Omega.{arith}
 use borrow.Author.Tests.{lt-leb, le-leb}
 use lib.Dec.{leb}
 use Rattle.bit_row.specs.Row.{bytes_for}
-use Rattle.graph.specs.declared.Checked.TheVariants.{Accepted, Refused}
-use Rattle.graph.specs.Check.{Graph, graph_in, check_of, answer_of}
-use Rattle.graph.proofs.Checking.{once_refused}
-use Rattle.facts.specs.Facts.{mark_count}
+use Rattle.determine_side_effects.specs.graph_crate.declared.Checked.TheVariants.{Accepted, Refused}
+use Rattle.determine_side_effects.specs.graph_crate.Check.{Graph, graph_in, check_of, answer_of}
+use Rattle.determine_side_effects.proofs.graph_crate.Checking.{once_refused}
+use Rattle.determine_side_effects.specs.facts_crate.Facts.{mark_count}
 use Rattle.keep_rules.specs.Prepared.{Prepared}
 use Rattle.answer_rows.specs.declared.Lengths.{Lengths as SixLengths}
 use Rattle.answer_rows.specs.Shown.{rows_enough}

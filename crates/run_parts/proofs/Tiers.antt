@@ -3,8 +3,8 @@ use Prim.Native.Nat.{ℕ, ◌+◌, ◌*◌, ◌<◌, ◌≤◌}
 use mathlib.Core.Path.{◌≡◌}
 use native.Mathlib.Omega.{arith}
 use lib.ListN.{length, get_or, replicate, length-replicate}
-use Rattle.tables.proofs.Zeros.{zeros_everywhere}
-use Rattle.graph_format.specs.declared.Header.{Header}
+use Rattle.determine_side_effects.proofs.tables_crate.Zeros.{zeros_everywhere}
+use Rattle.determine_side_effects.specs.graph_format_crate.declared.Header.{Header}
 use Rattle.entry_order.specs.Plan.{plan_size}
 use Rattle.run_parts.specs.Parts.{ScratchFits}
 

@@ -1,10 +1,10 @@
 -- What the parts of the run's code take and leave.
 use Rattle.std.specs.Prelude.{ℕ, ◌+◌, ◌*◌, ◌<◌, ◌≤◌, ◌≡◌, Bool, true, List, length, get_or, replicate}
 use Rattle.bit_row.specs.Row.{bytes_for}
-use Rattle.graph_format.specs.declared.Header.{Header}
-use Rattle.graph.specs.declared.Checked.{Checked}
-use Rattle.graph.specs.declared.Checked.TheVariants.{Accepted, Refused}
-use Rattle.graph.specs.Check.{Graph, graph_in}
+use Rattle.determine_side_effects.specs.graph_format_crate.declared.Header.{Header}
+use Rattle.determine_side_effects.specs.graph_crate.declared.Checked.{Checked}
+use Rattle.determine_side_effects.specs.graph_crate.declared.Checked.TheVariants.{Accepted, Refused}
+use Rattle.determine_side_effects.specs.graph_crate.Check.{Graph, graph_in}
 use Rattle.keep_rules.specs.Prepared.{Prepared}
 use Rattle.keep_record.specs.declared.Line.{Line}
 use Rattle.keep_record.specs.Lines.{has}

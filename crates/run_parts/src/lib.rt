@@ -2,11 +2,11 @@
 // Whether it may begin is told from the lengths of the lent rows, without the rows. No answer row is written before the last refusal is excluded.
 ghost use Rattle.std.specs.Prelude.{◌≡◌, ℕ, ◌-◌, ◌<◌, ◌≤◌, length, get_or};
 ghost use Rattle.bit_row.specs.Row.{bytes_for};
-ghost use Rattle.tables.specs.Layout.{start_of, all_sections};
-ghost use Rattle.graph_tables.specs.Tables.{header_in};
-ghost use Rattle.graph.specs.Check.{graph_in, HeaderRead};
-ghost use Rattle.graph.specs.Loaded.{Loaded};
-ghost use Rattle.facts.specs.Facts.{mark_count};
+ghost use Rattle.determine_side_effects.specs.tables_crate.Layout.{start_of, all_sections};
+ghost use Rattle.determine_side_effects.specs.graph_tables_crate.Tables.{header_in};
+ghost use Rattle.determine_side_effects.specs.graph_crate.Check.{graph_in, HeaderRead};
+ghost use Rattle.determine_side_effects.specs.graph_crate.Loaded.{Loaded};
+ghost use Rattle.determine_side_effects.specs.facts_crate.Facts.{mark_count};
 ghost use Rattle.keep_rules.specs.Prepared.{Prepared};
 ghost use Rattle.worklist.specs.Links.{partners_size};
 ghost use Rattle.answer_rows.specs.Tabled.{FirstBytes};
@@ -15,8 +15,8 @@ ghost use Rattle.entry_starts.specs.Working.{Working};
 ghost use Rattle.run_parts.specs.Operation.{rows as rows_of, enough, Runs};
 ghost use Rattle.run_parts.specs.Parts.{room_for, MayBegin, StagesEnd, WorkEnds, Shows, ScratchFits, RowsFit, RunShown};
 
-use graph::Checked;
-use graph_format::Header;
+use determine_side_effects::graph_crate::Checked;
+use determine_side_effects::graph_format_crate::Header;
 use keep_record::Added;
 use tree_shaking::{Reached, Work};
 
@@ -63,8 +63,8 @@ fn are_enough(numbers: &[u32], tables: &[usize], l: Lengths) -> bool
     requires { Loaded numbers.now tables.now × FirstBytes numbers.now tables.now }
     ensures { (lines : ℕ) → result ≡ enough (graph_in numbers.now) (room_for lines l) }
 {
-    let h = graph::header_of(numbers);
-    if l.marks < bit_row::bytes_for(facts::mark_count(numbers, tables)) {
+    let h = determine_side_effects::graph_crate::header_of(numbers);
+    if l.marks < bit_row::bytes_for(determine_side_effects::facts_crate::mark_count(numbers, tables)) {
         return false;
     }
     let six = answer_rows::Lengths {

@@ -10,11 +10,11 @@ use borrow.Author.Tests.{lt-ltb, le-ltb}
 use lib.Dec.{eqb, ltb}
 use lib.ListN.{length, get_or, set, take, drop, length-set, drop_of_length-le}
 use lib.Seq.{drop-cons, get_or-take, get_or-set_same, get_or-set_other, length-take-le, take-suc-set}
-use Rattle.graph_format.specs.declared.Header.{Header}
-use Rattle.graph_tables.specs.Tables.{header_in}
-use Rattle.graph.specs.Check.{Graph, graph_in}
-use Rattle.graph_access.specs.Names.{entry_module}
-use Rattle.graph_access.specs.Words.{flag, option, entry_of}
+use Rattle.determine_side_effects.specs.graph_format_crate.declared.Header.{Header}
+use Rattle.determine_side_effects.specs.graph_tables_crate.Tables.{header_in}
+use Rattle.determine_side_effects.specs.graph_crate.Check.{Graph, graph_in}
+use Rattle.determine_side_effects.specs.graph_access_crate.Names.{entry_module}
+use Rattle.determine_side_effects.specs.graph_access_crate.Words.{flag, option, entry_of}
 use Rattle.entry_order.specs.Order.{those, grouped, module_of_entry, user_entries}
 use Rattle.entry_order.specs.Chains.{Entries}
 use Rattle.entry_order.specs.Plan.{is_set, live_in}

@@ -1,9 +1,9 @@
 // Answer rows that a run has beside those of a drain: helper words and final entries. Dead import records have a crate of their own.
 ghost use Rattle.std.specs.Prelude.{◌≡◌, ℕ, ◌+◌, ◌<◌, ◌≤◌, ◌||◌, ◌&&◌, ltb, ◌++◌, length, get_or, take, drop};
-ghost use Rattle.graph_tables.specs.Tables.{header_in};
-ghost use Rattle.graph.specs.Check.{graph_in};
-ghost use Rattle.graph.specs.Loaded.{Loaded};
-ghost use Rattle.graph_access.specs.Words.{tabulate};
+ghost use Rattle.determine_side_effects.specs.graph_tables_crate.Tables.{header_in};
+ghost use Rattle.determine_side_effects.specs.graph_crate.Check.{graph_in};
+ghost use Rattle.determine_side_effects.specs.graph_crate.Loaded.{Loaded};
+ghost use Rattle.determine_side_effects.specs.graph_access_crate.Words.{tabulate};
 ghost use Rattle.entry_order.specs.Order.{grouped, module_of_entry};
 ghost use Rattle.entry_order.specs.Chains.{Entries};
 ghost use Rattle.entry_order.specs.Plan.{live_in, words_at, plan_size};
@@ -11,8 +11,8 @@ ghost use Rattle.dynamic_entries.specs.Tries.{Planned};
 ghost use Rattle.tree_shaking.specs.Rounds.{final_entries};
 ghost use Rattle.run_rows.specs.Run.{entries_row};
 
-use graph_access::entries;
-use index::EntryIdx;
+use determine_side_effects::graph_access_crate::entries;
+use determine_side_effects::index_crate::EntryIdx;
 
 // The bit of the options that turns splitting off.
 const SPLITTING_OFF: usize = 5;
@@ -23,11 +23,11 @@ pub fn show_helpers(numbers: &[u32], plan: &[usize], words: &mut [u32])
     requires by_index { (m : ℕ) → m < (header_in numbers.now).modules → get_or plan.now (words_at (header_in numbers.now) + m) 0 < 4294967296 }
     ensures { words.new ≡ tabulate (λ m. get_or plan.now (words_at (header_in numbers.now) + m) 0) 0 (header_in numbers.now).modules ++ drop (header_in numbers.now).modules words.old }
 {
-    let h = graph::header_of(numbers);
+    let h = determine_side_effects::graph_crate::header_of(numbers);
     let at = entry_order::words_at(h);
     let mut m: usize = 0;
     while m < h.modules {
-        words[m] = facts::narrow(plan[at + m]);
+        words[m] = determine_side_effects::facts_crate::narrow(plan[at + m]);
         m += 1;
     }
 }
@@ -51,7 +51,7 @@ fn is_final(
     if !splits {
         return false;
     }
-    let h = graph::header_of(numbers);
+    let h = determine_side_effects::graph_crate::header_of(numbers);
     let m = entries::entry_module(numbers, tables, EntryIdx(plan[i]));
     let u = m.0;
     let live = entry_order::live_at(h);
@@ -65,8 +65,8 @@ fn keep_final(numbers: &[u32], tables: &[usize], plan: &mut [usize], users: usiz
     ensures plan_after { grouped (module_of_entry (graph_in numbers.now)) (take result plan.new) ≡ final_entries (graph_in numbers.now) (live_in (header_in numbers.now) plan.old) }
     ensures upper_bound { (result ≤ (header_in numbers.now).entries) × Entries (graph_in numbers.now) plan.new result }
 {
-    let h = graph::header_of(numbers);
-    let splits = !facts::flag(h.options, SPLITTING_OFF);
+    let h = determine_side_effects::graph_crate::header_of(numbers);
+    let splits = !determine_side_effects::facts_crate::flag(h.options, SPLITTING_OFF);
     let mut n: usize = 0;
     let mut i: usize = 0;
     while i < h.entries {

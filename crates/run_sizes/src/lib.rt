@@ -1,13 +1,13 @@
 // The run with tables for graphs of middle and large size and for the largest, in frames of their own (docs/DECISIONS.md, "Frames of their own").
 ghost use Rattle.std.specs.Prelude.{◌≡◌};
-ghost use Rattle.tables.specs.Layout.{FitsSize};
-ghost use Rattle.tables.specs.declared.Size.TheVariants.{Middle, Large, Largest};
+ghost use Rattle.graph.specs.tables_crate.Layout.{FitsSize};
+ghost use Rattle.graph.specs.tables_crate.declared.Size.TheVariants.{Middle, Large, Largest};
 ghost use Rattle.graph.specs.Check.{HeaderRead};
 ghost use Rattle.run_parts.specs.Operation.{rows as rows_of, Runs};
 
-use graph_format::Header;
+use graph::graph_format_crate::Header;
 use run_parts::Ran;
-use tables::{LARGE, LARGEST, MIDDLE, Size};
+use graph::tables_crate::{LARGE, LARGEST, MIDDLE, Size};
 
 // The run with tables for a graph of middle size.
 fn run_middle(
@@ -173,7 +173,7 @@ pub fn run_larger(
             again - 1,
         );
     }
-    if tables::fits(h, Size::Middle) {
+    if graph::tables_crate::fits(h, Size::Middle) {
         return run_middle(
             numbers,
             h,
@@ -190,7 +190,7 @@ pub fn run_larger(
             entries,
         );
     }
-    if tables::fits(h, Size::Large) {
+    if graph::tables_crate::fits(h, Size::Large) {
         return run_large(
             numbers,
             h,

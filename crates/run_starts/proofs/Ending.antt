@@ -6,10 +6,10 @@ use native.Mathlib.Omega.{arith}
 use borrow.Author.Tests.{lt-ltb, le-ltb, lt-leb, le-leb}
 use lib.ListN.{length, get_or, drop, replicate}
 use Rattle.bit_row.specs.Row.{bytes_for}
-use Rattle.graph_format.specs.declared.Header.{Header}
-use Rattle.graph_tables.specs.Tables.{header_in}
-use Rattle.graph.specs.declared.Checked.TheVariants.{Accepted, Refused as Rejected}
-use Rattle.graph.specs.Check.{Graph, graph_in, check_of, answer_of}
+use Rattle.facts.specs.graph_format_crate.declared.Header.{Header}
+use Rattle.facts.specs.graph_tables_crate.Tables.{header_in}
+use Rattle.facts.specs.graph_crate.declared.Checked.TheVariants.{Accepted, Refused as Rejected}
+use Rattle.facts.specs.graph_crate.Check.{Graph, graph_in, check_of, answer_of}
 use Rattle.facts.specs.Facts.{mark_count}
 use Rattle.keep_record.specs.Lines.{written, elem, marks_of, marks_from}
 use Rattle.keep_record.proofs.Rows.{lines-length}

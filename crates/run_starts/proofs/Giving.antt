@@ -7,7 +7,7 @@ use native.Mathlib.Omega.{arith}
 use lib.ListN.{length, take, drop, length-replicate}
 use Rattle.bit_row.specs.Row.{bit_at, cleared}
 use Rattle.bit_row.proofs.Cleared.{zeros_unset}
-use Rattle.graph.specs.Check.{Graph}
+use Rattle.facts.specs.graph_crate.Check.{Graph}
 use Rattle.facts.specs.declared.Fact.{Fact}
 use Rattle.facts.specs.Facts.{Good, mark_count}
 use Rattle.keep_record.specs.Lines.{elem}

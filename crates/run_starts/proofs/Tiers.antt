@@ -6,8 +6,8 @@ use native.Mathlib.Omega.{arith}
 use lib.ListN.{length, get_or, replicate, length-replicate}
 use Rattle.bit_row.specs.Row.{bit_at}
 use Rattle.bit_row.proofs.Cleared.{zeros_unset}
-use Rattle.tables.proofs.Zeros.{zeros_everywhere}
-use Rattle.graph_format.specs.declared.Header.{Header}
+use Rattle.facts.proofs.tables_crate.Zeros.{zeros_everywhere}
+use Rattle.facts.specs.graph_format_crate.declared.Header.{Header}
 
 -- zeros for its partners
 pub partners_long : (h : Header) (m y n : ℕ) → 3 * m + y ≤ n → h.modules ≤ m → h.symbols ≤ y

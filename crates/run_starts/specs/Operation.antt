@@ -2,8 +2,8 @@
 -- check, then 5 for marks, record or starts that are too short.
 use Rattle.std.specs.Prelude.{ℕ, ◌*◌, ◌-◌, ◌≡◌, Bool, true, false, List, ◌++◌, ltb, leb, length, take, drop, replicate}
 use Rattle.bit_row.specs.Row.{bytes_for}
-use Rattle.rows.specs.Walk.{Parsed, got, fault}
-use Rattle.graph.specs.Check.{Graph, check_of}
+use Rattle.facts.specs.rows_crate.Walk.{Parsed, got, fault}
+use Rattle.facts.specs.graph_crate.Check.{Graph, check_of}
 use Rattle.facts.specs.Facts.{mark_count}
 use Rattle.facts.specs.declared.Fact.{Fact}
 use Rattle.keep_record.specs.Lines.{written, elem, marks_of}

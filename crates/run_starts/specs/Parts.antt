@@ -1,6 +1,6 @@
 -- What the parts of the operation take and leave.
 use Rattle.std.specs.Prelude.{ℕ, ◌*◌, ◌<◌, ◌≤◌, ◌≡◌, List, ◌++◌, length, drop}
-use Rattle.graph.specs.Check.{Graph}
+use Rattle.facts.specs.graph_crate.Check.{Graph}
 use Rattle.facts.specs.Facts.{Good}
 use Rattle.keep_record.specs.Held.{line_at, lines_of}
 use Rattle.tree_shaking.specs.declared.Reached.{Reached}

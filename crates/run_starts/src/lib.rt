@@ -2,10 +2,10 @@
 // They cannot be read from the record: a start that was a fact already has no line of its own. They are worked out from what the main part leaves.
 ghost use Rattle.std.specs.Prelude.{◌≡◌, ℕ, ◌+◌, ◌*◌, ◌<◌, ◌≤◌, false, length, get_or};
 ghost use Rattle.bit_row.specs.Row.{bytes_for, bit_at};
-ghost use Rattle.tables.specs.Layout.{start_of, FitsSize, all_sections};
-ghost use Rattle.tables.specs.declared.Size.TheVariants.{Small, Middle, Large, Largest};
-ghost use Rattle.graph_tables.specs.Tables.{header_in};
-ghost use Rattle.graph.specs.Check.{graph_in, HeaderRead};
+ghost use Rattle.facts.specs.tables_crate.Layout.{start_of, FitsSize, all_sections};
+ghost use Rattle.facts.specs.tables_crate.declared.Size.TheVariants.{Small, Middle, Large, Largest};
+ghost use Rattle.facts.specs.graph_tables_crate.Tables.{header_in};
+ghost use Rattle.facts.specs.graph_crate.Check.{graph_in, HeaderRead};
 ghost use Rattle.facts.specs.Facts.{mark_count};
 ghost use Rattle.keep_rules.specs.Prepared.{Prepared};
 ghost use Rattle.worklist.specs.Links.{partners_size};
@@ -13,11 +13,11 @@ ghost use Rattle.entry_order.specs.Plan.{plan_size};
 ghost use Rattle.run_starts.specs.Operation.{rows as rows_of, worked, Ends, ReadsStarts};
 ghost use Rattle.run_starts.specs.Parts.{MainReached, Given};
 
-use graph::Checked;
-use graph_format::Header;
-use rows::Walk;
+use facts::graph_crate::Checked;
+use facts::graph_format_crate::Header;
+use facts::rows_crate::Walk;
 use run_parts::Part;
-use tables::{LARGE, LARGEST, MIDDLE, SMALL, Size};
+use facts::tables_crate::{LARGE, LARGEST, MIDDLE, SMALL, Size};
 use tree_shaking::{Reached, Work};
 
 // How many numbers the starts have, or a refusal's number and its place.
@@ -240,10 +240,10 @@ fn starts_larger(
     if again > 0 {
         return starts_larger(numbers, h, marks, lines, out, again - 1);
     }
-    if tables::fits(h, Size::Middle) {
+    if facts::tables_crate::fits(h, Size::Middle) {
         return starts_middle(numbers, h, marks, lines, out);
     }
-    if tables::fits(h, Size::Large) {
+    if facts::tables_crate::fits(h, Size::Large) {
         return starts_large(numbers, h, marks, lines, out);
     }
     starts_largest(numbers, h, marks, lines, out)
@@ -253,11 +253,11 @@ fn starts_larger(
 pub fn starts(numbers: &[u32], marks: &mut [u8], lines: &mut [u32], out: &mut [u32]) -> StartsRead
     ensures { ReadsStarts numbers.now result (rows_of marks.old lines.old out.old) (rows_of marks.new lines.new out.new) }
 {
-    match graph::header(numbers) {
+    match facts::graph_crate::header(numbers) {
         Walk::Fault(n, p) => StartsRead::Refused(n, p),
         Walk::At(_) => {
-            let h = graph::header_of(numbers);
-            if tables::fits(h, Size::Small) {
+            let h = facts::graph_crate::header_of(numbers);
+            if facts::tables_crate::fits(h, Size::Small) {
                 return starts_small(numbers, h, marks, lines, out);
             }
             starts_larger(numbers, h, marks, lines, out, frames::apart(numbers))

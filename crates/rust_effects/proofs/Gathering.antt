@@ -8,9 +8,9 @@ use native.Mathlib.Omega.{arith}
 use lib.Dec.{eqb}
 use lib.ListN.{get_or}
 use borrow.Author.Tests.{eqb-true, eqb-false, eq-eqb, ne_eqb}
-use Rattle.graph.specs.Check.{Graph}
-use Rattle.graph_access.specs.Names.{flags, wrap, import_records, import_record_target, import_record_kind, import_record_bits}
-use Rattle.graph_access.specs.Words.{flag, tabulate, module_of, normal}
+use Rattle.determine_side_effects.specs.graph_crate.Check.{Graph}
+use Rattle.determine_side_effects.specs.graph_access_crate.Names.{flags, wrap, import_records, import_record_target, import_record_kind, import_record_bits}
+use Rattle.determine_side_effects.specs.graph_access_crate.Words.{flag, tabulate, module_of, normal}
 use Rattle.determine_side_effects.specs.Effects.{effectful as has_effects, seeds}
 use Rattle.determine_side_effects.specs.Paths.{Quiet, Leads, «effects» as begins, seeded, imports}
 use Rattle.rust_values.specs.Values.{Pair, pair, optional, filter, In}

@@ -8,8 +8,8 @@ use native.Mathlib.Omega.{arith}
 use lib.Dec.{eqb}
 use lib.ListN.{length}
 use borrow.Author.Tests.{eqb-true, eqb-false}
-use Rattle.graph.specs.Check.{Graph}
-use Rattle.graph_access.specs.Words.{tabulate}
+use Rattle.determine_side_effects.specs.graph_crate.Check.{Graph}
+use Rattle.determine_side_effects.specs.graph_access_crate.Words.{tabulate}
 use Rattle.determine_side_effects.specs.Effects.{settle, last_verdicts}
 use Rattle.determine_side_effects.specs.Sequence.{given_verdicts}
 use Rattle.keep_record.specs.Lines.{elem}

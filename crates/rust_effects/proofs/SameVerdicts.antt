@@ -10,9 +10,9 @@ use lib.Dec.{eqb, ltb}
 use lib.Seq.{ext_get_or}
 use lib.ListN.{length, get_or, get_or-eq_default}
 use borrow.Author.Tests.{eqb-true, eq-eqb, ltb-true, ltb-false}
-use Rattle.graph.specs.Check.{Graph}
-use Rattle.graph_access.specs.Names.{effects, import_records}
-use Rattle.graph_access.specs.Words.{tabulate, module_of, normal}
+use Rattle.determine_side_effects.specs.graph_crate.Check.{Graph}
+use Rattle.determine_side_effects.specs.graph_access_crate.Names.{effects, import_records}
+use Rattle.determine_side_effects.specs.graph_access_crate.Words.{tabulate, module_of, normal}
 use Rattle.determine_side_effects.specs.Effects.{effectful as has_effects, settle, relaxed, rescanned, last_verdicts}
 use Rattle.determine_side_effects.specs.Paths.{Quiet, Leads, «effects» as begins, seeded, imports}
 use Rattle.determine_side_effects.specs.Sequence.{given_verdicts, recomputed_from, rust_verdicts}

@@ -2,9 +2,9 @@
 -- 1 Analyzed(true), 2 UserDefined(false), 3 UserDefined(true), 4 NoTreeshake. A `Vec<bool>` by module is the list of modules whose bit is set.
 -- Nothing here is taken from the definitions of the port: only the words of the decoded graph.
 use Rattle.std.specs.Prelude.{ℕ, zero, suc, ◌+◌, ◌≡◌, Bool, true, false, ◌&&◌, ◌||◌, List, [], ◌∷◌, ◌++◌, map, eqb, get_or, take}
-use Rattle.graph.specs.Check.{Graph}
-use Rattle.graph_access.specs.Names.{effects, flags, wrap, scan_effects, scan_statement_count, import_records, import_record_target, import_record_kind, import_record_bits, statement_bits}
-use Rattle.graph_access.specs.Words.{flag, some, tabulate, module_of, statement_list, normal}
+use Rattle.determine_side_effects.specs.graph_crate.Check.{Graph}
+use Rattle.determine_side_effects.specs.graph_access_crate.Names.{effects, flags, wrap, scan_effects, scan_statement_count, import_records, import_record_target, import_record_kind, import_record_bits, statement_bits}
+use Rattle.determine_side_effects.specs.graph_access_crate.Words.{flag, some, tabulate, module_of, statement_list, normal}
 use Rattle.keep_record.specs.Lines.{elem}
 use Rattle.rust_values.specs.Values.{Pair, pair, Found, none, found, optional, filter}
 

@@ -2,11 +2,11 @@
 -- was asked for is kept). One lemma for each form of the Rust: one statement after another, `if`, `for_each`; a push and insertions are in `Inserting`.
 use Rattle.std.proofs.Common.{◌≡◌, ℕ, ◌<◌, Bool, true, false, ◌⊎◌, List, [], ◌∷◌, length, sym, refl, ◌∙◌, subst, inl, inr}
 use mathlib.Core.Bool.{false≢true}
-use Rattle.graph.specs.Check.{Graph}
-use Rattle.graph_access.specs.Names.{owner}
-use Rattle.graph_access.specs.Words.{symbol_of, normal, statement_list}
-use Rattle.facts.specs.declared.Fact.{Fact}
-use Rattle.facts.specs.declared.Fact.TheVariants.{Module, Statement, Use, CheckedUse, Forward, Bailout}
+use Rattle.determine_side_effects.specs.graph_crate.Check.{Graph}
+use Rattle.determine_side_effects.specs.graph_access_crate.Names.{owner}
+use Rattle.determine_side_effects.specs.graph_access_crate.Words.{symbol_of, normal, statement_list}
+use Rattle.determine_side_effects.specs.facts_crate.declared.Fact.{Fact}
+use Rattle.determine_side_effects.specs.facts_crate.declared.Fact.TheVariants.{Module, Statement, Use, CheckedUse, Forward, Bailout}
 use Rattle.on_demand.specs.Demand.{gated}
 use Rattle.rust_values.specs.Values.{Pair, pair, In}
 use Rattle.rust_engine.specs.Context.{Context, WorkItem, symbol_item, statement_item, for_each}

@@ -2,12 +2,12 @@
 use Rattle.std.proofs.Common.{◌≡◌, ℕ, zero, suc, ◌+◌, ◌-◌, ◌<◌, Bool, true, false, eqb, List, [], ◌∷◌, sym, refl, ap, ◌∙◌, subst, arith, eq-eqb, ne_eqb, eqb-true}
 use mathlib.Core.Bool.{false≢true}
 use borrow.Author.Tests.{eqb-false}
-use Rattle.graph.specs.Check.{Graph}
-use Rattle.graph_access.specs.Names.{owner, namespace, alias_namespace, alias_name, common_js_namespaces, namespace_symbol, namespace_module}
-use Rattle.graph_access.specs.Words.{root_of}
-use Rattle.graph_access.specs.Words.{symbol_of, module_of}
-use Rattle.facts.specs.declared.Fact.{Fact}
-use Rattle.facts.specs.Facts.{use_fact, checked_fact, bailout_fact}
+use Rattle.determine_side_effects.specs.graph_crate.Check.{Graph}
+use Rattle.determine_side_effects.specs.graph_access_crate.Names.{owner, namespace, alias_namespace, alias_name, common_js_namespaces, namespace_symbol, namespace_module}
+use Rattle.determine_side_effects.specs.graph_access_crate.Words.{root_of}
+use Rattle.determine_side_effects.specs.graph_access_crate.Words.{symbol_of, module_of}
+use Rattle.determine_side_effects.specs.facts_crate.declared.Fact.{Fact}
+use Rattle.determine_side_effects.specs.facts_crate.Facts.{use_fact, checked_fact, bailout_fact}
 use Rattle.determine_side_effects.specs.Effects.{last_verdicts}
 use Rattle.linking_metadata.specs.Namespaces.{namespace_in, common_js_of, is_namespace}
 use Rattle.keep_rules.specs.declared.Candidate.{Candidate}

@@ -1,11 +1,11 @@
 -- The statements that `include_declaring_statements` starts from, as facts and as rows.
 use Rattle.std.proofs.Common.{◌≡◌, ℕ, ◌-◌, Bool, true, false, List, [], ◌∷◌, map, sym, refl, subst, inl, inr}
 use mathlib.Core.Bool.{false≢true}
-use Rattle.graph.specs.Check.{Graph}
-use Rattle.graph_access.specs.Names.{declaring_statements, only}
-use Rattle.graph_access.specs.Words.{symbol_of, normal}
-use Rattle.facts.specs.declared.Fact.{Fact}
-use Rattle.facts.specs.Facts.{statement_fact}
+use Rattle.determine_side_effects.specs.graph_crate.Check.{Graph}
+use Rattle.determine_side_effects.specs.graph_access_crate.Names.{declaring_statements, only}
+use Rattle.determine_side_effects.specs.graph_access_crate.Words.{symbol_of, normal}
+use Rattle.determine_side_effects.specs.facts_crate.declared.Fact.{Fact}
+use Rattle.determine_side_effects.specs.facts_crate.Facts.{statement_fact}
 use Rattle.closed_choices.proofs.Every.{Every}
 use Rattle.rust_values.specs.Values.{In}
 use Rattle.rust_engine.specs.Tables.{owner_of}

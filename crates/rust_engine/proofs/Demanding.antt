@@ -2,11 +2,11 @@
 use Rattle.std.proofs.Common.{◌≡◌, ℕ, zero, suc, ◌+◌, ◌-◌, ◌<◌, ◌≤◌, Bool, true, false, not, ◌&&◌, eqb, ltb, ◌⊎◌, List, [], ◌∷◌, length, sym, refl, ap, ◌∙◌, subst, inl, inr, arith, ltb-false, eq-eqb, ne_eqb, eqb-true}
 use mathlib.Core.Bool.{false≢true}
 use borrow.Author.Tests.{eqb-false}
-use Rattle.graph.specs.Check.{Graph}
-use Rattle.graph_access.specs.Names.{statement_bits, statement_import_records, references}
-use Rattle.graph_access.specs.Words.{flag, tabulate, statement_list, statement_of, normal}
-use Rattle.facts.specs.declared.Fact.{Fact}
-use Rattle.facts.specs.Facts.{statement_fact}
+use Rattle.determine_side_effects.specs.graph_crate.Check.{Graph}
+use Rattle.determine_side_effects.specs.graph_access_crate.Names.{statement_bits, statement_import_records, references}
+use Rattle.determine_side_effects.specs.graph_access_crate.Words.{flag, tabulate, statement_list, statement_of, normal}
+use Rattle.determine_side_effects.specs.facts_crate.declared.Fact.{Fact}
+use Rattle.determine_side_effects.specs.facts_crate.Facts.{statement_fact}
 use Rattle.on_demand.specs.Demand.{gated}
 use Rattle.keep_record.specs.Lines.{elem}
 use Rattle.rust_values.specs.Values.{In, Found, none, found, get, is_empty}

@@ -2,12 +2,12 @@
 -- starts so far shows.
 use Rattle.std.proofs.Common.{◌≡◌, ℕ, ◌+◌, ◌-◌, ◌*◌, Bool, true, false, ◌||◌, eqb, ◌⊎◌, List, [], sym, refl, subst, inl, inr, arith, eqb-true}
 use mathlib.Core.Bool.{false≢true}
-use Rattle.graph.specs.Check.{Graph}
-use Rattle.graph_access.specs.Names.{owner}
-use Rattle.graph_access.specs.Words.{symbol_of}
-use Rattle.facts.specs.declared.Fact.{Fact}
-use Rattle.facts.specs.declared.Fact.TheVariants.{Module, Statement, Use, CheckedUse, Forward, Bailout}
-use Rattle.facts.specs.Facts.{module_fact, statement_fact, use_fact, bailout_fact, Good}
+use Rattle.determine_side_effects.specs.graph_crate.Check.{Graph}
+use Rattle.determine_side_effects.specs.graph_access_crate.Names.{owner}
+use Rattle.determine_side_effects.specs.graph_access_crate.Words.{symbol_of}
+use Rattle.determine_side_effects.specs.facts_crate.declared.Fact.{Fact}
+use Rattle.determine_side_effects.specs.facts_crate.declared.Fact.TheVariants.{Module, Statement, Use, CheckedUse, Forward, Bailout}
+use Rattle.determine_side_effects.specs.facts_crate.Facts.{module_fact, statement_fact, use_fact, bailout_fact, Good}
 use Rattle.determine_side_effects.specs.Effects.{last_verdicts}
 use Rattle.keep_rules.specs.Rules.{dev_namespace}
 use Rattle.keep_record.specs.Lines.{elem}

@@ -1,10 +1,10 @@
 -- Declarations and forwards: `enqueue_declaring_statements`, `retain_forwarding_declaration(s)`.
 use Rattle.std.proofs.Common.{◌≡◌, ℕ, ◌+◌, ◌-◌, Bool, true, false, ◌⊎◌, List, [], ◌∷◌, ◌++◌, get_or, sym, refl, ◌∙◌, subst, inl, inr}
 use mathlib.Core.Bool.{false≢true}
-use Rattle.graph.specs.Check.{Graph}
-use Rattle.graph_access.specs.Names.{declaring_statements, only, export_chain}
-use Rattle.graph_access.specs.Words.{symbol_of, normal}
-use Rattle.facts.specs.Facts.{module_fact, statement_fact, forward_fact}
+use Rattle.determine_side_effects.specs.graph_crate.Check.{Graph}
+use Rattle.determine_side_effects.specs.graph_access_crate.Names.{declaring_statements, only, export_chain}
+use Rattle.determine_side_effects.specs.graph_access_crate.Words.{symbol_of, normal}
+use Rattle.determine_side_effects.specs.facts_crate.Facts.{module_fact, statement_fact, forward_fact}
 use Rattle.keep_record.specs.Lines.{elem}
 use Rattle.rust_values.specs.Values.{In}
 use Rattle.rust_engine.specs.Context.{Context, statement_item, push, set_deferred, for_each}

@@ -1,8 +1,8 @@
 -- The three handlers together.
 use Rattle.std.proofs.Common.{◌≡◌, ℕ, ◌-◌, true, List, ◌∷◌}
-use Rattle.graph.specs.Check.{Graph}
-use Rattle.graph_access.specs.Words.{normal}
-use Rattle.facts.specs.Facts.{statement_fact, Good}
+use Rattle.determine_side_effects.specs.graph_crate.Check.{Graph}
+use Rattle.determine_side_effects.specs.graph_access_crate.Words.{normal}
+use Rattle.determine_side_effects.specs.facts_crate.Facts.{statement_fact, Good}
 use Rattle.determine_side_effects.specs.Effects.{last_verdicts}
 use Rattle.rust_values.specs.Values.{Pair}
 use Rattle.rust_engine.specs.Context.{Context, WorkItem, module_item, symbol_item, statement_item, rest}

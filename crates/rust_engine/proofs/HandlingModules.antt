@@ -1,17 +1,17 @@
 -- `handle_include_module`: it stays within every choice that is closed but for the base, and settles its module.
 use Rattle.std.proofs.Common.{◌≡◌, ℕ, ◌-◌, ◌*◌, ◌<◌, Bool, true, false, not, ◌⊎◌, List, [], ◌∷◌, length, get_or, sym, refl, ap, ◌∙◌, subst, inl, inr, eq-eqb}
 use mathlib.Core.Bool.{false≢true}
-use Rattle.graph.specs.Check.{Graph}
-use Rattle.graph_access.specs.Names.{declaring_statements, only}
-use Rattle.graph_access.specs.Words.{symbol_of, normal}
-use Rattle.facts.specs.Facts.{module_fact, statement_fact}
+use Rattle.determine_side_effects.specs.graph_crate.Check.{Graph}
+use Rattle.determine_side_effects.specs.graph_access_crate.Names.{declaring_statements, only}
+use Rattle.determine_side_effects.specs.graph_access_crate.Words.{symbol_of, normal}
+use Rattle.determine_side_effects.specs.facts_crate.Facts.{module_fact, statement_fact}
 use Rattle.determine_side_effects.specs.Effects.{last_verdicts}
 use Rattle.keep_rules.specs.Rules.{dev_namespace}
 use Rattle.keep_record.specs.Lines.{elem}
 use Rattle.answer_rows.specs.declared.Row.TheVariants.{NamespaceReason}
 use Rattle.answer_rows.specs.Shown.{shows, only_if}
 use Rattle.rust_values.specs.Values.{Pair, pair, In}
-use Rattle.rust_engine.specs.Context.{Context, WorkItem, module_item, symbol_item, statement_item, rest, set_module, set_changed, set_deferred, when as whenDo}
+use Rattle.rust_engine.specs.Context.{Context, WorkItem, module_item, symbol_item, statement_item, rest, set_module, set_changed, set_deferred, when as when_do}
 use Rattle.rust_engine.specs.Tables.{owner_of}
 use Rattle.rust_engine.specs.Engine.{Orders, Reorders, drain_deferred, module_body, handle_include_module}
 use Rattle.rust_engine.proofs.Kept.{fact_of_item, AllGiven, KeptStatement, Kept, Forwarded, Settled, Grows}
@@ -240,7 +240,7 @@ module _ (g : Graph) where
               → Onward g v taken base uses c (elim a [
                 | true ↦ elim q [
                   | true ↦ rest is c
-                  | false ↦ whenDo (not (quiet g m)) (module_body g v order m)
+                  | false ↦ when_do (not (quiet g m)) (module_body g v order m)
                       (drain_deferred g m (set_changed true (set_module m (rest is c))))
                 ]
                 | false ↦ rest is c

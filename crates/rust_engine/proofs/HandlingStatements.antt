@@ -1,10 +1,10 @@
 -- `handle_include_statement`: it stays within every choice that is closed but for the base, and settles its statement.
 use Rattle.std.proofs.Common.{◌≡◌, ℕ, ◌-◌, Bool, true, false, ◌&&◌, ◌||◌, eqb, ◌⊎◌, List, [], ◌∷◌, get_or, sym, refl, ap, ◌∙◌, subst, inl, inr, eq-eqb, eqb-true}
 use mathlib.Core.Bool.{false≢true}
-use Rattle.graph.specs.Check.{Graph}
-use Rattle.graph_access.specs.Names.{declaring_statements, only}
-use Rattle.graph_access.specs.Words.{symbol_of, normal}
-use Rattle.facts.specs.Facts.{statement_fact, Good}
+use Rattle.determine_side_effects.specs.graph_crate.Check.{Graph}
+use Rattle.determine_side_effects.specs.graph_access_crate.Names.{declaring_statements, only}
+use Rattle.determine_side_effects.specs.graph_access_crate.Words.{symbol_of, normal}
+use Rattle.determine_side_effects.specs.facts_crate.Facts.{statement_fact, Good}
 use Rattle.determine_side_effects.specs.Effects.{last_verdicts}
 use Rattle.rust_values.specs.Values.{Pair, pair, has_pair, In}
 use Rattle.rust_engine.specs.Context.{Context, WorkItem, statement_item, rest, set_statement}

@@ -1,9 +1,9 @@
 -- `handle_include_symbol`: it stays within every choice that is closed but for the base, and settles its use.
 use Rattle.std.proofs.Common.{◌≡◌, ℕ, ◌-◌, Bool, true, false, ◌⊎◌, List, [], ◌∷◌, get_or, sym, refl, subst, inl, inr}
-use Rattle.graph.specs.Check.{Graph}
-use Rattle.graph_access.specs.Names.{declaring_statements, only}
-use Rattle.graph_access.specs.Words.{symbol_of}
-use Rattle.facts.specs.Facts.{statement_fact, use_fact}
+use Rattle.determine_side_effects.specs.graph_crate.Check.{Graph}
+use Rattle.determine_side_effects.specs.graph_access_crate.Names.{declaring_statements, only}
+use Rattle.determine_side_effects.specs.graph_access_crate.Words.{symbol_of}
+use Rattle.determine_side_effects.specs.facts_crate.Facts.{statement_fact, use_fact}
 use Rattle.determine_side_effects.specs.Effects.{last_verdicts}
 use Rattle.answer_rows.specs.Shown.{shows, reason_by}
 use Rattle.rust_values.specs.Values.{Pair, pair, In}

@@ -1,9 +1,9 @@
 -- A push and the insertions, as what they ask for.
 use Rattle.std.proofs.Common.{◌≡◌, ℕ, ◌⊎◌, List, sym, refl, ap, ◌∙◌, subst, inl, inr}
-use Rattle.graph.specs.Check.{Graph}
-use Rattle.graph_access.specs.Names.{owner}
-use Rattle.graph_access.specs.Words.{symbol_of}
-use Rattle.facts.specs.Facts.{bailout_fact}
+use Rattle.determine_side_effects.specs.graph_crate.Check.{Graph}
+use Rattle.determine_side_effects.specs.graph_access_crate.Names.{owner}
+use Rattle.determine_side_effects.specs.graph_access_crate.Words.{symbol_of}
+use Rattle.determine_side_effects.specs.facts_crate.Facts.{bailout_fact}
 use Rattle.rust_values.specs.Values.{Pair, pair, In}
 use Rattle.rust_engine.specs.Context.{Context, WorkItem, module_item, symbol_item, statement_item, push, insert_bailout, insert_used, insert_external, insert_json, insert_reason}
 use Rattle.rust_engine.proofs.Kept.{fact_of_item, Kept}

@@ -1,9 +1,9 @@
 -- (a) between entry points: the rows that were lent stay, and everything lies within each choice that is closed but for the base and has base and starts.
 use Rattle.std.proofs.Common.{◌≡◌, ℕ, ◌+◌, ◌-◌, true, ◌⊎◌, List, ◌++◌, inl, inr}
-use Rattle.graph.specs.Check.{Graph}
-use Rattle.graph_access.specs.Words.{normal}
-use Rattle.facts.specs.declared.Fact.{Fact}
-use Rattle.facts.specs.Facts.{module_fact, statement_fact, checked_fact, bailout_fact, Good}
+use Rattle.determine_side_effects.specs.graph_crate.Check.{Graph}
+use Rattle.determine_side_effects.specs.graph_access_crate.Words.{normal}
+use Rattle.determine_side_effects.specs.facts_crate.declared.Fact.{Fact}
+use Rattle.determine_side_effects.specs.facts_crate.Facts.{module_fact, statement_fact, checked_fact, bailout_fact, Good}
 use Rattle.determine_side_effects.specs.Effects.{last_verdicts}
 use Rattle.closed_choices.specs.Choice.{Closed}
 use Rattle.closed_choices.proofs.Every.{Every, every_left, every_right}

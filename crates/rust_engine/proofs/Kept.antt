@@ -1,12 +1,12 @@
 -- What a context keeps: a fact that is included, or is on the queue, or waits. `uses` are the uses that were handled so far: the Rust has no memory
 -- of them, so they stand beside the context; `taken` are the bailouts that rounds have taken; `base` are the rows that the context was made over.
 use Rattle.std.proofs.Common.{◌≡◌, ℕ, ◌+◌, ◌*◌, ◌<◌, true, ◌⊎◌, List, [], length, get_or, sym, subst, inl, inr, arith}
-use Rattle.graph.specs.Check.{Graph}
-use Rattle.graph_access.specs.Names.{owner, declaring_statements, only}
-use Rattle.graph_access.specs.Words.{symbol_of, normal, statement_list}
-use Rattle.facts.specs.declared.Fact.{Fact}
-use Rattle.facts.specs.declared.Fact.TheVariants.{Module, Statement, Use, CheckedUse, Forward, Bailout}
-use Rattle.facts.specs.Facts.{module_fact, statement_fact, use_fact, forward_fact}
+use Rattle.determine_side_effects.specs.graph_crate.Check.{Graph}
+use Rattle.determine_side_effects.specs.graph_access_crate.Names.{owner, declaring_statements, only}
+use Rattle.determine_side_effects.specs.graph_access_crate.Words.{symbol_of, normal, statement_list}
+use Rattle.determine_side_effects.specs.facts_crate.declared.Fact.{Fact}
+use Rattle.determine_side_effects.specs.facts_crate.declared.Fact.TheVariants.{Module, Statement, Use, CheckedUse, Forward, Bailout}
+use Rattle.determine_side_effects.specs.facts_crate.Facts.{module_fact, statement_fact, use_fact, forward_fact}
 use Rattle.determine_side_effects.specs.Effects.{last_verdicts}
 use Rattle.keep_rules.specs.Rules.{gives, segments_of, given_by, dev_namespace}
 use Rattle.on_demand.specs.Demand.{gated}

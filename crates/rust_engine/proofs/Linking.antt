@@ -2,11 +2,11 @@
 use Rattle.std.proofs.Common.{◌≡◌, ℕ, zero, suc, ◌+◌, ◌-◌, ◌<◌, Bool, true, false, not, ◌&&◌, ◌||◌, eqb, ltb, List, [], ◌∷◌, map, length, get_or, sym, refl, ap, ◌∙◌, subst, inl, inr, arith, le-ltb, lt-ltb, ne_eqb, eqb-true}
 use mathlib.Core.Bool.{false≢true}
 use native.Mathlib.Decide.{dec_lt}
-use Rattle.graph.specs.Check.{Graph}
-use Rattle.graph_access.specs.Names.{exports, module_type, flags, reexport_count, import_records, only, import_record_target, import_record_kind, import_record_bits, export_chain, statement_bits, statement_import_records, references, reference_kind, reference_symbol, reference_flag, depended_on}
-use Rattle.graph_access.specs.Words.{flag, symbol_of, module_of, statement_of, normal}
-use Rattle.facts.specs.declared.Fact.{Fact}
-use Rattle.facts.specs.Facts.{statement_fact, checked_fact, forward_fact, bailout_fact}
+use Rattle.determine_side_effects.specs.graph_crate.Check.{Graph}
+use Rattle.determine_side_effects.specs.graph_access_crate.Names.{exports, module_type, flags, reexport_count, import_records, only, import_record_target, import_record_kind, import_record_bits, export_chain, statement_bits, statement_import_records, references, reference_kind, reference_symbol, reference_flag, depended_on}
+use Rattle.determine_side_effects.specs.graph_access_crate.Words.{flag, symbol_of, module_of, statement_of, normal}
+use Rattle.determine_side_effects.specs.facts_crate.declared.Fact.{Fact}
+use Rattle.determine_side_effects.specs.facts_crate.Facts.{statement_fact, checked_fact, forward_fact, bailout_fact}
 use Rattle.determine_side_effects.specs.Effects.{last_verdicts, has_effects, effectful}
 use Rattle.keep_rules.specs.Rules.{import_record_of, bails_out, import_record_candidate, reason_of, inlined, forwards, forward_candidate, plain_candidate, resolved_candidate, reference_candidates, reference_candidate, reference_segment, statement_segments, segments_of}
 use Rattle.rust_values.specs.Values.{In, Found, none, found, optional, is_empty}

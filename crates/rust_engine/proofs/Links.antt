@@ -1,5 +1,5 @@
 -- What the bodies of the Rust's engine ask for is what the keep rules give, in every world: all together.
-use Rattle.graph.specs.Check.{Graph}
+use Rattle.determine_side_effects.specs.graph_crate.Check.{Graph}
 use Rattle.rust_engine.proofs.Handling.{Links}
 use Rattle.rust_engine.proofs.Linking.{statement_from, statement_to}
 use Rattle.rust_engine.proofs.OfModules.{module_from, module_to}

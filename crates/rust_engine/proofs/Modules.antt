@@ -1,13 +1,13 @@
 -- `handle_include_module` behind its bit asks for what K2 to K6 give.
 use Rattle.std.proofs.Common.{◌≡◌, ℕ, ◌-◌, Bool, true, false, not, ◌&&◌, ◌||◌, eqb, ltb, ◌⊎◌, List, [], ◌∷◌, get_or, sym, refl, ap, subst, inl, inr}
-use Rattle.graph.specs.Check.{Graph}
-use Rattle.graph_access.specs.Names.{exports, module_type, flags, dependencies, named_imports, common_js_export_symbols, only, statement_bits}
-use Rattle.graph_access.specs.Words.{flag, module_of, statement_of, normal, option}
-use Rattle.facts.specs.Facts.{module_fact, statement_fact, checked_fact}
+use Rattle.determine_side_effects.specs.graph_crate.Check.{Graph}
+use Rattle.determine_side_effects.specs.graph_access_crate.Names.{exports, module_type, flags, dependencies, named_imports, common_js_export_symbols, only, statement_bits}
+use Rattle.determine_side_effects.specs.graph_access_crate.Words.{flag, module_of, statement_of, normal, option}
+use Rattle.determine_side_effects.specs.facts_crate.Facts.{module_fact, statement_fact, checked_fact}
 use Rattle.determine_side_effects.specs.Effects.{last_verdicts}
 use Rattle.keep_record.specs.Lines.{elem}
 use Rattle.rust_values.specs.Values.{In}
-use Rattle.rust_engine.specs.Context.{Context, module_item, statement_item, push, insert_reason, for_each, when as whenDo}
+use Rattle.rust_engine.specs.Context.{Context, module_item, statement_item, push, insert_reason, for_each, when as when_do}
 use Rattle.rust_engine.specs.Tables.{has_side_effects, iter_enumerated_without_namespace_stmt}
 use Rattle.rust_engine.specs.Engine.{push_symbol_and_check_cjs_bailout, sweeps, sweep_side_effect_statements, include_whole, include_statements_without_treeshaking, include_dependency, index_set, include_side_effectful_dependencies, Orders, Reorders, module_body}
 use Rattle.rust_engine.proofs.Bailing.{asks_checked}
@@ -81,7 +81,7 @@ module _ (g : Graph) where
       → Asks g v (Sweeps b m) c (elim b [ true ↦ sweep_side_effect_statements g v m c | false ↦ include_statements_without_treeshaking g m c ])
   unfolding sweep_side_effect_statements include_statements_without_treeshaking
   asks_sweeps true m c =
-      asks_each g v (λ i w. sweeps g v m i ≡ true → w.fact (statement_fact m i)) (λ i. whenDo (sweeps g v m i) (push (statement_item m i)))
+      asks_each g v (λ i w. sweeps g v m i ≡ true → w.fact (statement_fact m i)) (λ i. when_do (sweeps g v m i) (push (statement_item m i)))
       (iter_enumerated_without_namespace_stmt g m) c
       (λ i q d. asks_when g v (sweeps g v m i) (Item g v (statement_item m i)) (push (statement_item m i)) d (λ e. asks_push g v (statement_item m i) d))
   asks_sweeps false m c =
@@ -97,7 +97,7 @@ module _ (g : Graph) where
   asks_dependency n c = go (elem n c.modules) refl
     where
       go : (b : Bool) → elem n c.modules ≡ b
-          → Asks g v (Depends n) c (elim b [ true ↦ c | false ↦ whenDo (normal g n) (whenDo (not (option g 0) || has_side_effects v n) (push (module_item n))) c ])
+          → Asks g v (Depends n) c (elim b [ true ↦ c | false ↦ when_do (normal g n) (when_do (not (option g 0) || has_side_effects v n) (push (module_item n))) c ])
       go true e =
           record {
             grown = grown_refl g v c;
@@ -107,7 +107,7 @@ module _ (g : Graph) where
           }
       go false e =
           asks_when g v (normal g n) (λ w. (not (option g 0) || has_side_effects v n) ≡ true → w.fact (module_fact n))
-          (whenDo (not (option g 0) || has_side_effects v n) (push (module_item n))) c
+          (when_do (not (option g 0) || has_side_effects v n) (push (module_item n))) c
           (λ a. asks_when g v (not (option g 0) || has_side_effects v n) (Item g v (module_item n)) (push (module_item n)) c (λ b. asks_push g v (module_item n) c))
 
   abbrev pub DependsAll : ℕ → W → Type 0
@@ -158,7 +158,7 @@ module _ (g : Graph) where
     c₂ = include_side_effectful_dependencies g v m c₁
 
     abbrev c₃ : Context
-    c₃ = whenDo (eval_test m) (for_each (λ row. push_symbol_and_check_cjs_bailout g (only row) 1) (order.of_imports (named_imports (module_of g m)))) c₂
+    c₃ = when_do (eval_test m) (for_each (λ row. push_symbol_and_check_cjs_bailout g (only row) 1) (order.of_imports (named_imports (module_of g m)))) c₂
 
     abbrev c₄ : Context
     c₄ = for_each (λ row. push_symbol_and_check_cjs_bailout g (only row) 1) (order.of_exports (common_js_export_symbols (module_of g m))) c₃

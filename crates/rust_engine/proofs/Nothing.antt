@@ -1,8 +1,8 @@
 -- With nothing in the base, closed but for the base is closed, and the smallest choice over it is the smallest closed choice.
 use Rattle.std.proofs.Common.{List}
-use Rattle.graph.specs.Check.{Graph}
-use Rattle.facts.specs.declared.Fact.{Fact}
-use Rattle.facts.specs.declared.Fact.TheVariants.{Module, Statement, Use, CheckedUse, Forward, Bailout}
+use Rattle.determine_side_effects.specs.graph_crate.Check.{Graph}
+use Rattle.determine_side_effects.specs.facts_crate.declared.Fact.{Fact}
+use Rattle.determine_side_effects.specs.facts_crate.declared.Fact.TheVariants.{Module, Statement, Use, CheckedUse, Forward, Bailout}
 use Rattle.closed_choices.specs.Choice.{Choice, Closed, Smallest}
 use Rattle.rust_engine.specs.Context.{empty}
 use Rattle.rust_engine.specs.EntryPoints.{InRows, ClosedOver, SmallestOver}

@@ -1,18 +1,18 @@
 -- T11 for the engine, over every accepted graph.
 use Rattle.std.proofs.Common.{◌≡◌, ℕ, zero, suc, ◌+◌, ◌<◌, true, List, [], length, get_or, sym, ap, ◌∙◌, subst, arith, eq-eqb}
-use Rattle.rows.specs.Walk.{no_item}
-use Rattle.graph_format.specs.Format.{module_rules, statement_limit}
-use Rattle.graph_tables.specs.Tables.{header_in, modules_in}
-use Rattle.graph_tables.proofs.Facts.{its-read, number_same}
-use Rattle.graph.specs.declared.Checked.TheVariants.{Accepted}
-use Rattle.graph.specs.Check.{Graph, graph_in, check_of, answer_of}
-use Rattle.graph.specs.Loaded.{Loaded}
-use Rattle.graph_access.specs.Names.{kind, owner, declaring_statements, only}
-use Rattle.graph_access.specs.Words.{module_of, symbol_of, statement_list, normal}
-use Rattle.graph_access.proofs.Indexes as index
-use Rattle.graph_access.proofs.StatementNumbers.{all_long}
-use Rattle.facts.specs.declared.Fact.{Fact}
-use Rattle.facts.specs.Facts.{statement_fact, forward_fact, Good}
+use Rattle.determine_side_effects.specs.rows_crate.Walk.{no_item}
+use Rattle.determine_side_effects.specs.graph_format_crate.Format.{module_rules, statement_limit}
+use Rattle.determine_side_effects.specs.graph_tables_crate.Tables.{header_in, modules_in}
+use Rattle.determine_side_effects.proofs.graph_tables_crate.Facts.{its-read, number_same}
+use Rattle.determine_side_effects.specs.graph_crate.declared.Checked.TheVariants.{Accepted}
+use Rattle.determine_side_effects.specs.graph_crate.Check.{Graph, graph_in, check_of, answer_of}
+use Rattle.determine_side_effects.specs.graph_crate.Loaded.{Loaded}
+use Rattle.determine_side_effects.specs.graph_access_crate.Names.{kind, owner, declaring_statements, only}
+use Rattle.determine_side_effects.specs.graph_access_crate.Words.{module_of, symbol_of, statement_list, normal}
+use Rattle.determine_side_effects.proofs.graph_access_crate.Indexes as index
+use Rattle.determine_side_effects.proofs.graph_access_crate.StatementNumbers.{all_long}
+use Rattle.determine_side_effects.specs.facts_crate.declared.Fact.{Fact}
+use Rattle.determine_side_effects.specs.facts_crate.Facts.{statement_fact, forward_fact, Good}
 use Rattle.determine_side_effects.specs.Effects.{last_verdicts}
 use Rattle.keep_rules.specs.Rules.{gives}
 use Rattle.worklist.specs.Drain.{drain_of}

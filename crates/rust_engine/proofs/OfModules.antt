@@ -1,10 +1,10 @@
 -- What the bodies ask for and what the rules give are the same: modules (K2 to K6).
 use Rattle.std.proofs.Common.{◌≡◌, ℕ, zero, suc, ◌-◌, ◌<◌, Bool, true, false, not, ◌&&◌, ◌||◌, eqb, List, [], length, get_or, sym, refl, ap, ◌∙◌, subst, arith, ne_eqb}
 use mathlib.Core.Bool.{false≢true}
-use Rattle.graph.specs.Check.{Graph}
-use Rattle.graph_access.specs.Names.{exports, flags, dependencies, named_imports, common_js_export_symbols, only, statement_bits}
-use Rattle.graph_access.specs.Words.{flag, module_of, statement_list, statement_of, normal, option}
-use Rattle.facts.specs.Facts.{module_fact, statement_fact, checked_fact}
+use Rattle.determine_side_effects.specs.graph_crate.Check.{Graph}
+use Rattle.determine_side_effects.specs.graph_access_crate.Names.{exports, flags, dependencies, named_imports, common_js_export_symbols, only, statement_bits}
+use Rattle.determine_side_effects.specs.graph_access_crate.Words.{flag, module_of, statement_list, statement_of, normal, option}
+use Rattle.determine_side_effects.specs.facts_crate.Facts.{module_fact, statement_fact, checked_fact}
 use Rattle.determine_side_effects.specs.Effects.{last_verdicts, has_effects}
 use Rattle.on_demand.specs.Demand.{on_demand, gated}
 use Rattle.keep_rules.specs.Rules.{quiet_runtime, has_eval, effect_bit, swept_shaken, swept_whole, swept, sweep_candidate, dependency, dependency_candidate, eval_candidates, eval_candidate, export_symbol_candidate, dev_namespace, dev_candidate, module_segments, segments_of}

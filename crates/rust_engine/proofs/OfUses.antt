@@ -1,10 +1,10 @@
 -- What the bodies ask for and what the rules give are the same: uses (K10 to K14) and the rows that they show.
 use Rattle.std.proofs.Common.{◌≡◌, ℕ, zero, suc, ◌+◌, ◌-◌, ◌*◌, ◌<◌, Bool, true, false, not, ◌&&◌, ◌||◌, eqb, ◌⊎◌, List, [], ◌∷◌, ◌++◌, sym, refl, ap, ◌∙◌, subst, inl, inr, arith}
 use mathlib.Core.Bool.{false≢true}
-use Rattle.graph.specs.Check.{Graph}
-use Rattle.graph_access.specs.Names.{module_type, owner, alias_namespace, constant_bits}
-use Rattle.graph_access.specs.Words.{root_of, flag, symbol_of, module_of, normal, option}
-use Rattle.facts.specs.Facts.{use_fact}
+use Rattle.determine_side_effects.specs.graph_crate.Check.{Graph}
+use Rattle.determine_side_effects.specs.graph_access_crate.Names.{module_type, owner, alias_namespace, constant_bits}
+use Rattle.determine_side_effects.specs.graph_access_crate.Words.{root_of, flag, symbol_of, module_of, normal, option}
+use Rattle.determine_side_effects.specs.facts_crate.Facts.{use_fact}
 use Rattle.determine_side_effects.specs.Effects.{last_verdicts}
 use Rattle.on_demand.specs.Demand.{body_of}
 use Rattle.linking_metadata.specs.Namespaces.{is_namespace, target_of}

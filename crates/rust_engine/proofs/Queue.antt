@@ -1,9 +1,9 @@
 -- The queue after an item: a handler takes nothing from it, and a use that is handled puts each use that it gives on it, whether that was handled before
 -- or not. So a circle of uses never leaves it (`never_on_circles` of `rust_returns`).
 use Rattle.std.proofs.Common.{ℕ, ◌<◌, Bool, true, false, not, List, length, get_or}
-use Rattle.graph.specs.Check.{Graph}
-use Rattle.graph_access.specs.Words.{normal}
-use Rattle.facts.specs.Facts.{use_fact}
+use Rattle.determine_side_effects.specs.graph_crate.Check.{Graph}
+use Rattle.determine_side_effects.specs.graph_access_crate.Words.{normal}
+use Rattle.determine_side_effects.specs.facts_crate.Facts.{use_fact}
 use Rattle.determine_side_effects.specs.Effects.{last_verdicts}
 use Rattle.keep_rules.specs.Rules.{gives}
 use Rattle.keep_record.specs.Lines.{elem}

@@ -1,7 +1,7 @@
 -- What the function gives, the relation has.
 use Rattle.std.proofs.Common.{◌≡◌, ℕ, zero, suc, Bool, true, false, List, [], ◌∷◌, refl, ap, subst}
 use mathlib.Core.Bool.{false≢true}
-use Rattle.graph.specs.Check.{Graph}
+use Rattle.determine_side_effects.specs.graph_crate.Check.{Graph}
 use Rattle.rust_engine.specs.Context.{Context, WorkItem, rest}
 use Rattle.rust_engine.specs.Engine.{listed, Drains, returns, pops, handle, Returned, not_yet, returned, drain_work_items}
 

@@ -1,13 +1,13 @@
 -- `handle_include_statement` behind its bit asks for what K7 and K8 give.
 use Rattle.std.proofs.Common.{◌≡◌, ℕ, ◌-◌, Bool, true, false, not, ◌&&◌, ◌||◌, eqb, ltb, List, [], get_or, refl, subst}
-use Rattle.graph.specs.Check.{Graph}
-use Rattle.graph_access.specs.Names.{exports, flags, reexport_count, import_records, only, import_record_target, import_record_kind, import_record_bits, statement_import_records, references, reference_kind, reference_symbol, reference_flag, depended_on}
-use Rattle.graph_access.specs.Words.{flag, module_of, statement_of, normal}
-use Rattle.facts.specs.declared.Fact.{Fact}
-use Rattle.facts.specs.Facts.{use_fact, checked_fact, forward_fact, bailout_fact}
+use Rattle.determine_side_effects.specs.graph_crate.Check.{Graph}
+use Rattle.determine_side_effects.specs.graph_access_crate.Names.{exports, flags, reexport_count, import_records, only, import_record_target, import_record_kind, import_record_bits, statement_import_records, references, reference_kind, reference_symbol, reference_flag, depended_on}
+use Rattle.determine_side_effects.specs.graph_access_crate.Words.{flag, module_of, statement_of, normal}
+use Rattle.determine_side_effects.specs.facts_crate.declared.Fact.{Fact}
+use Rattle.determine_side_effects.specs.facts_crate.Facts.{use_fact, checked_fact, forward_fact, bailout_fact}
 use Rattle.determine_side_effects.specs.Effects.{last_verdicts}
 use Rattle.rust_values.specs.Values.{In, Found, none, found, optional}
-use Rattle.rust_engine.specs.Context.{Context, symbol_item, push, insert_bailout, for_each, when as whenDo}
+use Rattle.rust_engine.specs.Context.{Context, symbol_item, push, insert_bailout, for_each, when as when_do}
 use Rattle.rust_engine.specs.Tables.{has_side_effects}
 use Rattle.rust_engine.specs.Engine.{check_cjs_bailout, push_symbol_and_check_cjs_bailout, retain_forwarding_declaration, retain_forwarding_declarations, scan_record, scan_one, scan_import_records_for_cjs_bailout, is_inlined_enum_member_access, include_kind, include_plain, include_resolved, include_reference}
 use Rattle.rust_engine.proofs.Bailing.{none_found, found_same, asks_checked}
@@ -42,7 +42,7 @@ module _ (g : Graph) where
   asks_scan m row (found t) c =
       let R : W → Type 0 = λ w. (not (flag 2 (flags (module_of g m))) || ltb 1 (reexport_count (module_of g m))) ≡ true → w.fact (bailout_fact t) in
       let f : Context → Context = λ c. elim (flag 2 (flags (module_of g m))) as (λ b. Context)
-      [ true ↦ whenDo (ltb 1 (reexport_count (module_of g m))) (insert_bailout t) c | false ↦ insert_bailout t c ] in
+      [ true ↦ when_do (ltb 1 (reexport_count (module_of g m))) (insert_bailout t) c | false ↦ insert_bailout t c ] in
       asks_as g v (λ w. normal g t ≡ true → not (not (eqb (exports (module_of g t)) 1) || eqb (import_record_kind row) 0) ≡ true → not
       (flag 1 (import_record_bits row) && not (has_side_effects v t)) ≡ true → R w) (Scans m row (found t)) c _
       (λ w q. q t refl)
@@ -51,11 +51,11 @@ module _ (g : Graph) where
       → (not (flag 2 (flags (module_of g m))) || ltb 1 (reexport_count (module_of g m))) ≡ true → w.fact (bailout_fact t)) (found_same t n q) p)
       (asks_when g v (normal g t) (λ w. not (not (eqb (exports (module_of g t)) 1) || eqb (import_record_kind row) 0) ≡ true → not
       (flag 1 (import_record_bits row) && not (has_side_effects v t)) ≡ true → R w)
-      (whenDo (not (not (eqb (exports (module_of g t)) 1) || eqb (import_record_kind row) 0))
-      (whenDo (not (flag 1 (import_record_bits row) && not (has_side_effects v t))) f)) c
+      (when_do (not (not (eqb (exports (module_of g t)) 1) || eqb (import_record_kind row) 0))
+      (when_do (not (flag 1 (import_record_bits row) && not (has_side_effects v t))) f)) c
       (λ e₁. asks_when g v (not (not (eqb (exports (module_of g t)) 1) || eqb (import_record_kind row) 0))
       (λ w. not (flag 1 (import_record_bits row) && not (has_side_effects v t)) ≡ true → R w)
-      (whenDo (not (flag 1 (import_record_bits row) && not (has_side_effects v t))) f) c
+      (when_do (not (flag 1 (import_record_bits row) && not (has_side_effects v t))) f) c
       (λ e₂. asks_when g v (not (flag 1 (import_record_bits row) && not (has_side_effects v t))) R f c
       (λ e₃. asks_reexport m t (flag 2 (flags (module_of g m))) (ltb 1 (reexport_count (module_of g m))) c))))
 

@@ -1,12 +1,12 @@
 -- `handle_include_symbol` asks for what K10 to K14 give and for the rows.
 use Rattle.std.proofs.Common.{◌≡◌, ℕ, ◌-◌, Bool, true, false, not, ◌&&◌, ◌||◌, eqb, List, sym, refl, subst}
 use mathlib.Core.Bool.{false≢true}
-use Rattle.graph.specs.Check.{Graph}
-use Rattle.graph_access.specs.Names.{module_type, wrap, wrapper, only, alias_namespace, alias_name, resolved_exports, written_property_statements}
-use Rattle.graph_access.specs.Words.{flag, symbol_of, module_of, normal, option}
-use Rattle.facts.specs.Facts.{module_fact, statement_fact, use_fact}
+use Rattle.determine_side_effects.specs.graph_crate.Check.{Graph}
+use Rattle.determine_side_effects.specs.graph_access_crate.Names.{module_type, wrap, wrapper, only, alias_namespace, alias_name, resolved_exports, written_property_statements}
+use Rattle.determine_side_effects.specs.graph_access_crate.Words.{flag, symbol_of, module_of, normal, option}
+use Rattle.determine_side_effects.specs.facts_crate.Facts.{module_fact, statement_fact, use_fact}
 use Rattle.rust_values.specs.Values.{In, Found, none, found, optional, get}
-use Rattle.rust_engine.specs.Context.{Context, module_item, symbol_item, statement_item, push, insert_used, insert_external, insert_json, insert_reason, for_each, when as whenDo}
+use Rattle.rust_engine.specs.Context.{Context, module_item, symbol_item, statement_item, push, insert_used, insert_external, insert_json, insert_reason, for_each, when as when_do}
 use Rattle.rust_engine.specs.Tables.{owner_of, canonical_ref_for, import_record_ns_to_cjs_module, resolved_export, is_module_namespace}
 use Rattle.rust_engine.specs.OnDemand.{compute_body_demand_keys}
 use Rattle.rust_engine.specs.Engine.{enqueue_declaring_statements, retain_forwarding_declarations, is_bypassed_inlined_constant, drain_body_demand_stmts, alias_target, push_export, include_named_export, follow_cjs_namespace_alias, note_namespace_inclusion_reason, is_simulated_facade_chunk, demand_wrapper, demand_esm_initialization, note_json_self_reference, include_property_write_referencing_stmts, symbol_body, handle_include_symbol}
@@ -160,7 +160,7 @@ module _ (g : Graph) (v : List ℕ) where
   asks_writes s c =
       asks_when g v (option g 3) (λ w. normal g (owner_of g s) ≡ true → (row : List ℕ) → In row (written_property_statements (symbol_of g s)) → w.fact
       (statement_fact (owner_of g s) (only row)))
-      (whenDo (normal g (owner_of g s)) (for_each (λ row. push (statement_item (owner_of g s) (only row))) (written_property_statements (symbol_of g s)))) c
+      (when_do (normal g (owner_of g s)) (for_each (λ row. push (statement_item (owner_of g s) (only row))) (written_property_statements (symbol_of g s)))) c
       (λ o. asks_when g v (normal g (owner_of g s))
       (λ w. (row : List ℕ) → In row (written_property_statements (symbol_of g s)) → w.fact (statement_fact (owner_of g s) (only row)))
       (for_each (λ row. push (statement_item (owner_of g s) (only row))) (written_property_statements (symbol_of g s))) c
@@ -201,13 +201,13 @@ module _ (g : Graph) (v : List ℕ) where
     root = canonical_ref_for g s
 
     abbrev d₁ : Context
-    d₁ = whenDo (not (flag 4 x)) (drain_body_demand_stmts g v root) c
+    d₁ = when_do (not (flag 4 x)) (drain_body_demand_stmts g v root) c
 
     abbrev d₂ : Context
     d₂ = insert_used s d₁
 
     abbrev d₃ : Context
-    d₃ = whenDo (not (normal g (owner_of g s))) (insert_external s) d₂
+    d₃ = when_do (not (normal g (owner_of g s))) (insert_external s) d₂
 
     abbrev d₄ : Context
     d₄ = follow_cjs_namespace_alias g root (optional (alias_namespace (symbol_of g root))) d₃

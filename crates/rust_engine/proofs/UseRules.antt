@@ -2,11 +2,11 @@
 use Rattle.std.proofs.Common.{◌≡◌, ℕ, zero, suc, ◌+◌, ◌-◌, ◌<◌, Bool, true, false, not, ◌&&◌, eqb, List, [], ◌∷◌, length, get_or, sym, refl, ap, ◌∙◌, subst, arith, le-ltb, lt-ltb}
 use mathlib.Core.Bool.{false≢true}
 use native.Mathlib.Decide.{dec_lt}
-use Rattle.graph.specs.Check.{Graph}
-use Rattle.graph_access.specs.Names.{wrap, wrapper, resolved_exports, only, export_name, export_symbol, owner, alias_name, export_chain, declaring_statements, written_property_statements}
-use Rattle.graph_access.specs.Words.{flag, symbol_of, module_of, statement_list, normal, option}
-use Rattle.facts.specs.declared.Fact.{Fact}
-use Rattle.facts.specs.Facts.{module_fact, statement_fact, use_fact, forward_fact}
+use Rattle.determine_side_effects.specs.graph_crate.Check.{Graph}
+use Rattle.determine_side_effects.specs.graph_access_crate.Names.{wrap, wrapper, resolved_exports, only, export_name, export_symbol, owner, alias_name, export_chain, declaring_statements, written_property_statements}
+use Rattle.determine_side_effects.specs.graph_access_crate.Words.{flag, symbol_of, module_of, statement_list, normal, option}
+use Rattle.determine_side_effects.specs.facts_crate.declared.Fact.{Fact}
+use Rattle.determine_side_effects.specs.facts_crate.Facts.{module_fact, statement_fact, use_fact, forward_fact}
 use Rattle.determine_side_effects.specs.Effects.{last_verdicts}
 use Rattle.on_demand.specs.Demand.{gated, has_body, claims, claimed, body_of}
 use Rattle.linking_metadata.specs.Namespaces.{common_js_of, is_namespace}

@@ -1,10 +1,10 @@
 -- A module's bit, and the forwards that waited for it (K1): `deferred_forwarding_refs.remove`.
 use Rattle.std.proofs.Common.{◌≡◌, ℕ, ◌-◌, Bool, true, false, eqb, ◌⊎◌, List, [], ◌∷◌, sym, refl, ap, ◌∙◌, subst, inl, inr, eqb-true}
 use borrow.Author.Tests.{eqb-false}
-use Rattle.graph.specs.Check.{Graph}
-use Rattle.graph_access.specs.Names.{declaring_statements, only}
-use Rattle.graph_access.specs.Words.{symbol_of, normal}
-use Rattle.facts.specs.Facts.{module_fact, statement_fact}
+use Rattle.determine_side_effects.specs.graph_crate.Check.{Graph}
+use Rattle.determine_side_effects.specs.graph_access_crate.Names.{declaring_statements, only}
+use Rattle.determine_side_effects.specs.graph_access_crate.Words.{symbol_of, normal}
+use Rattle.determine_side_effects.specs.facts_crate.Facts.{module_fact, statement_fact}
 use Rattle.determine_side_effects.specs.Effects.{last_verdicts}
 use Rattle.rust_values.specs.Values.{In}
 use Rattle.rust_engine.specs.Context.{Context, set_module, set_changed, set_deferred}

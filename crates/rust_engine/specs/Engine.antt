@@ -1,9 +1,9 @@
 -- The engine of include_statements.rs (000), function by function under the Rust's names: a stack of work items, sets, no memory of uses.
 -- Nothing here is taken from the keep rules: only the words of the decoded graph.
 use Rattle.std.specs.Prelude.{◌≡◌, ℕ, zero, suc, ◌+◌, Bool, true, false, not, ◌&&◌, ◌||◌, List, [], ◌∷◌, ◌++◌, ◌==◌, nat_lt, slice_index, slice_index_or}
-use Rattle.graph.specs.Check.{Graph}
-use Rattle.graph_access.specs.Names.{exports, module_type, flags, wrap, wrapper, reexport_count, import_records, dependencies, named_imports, common_js_export_symbols, resolved_exports, enum_members, only, import_record_target, import_record_kind, import_record_bits, enum_name, enum_member, symbol_name, alias_namespace, alias_name, constant_bits, export_chain, declaring_statements, written_property_statements, statement_bits, statement_import_records, references, reference_kind, reference_symbol, reference_flag, property_count, first_property, depended_on}
-use Rattle.graph_access.specs.Words.{flag, some, module_of, symbol_of, statement_of, normal, option}
+use Rattle.determine_side_effects.specs.graph_crate.Check.{Graph}
+use Rattle.determine_side_effects.specs.graph_access_crate.Names.{exports, module_type, flags, wrap, wrapper, reexport_count, import_records, dependencies, named_imports, common_js_export_symbols, resolved_exports, enum_members, only, import_record_target, import_record_kind, import_record_bits, enum_name, enum_member, symbol_name, alias_namespace, alias_name, constant_bits, export_chain, declaring_statements, written_property_statements, statement_bits, statement_import_records, references, reference_kind, reference_symbol, reference_flag, property_count, first_property, depended_on}
+use Rattle.determine_side_effects.specs.graph_access_crate.Words.{flag, some, module_of, symbol_of, statement_of, normal, option}
 use Rattle.keep_record.specs.Lines.{elem}
 use Rattle.rust_values.specs.Values.{has_pair, Found, none, found, optional, get, In, is_empty}
 use Rattle.rust_engine.specs.Context.{WorkItem, module_item, symbol_item, statement_item, Context, push, rest, set_module, set_statement, insert_used, insert_external, insert_reason, insert_json, insert_bailout, insert_swept, set_deferred, set_changed, when, for_each, ◌▷◌}

@@ -1,12 +1,12 @@
 -- T11 for the engine: whatever the Rust has included when its queue is empty is what the smallest closed choice that holds the starts so far
 -- shows. A context may be made over rows that an earlier one has filled, its base (000:454): then closed but for the base.
 use Rattle.std.specs.Prelude.{◌≡◌, ℕ, zero, suc, ◌+◌, ◌-◌, ◌*◌, ◌<◌, Bool, true, false, ◌⊎◌, ◌↔◌, List, [], ◌∷◌, ◌++◌, map, length, get_or, slice_index_or}
-use Rattle.graph.specs.Check.{Graph}
-use Rattle.graph_access.specs.Names.{owner, declaring_statements, only}
-use Rattle.graph_access.specs.Words.{symbol_of, normal}
-use Rattle.facts.specs.declared.Fact.{Fact}
-use Rattle.facts.specs.declared.Fact.TheVariants.{Module, Statement, Use, CheckedUse, Forward, Bailout}
-use Rattle.facts.specs.Facts.{module_fact, statement_fact, use_fact, checked_fact, forward_fact, bailout_fact}
+use Rattle.determine_side_effects.specs.graph_crate.Check.{Graph}
+use Rattle.determine_side_effects.specs.graph_access_crate.Names.{owner, declaring_statements, only}
+use Rattle.determine_side_effects.specs.graph_access_crate.Words.{symbol_of, normal}
+use Rattle.determine_side_effects.specs.facts_crate.declared.Fact.{Fact}
+use Rattle.determine_side_effects.specs.facts_crate.declared.Fact.TheVariants.{Module, Statement, Use, CheckedUse, Forward, Bailout}
+use Rattle.determine_side_effects.specs.facts_crate.Facts.{module_fact, statement_fact, use_fact, checked_fact, forward_fact, bailout_fact}
 use Rattle.determine_side_effects.specs.Effects.{last_verdicts}
 use Rattle.keep_rules.specs.Rules.{gives}
 use Rattle.keep_record.specs.Lines.{elem}

@@ -1,9 +1,9 @@
 -- on_demand.rs (001), function by function.
 use Rattle.std.specs.Prelude.{ℕ, zero, suc, ◌+◌, Bool, true, false, not, ◌&&◌, List, [], ◌∷◌, ◌++◌, map, ◌==◌, nat_lt, slice_index}
-use Rattle.rows.specs.Walk.{Item}
-use Rattle.graph.specs.Check.{Graph}
-use Rattle.graph_access.specs.Names.{exports, flags, namespace, own_exports, only, statement_bits, statement_import_records, references, entry_module, entry_kind}
-use Rattle.graph_access.specs.Words.{flag, some, module_of, statement_of, normal, option}
+use Rattle.determine_side_effects.specs.rows_crate.Walk.{Item}
+use Rattle.determine_side_effects.specs.graph_crate.Check.{Graph}
+use Rattle.determine_side_effects.specs.graph_access_crate.Names.{exports, flags, namespace, own_exports, only, statement_bits, statement_import_records, references, entry_module, entry_kind}
+use Rattle.determine_side_effects.specs.graph_access_crate.Words.{flag, some, module_of, statement_of, normal, option}
 use Rattle.keep_record.specs.Lines.{elem}
 use Rattle.rust_values.specs.Values.{Pair, pair, none, found, optional, is_empty}
 use Rattle.rust_engine.specs.Tables.{canonical_ref_for, iter_enumerated_without_namespace_stmt}

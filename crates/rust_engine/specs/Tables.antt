@@ -1,8 +1,8 @@
 -- The tables that the Rust's functions ask, over the words of the decoded graph. `v` are the modules' side effects as 002 leaves them.
 use Rattle.std.specs.Prelude.{ℕ, ◌-◌, Bool, true, false, ◌||◌, List, [], ◌∷◌, length, ◌==◌, nat_eq, slice_index}
-use Rattle.graph.specs.Check.{Graph}
-use Rattle.graph_access.specs.Names.{namespace, common_js_namespaces, export_name, export_symbol, namespace_symbol, namespace_module, owner}
-use Rattle.graph_access.specs.Words.{tabulate, module_of, symbol_of, statement_list, root_of}
+use Rattle.determine_side_effects.specs.graph_crate.Check.{Graph}
+use Rattle.determine_side_effects.specs.graph_access_crate.Names.{namespace, common_js_namespaces, export_name, export_symbol, namespace_symbol, namespace_module, owner}
+use Rattle.determine_side_effects.specs.graph_access_crate.Words.{tabulate, module_of, symbol_of, statement_list, root_of}
 use Rattle.rust_values.specs.Values.{Found, none, found, optional}
 
 -- ctx.symbols.canonical_ref_for

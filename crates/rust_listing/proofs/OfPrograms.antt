@@ -9,8 +9,8 @@ use borrow.Author.Tests.{ltb-true, ltb-false, lt-ltb, le-ltb}
 use lib.Dec.{ltb}
 use lib.ListN.{length}
 use Rattle.leb128.specs.Read.{all, read_of}
-use Rattle.graph.specs.Check.{Graph, graph_in}
-use Rattle.graph_access.specs.Words.{option}
+use Rattle.determine_side_effects.specs.graph_crate.Check.{Graph, graph_in}
+use Rattle.determine_side_effects.specs.graph_access_crate.Words.{option}
 use Rattle.run_rows.specs.Run.{Run, run_of}
 use Rattle.run_parts.specs.Operation.{short, done, worked, outcome_of}
 use Rattle.run_choices.proofs.Done.{outcome_work, outcome_accepted}

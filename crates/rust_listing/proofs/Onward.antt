@@ -5,20 +5,20 @@ use mathlib.Core.List.{List, [], ◌∷◌, map}
 use native.Mathlib.Decide.{dec_lt}
 use native.Mathlib.Omega.{arith}
 use lib.ListN.{length, get_or, drop, length-map}
-use Rattle.rows.specs.Walk.{Parsed, got, Rule, below, many, firsts, ListRule, list, lists, plain_row, Item}
-use Rattle.rows.proofs.Cells.{Cells, cells_got}
-use Rattle.rows.proofs.Items.{got_same, many_first, item_got, list_got, lists_first}
-use Rattle.graph_format.specs.declared.Header.{Header}
-use Rattle.graph_format.specs.declared.Left.{Left}
-use Rattle.graph_format.specs.Format.{import_lists, module_lists, module_at, less_module, modules_at}
-use Rattle.graph_tables.specs.Tables.{header_in, modules_read, modules_in}
-use Rattle.graph.specs.Check.{graph_in}
-use Rattle.graph.specs.Loaded.{Loaded}
-use Rattle.graph_access.specs.Names.{import_records}
-use Rattle.graph_access.specs.Lists.{module_widths}
-use Rattle.graph_access.proofs.Fixed.{Columns, AllColumns}
-use Rattle.graph_access.proofs.OfItems.{module_columns}
-use Rattle.graph_access.proofs.Indexes.{helper_there}
+use Rattle.determine_side_effects.specs.rows_crate.Walk.{Parsed, got, Rule, below, many, firsts, ListRule, list, lists, plain_row, Item}
+use Rattle.determine_side_effects.proofs.rows_crate.Cells.{Cells, cells_got}
+use Rattle.determine_side_effects.proofs.rows_crate.Items.{got_same, many_first, item_got, list_got, lists_first}
+use Rattle.determine_side_effects.specs.graph_format_crate.declared.Header.{Header}
+use Rattle.determine_side_effects.specs.graph_format_crate.declared.Left.{Left}
+use Rattle.determine_side_effects.specs.graph_format_crate.Format.{import_lists, module_lists, module_at, less_module, modules_at}
+use Rattle.determine_side_effects.specs.graph_tables_crate.Tables.{header_in, modules_read, modules_in}
+use Rattle.determine_side_effects.specs.graph_crate.Check.{graph_in}
+use Rattle.determine_side_effects.specs.graph_crate.Loaded.{Loaded}
+use Rattle.determine_side_effects.specs.graph_access_crate.Names.{import_records}
+use Rattle.determine_side_effects.specs.graph_access_crate.Lists.{module_widths}
+use Rattle.determine_side_effects.proofs.graph_access_crate.Fixed.{Columns, AllColumns}
+use Rattle.determine_side_effects.proofs.graph_access_crate.OfItems.{module_columns}
+use Rattle.determine_side_effects.proofs.graph_access_crate.Indexes.{helper_there}
 use Rattle.dynamic_entries.specs.Alive.{records_before}
 use Rattle.dead_records.specs.Dead.{record_count}
 

@@ -10,16 +10,16 @@ use lib.Dec.{leb}
 use lib.ListN.{length, get_or}
 use Rattle.bit_row.specs.Row.{bytes_for}
 use Rattle.bit_row.proofs.Size.{bytes_no_more}
-use Rattle.rows.specs.Walk.{no_item}
-use Rattle.graph_format.specs.Format.{statements_of}
-use Rattle.graph_tables.specs.Tables.{header_in, modules_in, first_of}
-use Rattle.graph_tables.proofs.Facts.{modules_long}
-use Rattle.graph_tables.proofs.ByModule.{first_step, first_fits}
-use Rattle.graph.specs.Check.{Graph, graph_in}
-use Rattle.graph.specs.Loaded.{Loaded}
-use Rattle.graph_access.specs.Words.{statement_list}
-use Rattle.graph_access.proofs.StatementNumbers.{all_long}
-use Rattle.facts.specs.Facts.{mark_count}
+use Rattle.determine_side_effects.specs.rows_crate.Walk.{no_item}
+use Rattle.determine_side_effects.specs.graph_format_crate.Format.{statements_of}
+use Rattle.determine_side_effects.specs.graph_tables_crate.Tables.{header_in, modules_in, first_of}
+use Rattle.determine_side_effects.proofs.graph_tables_crate.Facts.{modules_long}
+use Rattle.determine_side_effects.proofs.graph_tables_crate.ByModule.{first_step, first_fits}
+use Rattle.determine_side_effects.specs.graph_crate.Check.{Graph, graph_in}
+use Rattle.determine_side_effects.specs.graph_crate.Loaded.{Loaded}
+use Rattle.determine_side_effects.specs.graph_access_crate.Words.{statement_list}
+use Rattle.determine_side_effects.proofs.graph_access_crate.StatementNumbers.{all_long}
+use Rattle.determine_side_effects.specs.facts_crate.Facts.{mark_count}
 use Rattle.answer_rows.specs.Shown.{bytes_before, row_bytes, rows_enough}
 use Rattle.answer_rows.proofs.FirstBytes.{before_step}
 use Rattle.dead_records.specs.Dead.{record_count}

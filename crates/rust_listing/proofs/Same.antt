@@ -6,9 +6,9 @@ use mathlib.Core.List.{List, [], ◌∷◌, ◌++◌}
 use lib.Dec.{eqb}
 use lib.ListN.{length, get_or, take}
 use Rattle.bit_row.specs.Row.{bit_at}
-use Rattle.graph.specs.Check.{Graph}
-use Rattle.graph_access.specs.Names.{owner, import_records}
-use Rattle.graph_access.specs.Words.{module_of, symbol_of, statement_list, normal}
+use Rattle.determine_side_effects.specs.graph_crate.Check.{Graph}
+use Rattle.determine_side_effects.specs.graph_access_crate.Names.{owner, import_records}
+use Rattle.determine_side_effects.specs.graph_access_crate.Words.{module_of, symbol_of, statement_list, normal}
 use Rattle.keep_record.specs.Lines.{elem}
 use Rattle.answer_rows.specs.Shown.{bytes_before, bit_value}
 use Rattle.dynamic_entries.specs.Alive.{records_before}

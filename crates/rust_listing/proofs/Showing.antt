@@ -8,10 +8,10 @@ use borrow.Author.Tests.{eqb-true, eq-eqb}
 use lib.Dec.{eqb}
 use lib.ListN.{length, get_or, replicate}
 use Rattle.bit_row.specs.Row.{bit_at}
-use Rattle.graph.specs.declared.Checked.TheVariants.{Accepted}
-use Rattle.graph.specs.Check.{Graph, graph_in, check_of, answer_of}
-use Rattle.graph_access.specs.Names.{owner, import_records}
-use Rattle.graph_access.specs.Words.{option, module_of, symbol_of}
+use Rattle.determine_side_effects.specs.graph_crate.declared.Checked.TheVariants.{Accepted}
+use Rattle.determine_side_effects.specs.graph_crate.Check.{Graph, graph_in, check_of, answer_of}
+use Rattle.determine_side_effects.specs.graph_access_crate.Names.{owner, import_records}
+use Rattle.determine_side_effects.specs.graph_access_crate.Words.{option, module_of, symbol_of}
 use Rattle.determine_side_effects.specs.Effects.{last_verdicts}
 use Rattle.determine_side_effects.proofs.Lists.{both}
 use Rattle.keep_record.specs.Lines.{elem}

@@ -7,7 +7,7 @@ use native.Mathlib.Numerals.{add-one}
 use native.Mathlib.Omega.{arith}
 use lib.ListN.{length, get_or, take, drop, length-take}
 use lib.Seq.{drop-cons}
-use Rattle.graph.specs.Check.{Graph}
+use Rattle.determine_side_effects.specs.graph_crate.Check.{Graph}
 use Rattle.answer_rows.specs.Shown.{bit_value}
 use Rattle.listing.specs.Text.{only_if, text_of}
 use Rattle.listing.specs.Listing.{Shown, entry_text}

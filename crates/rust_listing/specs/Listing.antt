@@ -1,9 +1,9 @@
 -- The listing of an outcome of the Rust: the lines that the program `keep` prints (docs/OPERATIONS.md, Program keep), with what the Rust has in its sets
 -- and tables in place of rows of bits. The oracle prints these lines of the Rust itself (oracle/src/listing.rs).
 use Rattle.std.specs.Prelude.{ℕ, ◌+◌, ◌*◌, Bool, true, false, List, [], ◌∷◌, ◌++◌, length, get_or}
-use Rattle.graph.specs.Check.{Graph}
-use Rattle.graph_access.specs.Names.{entry_module, entry_kind, import_records}
-use Rattle.graph_access.specs.Words.{module_of, statement_list, entry_of, normal}
+use Rattle.determine_side_effects.specs.graph_crate.Check.{Graph}
+use Rattle.determine_side_effects.specs.graph_access_crate.Names.{entry_module, entry_kind, import_records}
+use Rattle.determine_side_effects.specs.graph_access_crate.Words.{module_of, statement_list, entry_of, normal}
 use Rattle.keep_record.specs.Lines.{elem}
 use Rattle.listing.specs.Text.{line, only_if, text_of}
 use Rattle.listing.specs.Listing.{rounds_word, entry_word, module_word, statement_word, used_word, external_word, json_word, dead_word}

@@ -1,9 +1,9 @@
 -- What the program `keep` prints for a file of at most 8,192 bytes, and when it refuses. The theorems are in proofs/OfPrograms.antt.
 use Rattle.std.specs.Prelude.{ℕ, ◌+◌, ◌≤◌, ◌≡◌, ◌⊎◌, Bool, true, false, List, ltb, length}
 use Rattle.leb128.specs.Read.{all, refused, read_of}
-use Rattle.graph.specs.declared.Checked.TheVariants.{Accepted}
-use Rattle.graph.specs.Check.{Graph, graph_in, check_of, answer_of}
-use Rattle.graph_access.specs.Words.{option}
+use Rattle.determine_side_effects.specs.graph_crate.declared.Checked.TheVariants.{Accepted}
+use Rattle.determine_side_effects.specs.graph_crate.Check.{Graph, graph_in, check_of, answer_of}
+use Rattle.determine_side_effects.specs.graph_access_crate.Words.{option}
 use Rattle.dynamic_entries.specs.Alive.{records_before}
 use Rattle.dead_records.specs.Dead.{dead_record}
 use Rattle.run_rows.specs.Run.{Run, run_of}

@@ -5,8 +5,8 @@ use mathlib.Core.Bool.{Bool, true, false}
 use mathlib.Core.List.{List, [], ◌∷◌}
 use native.Mathlib.Omega.{arith}
 use lib.Dec.{eqb}
-use Rattle.graph.specs.Check.{Graph, graph_in}
-use Rattle.graph.specs.Loaded.{Loaded}
+use Rattle.graph_access.specs.graph_crate.Check.{Graph, graph_in}
+use Rattle.graph_access.specs.graph_crate.Loaded.{Loaded}
 use Rattle.graph_access.specs.Names.{import_records, import_record_target, import_record_kind}
 use Rattle.graph_access.specs.Words.{module_of, normal}
 use Rattle.keep_record.specs.Lines.{elem}

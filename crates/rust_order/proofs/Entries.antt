@@ -3,8 +3,8 @@ use Prim.Native.Nat.{ℕ, ◌<◌}
 use mathlib.Core.Path.{◌≡◌, refl, ap, ◌∙◌}
 use mathlib.Core.Bool.{true, false}
 use mathlib.Core.List.{List, []}
-use Rattle.graph.specs.Check.{Graph, graph_in}
-use Rattle.graph.specs.Loaded.{Loaded}
+use Rattle.graph_access.specs.graph_crate.Check.{Graph, graph_in}
+use Rattle.graph_access.specs.graph_crate.Loaded.{Loaded}
 use Rattle.graph_access.specs.Names.{import_records}
 use Rattle.graph_access.specs.Words.{module_of}
 use Rattle.graph_access.proofs.Indexes.{entry_module_below}

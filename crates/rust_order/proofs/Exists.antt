@@ -4,9 +4,9 @@ use mathlib.Core.Path.{◌≡◌, refl, ap, ◌∙◌, sym, subst}
 use mathlib.Core.Logic.{inr}
 use mathlib.Core.Bool.{true}
 use mathlib.Core.List.{List}
-use Rattle.graph.specs.declared.Checked.TheVariants.{Accepted}
-use Rattle.graph.specs.Check.{graph_in, check_of, answer_of}
-use Rattle.graph.specs.Loaded.{Loaded}
+use Rattle.graph_access.specs.graph_crate.declared.Checked.TheVariants.{Accepted}
+use Rattle.graph_access.specs.graph_crate.Check.{graph_in, check_of, answer_of}
+use Rattle.graph_access.specs.graph_crate.Loaded.{Loaded}
 use Rattle.keep_record.specs.Lines.{elem}
 use Rattle.entry_order.specs.Order.{dynamic_entries}
 use Rattle.entry_graph.specs.Ordering.{entry_graph}

@@ -5,9 +5,9 @@ use mathlib.Core.Logic.{◌⊎◌, inl, inr}
 use mathlib.Core.Bool.{true, false, not}
 use mathlib.Core.List.{List}
 use borrow.Author.Tests.{lt-ltb, not_true, not-false}
-use Rattle.graph.specs.declared.Checked.TheVariants.{Accepted}
-use Rattle.graph.specs.Check.{Graph, graph_in, check_of, answer_of}
-use Rattle.graph.specs.Loaded.{Loaded}
+use Rattle.graph_access.specs.graph_crate.declared.Checked.TheVariants.{Accepted}
+use Rattle.graph_access.specs.graph_crate.Check.{Graph, graph_in, check_of, answer_of}
+use Rattle.graph_access.specs.graph_crate.Loaded.{Loaded}
 use Rattle.keep_record.specs.Lines.{elem}
 use Rattle.keep_record.specs.Held.{Distinct}
 use Rattle.keep_record.proofs.Adding.{left_false, right_false}

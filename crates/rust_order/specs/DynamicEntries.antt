@@ -1,7 +1,7 @@
 -- The order of dynamic entries in dynamic_entries.rs (003): the walk as it stands, and the sort, under the Rust's names. An entry is its number in
 -- the graph. Nothing here is taken from the definitions of the port: only the words of the decoded graph.
 use Rattle.std.specs.Prelude.{ℕ, zero, suc, ◌+◌, ◌<◌, ◌≡◌, Bool, true, false, List, [], ◌∷◌, ◌++◌, map, eqb, ltb, length, get_or}
-use Rattle.graph.specs.Check.{Graph}
+use Rattle.graph_access.specs.graph_crate.Check.{Graph}
 use Rattle.graph_access.specs.Names.{import_records, import_record_target, import_record_kind, entry_module}
 use Rattle.graph_access.specs.Words.{module_of, normal, entry_of}
 use Rattle.keep_record.specs.Lines.{elem}

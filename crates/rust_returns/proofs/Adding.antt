@@ -7,13 +7,13 @@ use mathlib.Core.Bool.{Bool, true, false, ◌&&◌, ◌||◌, not}
 use mathlib.Core.List.{List, [], ◌∷◌, ◌++◌}
 use lib.Dec.{eqb, ltb}
 use lib.ListN.{get_or}
-use Rattle.graph.specs.Check.{Graph}
-use Rattle.graph_access.specs.Names.{exports, module_type, flags, import_records, dependencies, named_imports, common_js_export_symbols, only, import_record_target, import_record_bits, import_record_kind, alias_namespace, alias_name, export_chain, declaring_statements, written_property_statements, statement_bits, statement_import_records, references, reference_kind, reference_symbol, reference_flag, depended_on, reexport_count}
-use Rattle.graph_access.specs.Words.{flag, module_of, symbol_of, statement_of, normal, option}
+use Rattle.determine_side_effects.specs.graph_crate.Check.{Graph}
+use Rattle.determine_side_effects.specs.graph_access_crate.Names.{exports, module_type, flags, import_records, dependencies, named_imports, common_js_export_symbols, only, import_record_target, import_record_bits, import_record_kind, alias_namespace, alias_name, export_chain, declaring_statements, written_property_statements, statement_bits, statement_import_records, references, reference_kind, reference_symbol, reference_flag, depended_on, reexport_count}
+use Rattle.determine_side_effects.specs.graph_access_crate.Words.{flag, module_of, symbol_of, statement_of, normal, option}
 use Rattle.keep_record.specs.Lines.{elem}
 use Rattle.rust_values.specs.Values.{In, Found, none, found, optional, get}
 use Rattle.rust_values.proofs.Members.{in_append}
-use Rattle.rust_engine.specs.Context.{WorkItem, module_item, symbol_item, statement_item, Context, push, insert_reason, insert_bailout, insert_swept, set_deferred, for_each, when as whenDo}
+use Rattle.rust_engine.specs.Context.{WorkItem, module_item, symbol_item, statement_item, Context, push, insert_reason, insert_bailout, insert_swept, set_deferred, for_each, when as when_do}
 use Rattle.rust_engine.specs.Tables.{canonical_ref_for, owner_of, has_side_effects, import_record_ns_to_cjs_module, is_module_namespace, iter_enumerated_without_namespace_stmt}
 use Rattle.rust_engine.specs.OnDemand.{is_gated_side_effect_stmt, compute_body_demand_keys}
 use Rattle.rust_engine.specs.Engine.{bailout_of, default_bailout, check_cjs_bailout, push_symbol_and_check_cjs_bailout, enqueue_declaring_statements, defer, retain_forwarding_declaration, retain_forwarding_declarations, waiting_for, waiting_for_others, drain_deferred, sweeps, sweep_side_effect_statements, include_whole, include_statements_without_treeshaking, include_dependency, index_set, include_side_effectful_dependencies, Orders, module_body, sweep_body, drain_body_demand_stmts, include_property_write_referencing_stmts, scan_record, scan_one, scan_import_records_for_cjs_bailout, is_inlined_enum_member_access, include_kind, include_plain, include_resolved, include_reference}
@@ -82,7 +82,7 @@ module _ (P : WorkItem → Type 0) where
     adds-check s c =
         let t = canonical_ref_for g s in
         let c₁ = bailout_of (import_record_ns_to_cjs_module g t) c in
-        let c₂ = whenDo (is_module_namespace g t) (insert_bailout (owner_of g t)) c₁ in
+        let c₂ = when_do (is_module_namespace g t) (insert_bailout (owner_of g t)) c₁ in
         adds_then c c₂ _ (adds_then c c₁ c₂ (adds-bailout-of (import_record_ns_to_cjs_module g t) c)
         (adds_when (is_module_namespace g t) (insert_bailout (owner_of g t)) c₁ (adds-insert-bailout (owner_of g t) c₁)))
         (adds-default t (optional (alias_namespace (symbol_of g t))) c₂)
@@ -132,7 +132,7 @@ module _ (P : WorkItem → Type 0) where
       adds-sweep : (v : List ℕ) (m : ℕ) (c : Context) → Adds P c (sweep_side_effect_statements g v m c)
       unfolding sweep_side_effect_statements
       adds-sweep v m c =
-          adds_each (λ i. whenDo (sweeps g v m i) (push (statement_item m i))) (iter_enumerated_without_namespace_stmt g m) c
+          adds_each (λ i. when_do (sweeps g v m i) (push (statement_item m i))) (iter_enumerated_without_namespace_stmt g m) c
           (λ i d. adds_when (sweeps g v m i) (push (statement_item m i)) d (adds_push (statement_item m i) d (ps m i)))
 
       adds-whole-one : (m i : ℕ) (c : Context) → Adds P c (include_whole g m i c)
@@ -159,12 +159,12 @@ module _ (P : WorkItem → Type 0) where
           none-put : Adds P c d
           none-put = adds_none c d refl
 
-          go : (q : Bool) → Adds P c (elim q [ true ↦ c | false ↦ whenDo (normal g b) (for_each (λ i. whenDo (is_gated_side_effect_stmt (statement_of g b i)) (push (statement_item b i))) (iter_enumerated_without_namespace_stmt g b)) (insert_swept b c) ])
+          go : (q : Bool) → Adds P c (elim q [ true ↦ c | false ↦ when_do (normal g b) (for_each (λ i. when_do (is_gated_side_effect_stmt (statement_of g b i)) (push (statement_item b i))) (iter_enumerated_without_namespace_stmt g b)) (insert_swept b c) ])
           go true = adds_none c c refl
           go false =
               adds_then c d _ none-put
-              (adds_when (normal g b) (for_each (λ i. whenDo (is_gated_side_effect_stmt (statement_of g b i)) (push (statement_item b i))) (iter_enumerated_without_namespace_stmt g b)) d
-              (adds_each (λ i. whenDo (is_gated_side_effect_stmt (statement_of g b i)) (push (statement_item b i))) (iter_enumerated_without_namespace_stmt g b) d
+              (adds_when (normal g b) (for_each (λ i. when_do (is_gated_side_effect_stmt (statement_of g b i)) (push (statement_item b i))) (iter_enumerated_without_namespace_stmt g b)) d
+              (adds_each (λ i. when_do (is_gated_side_effect_stmt (statement_of g b i)) (push (statement_item b i))) (iter_enumerated_without_namespace_stmt g b) d
               (λ i e. adds_when (is_gated_side_effect_stmt (statement_of g b i)) (push (statement_item b i)) e (adds_push (statement_item b i) e (ps b i)))))
 
       pub adds-demand : (v : List ℕ) (s : ℕ) (c : Context) → Adds P c (drain_body_demand_stmts g v s c)
@@ -176,7 +176,7 @@ module _ (P : WorkItem → Type 0) where
       unfolding include_property_write_referencing_stmts
       adds-writes s c =
           let f = for_each (λ row. push (statement_item (owner_of g s) (only row))) (written_property_statements (symbol_of g s)) in
-          adds_when (option g 3) (whenDo (normal g (owner_of g s)) f) c
+          adds_when (option g 3) (when_do (normal g (owner_of g s)) f) c
           (adds_when (normal g (owner_of g s)) f c
           (adds_each (λ row. push (statement_item (owner_of g s) (only row))) (written_property_statements (symbol_of g s)) c
           (λ row d. adds_push (statement_item (owner_of g s) (only row)) d (ps (owner_of g s) (only row)))))
@@ -187,10 +187,10 @@ module _ (P : WorkItem → Type 0) where
       unfolding include_dependency
       adds-dependency v n c = go (elem n c.modules)
         where
-          go : (b : Bool) → Adds P c (elim b [ true ↦ c | false ↦ whenDo (normal g n) (whenDo (not (option g 0) || has_side_effects v n) (push (module_item n))) c ])
+          go : (b : Bool) → Adds P c (elim b [ true ↦ c | false ↦ when_do (normal g n) (when_do (not (option g 0) || has_side_effects v n) (push (module_item n))) c ])
           go true = adds_none c c refl
           go false =
-              adds_when (normal g n) (whenDo (not (option g 0) || has_side_effects v n) (push (module_item n))) c
+              adds_when (normal g n) (when_do (not (option g 0) || has_side_effects v n) (push (module_item n))) c
               (adds_when (not (option g 0) || has_side_effects v n) (push (module_item n)) c (adds_push (module_item n) c (all (module_item n))))
 
       adds-checked-all : (rows : List (List ℕ)) (c : Context) → Adds P c (for_each (λ row. push_symbol_and_check_cjs_bailout g (only row) 1) rows c)
@@ -205,7 +205,7 @@ module _ (P : WorkItem → Type 0) where
           let c₂ = include_side_effectful_dependencies g v m c₁ in
           let eval = flag 0 (flags (module_of g m)) && ltb (module_type (module_of g m)) 2 in
           let imports = for_each (λ row. push_symbol_and_check_cjs_bailout g (only row) 1) (order.of_imports (named_imports (module_of g m))) in
-          let c₃ = whenDo eval imports c₂ in
+          let c₃ = when_do eval imports c₂ in
           let c₄ = for_each (λ row. push_symbol_and_check_cjs_bailout g (only row) 1) (order.of_exports (common_js_export_symbols (module_of g m))) c₃ in
           let dev = option g 4 && (not (eqb m g.header.runtime) && eqb (exports (module_of g m)) 0) in
           adds_then c c₄ _
@@ -228,12 +228,12 @@ module _ (P : WorkItem → Type 0) where
       unfolding scan_record
       adds-scan v m row none c = adds_none c c refl
       adds-scan v m row (found t) c =
-          let f : Context → Context = λ c. elim (flag 2 (flags (module_of g m))) [ true ↦ whenDo (ltb 1 (reexport_count (module_of g m))) (insert_bailout t) c | false ↦ insert_bailout t c ] in
+          let f : Context → Context = λ c. elim (flag 2 (flags (module_of g m))) [ true ↦ when_do (ltb 1 (reexport_count (module_of g m))) (insert_bailout t) c | false ↦ insert_bailout t c ] in
           let a = not (flag 1 (import_record_bits row) && not (has_side_effects v t)) in
           let b = not (not (eqb (exports (module_of g t)) 1) || eqb (import_record_kind row) 0) in
-          adds_when (normal g t) (whenDo b (whenDo a f)) c (adds_when b (whenDo a f) c (adds_when a f c (last (flag 2 (flags (module_of g m))))))
+          adds_when (normal g t) (when_do b (when_do a f)) c (adds_when b (when_do a f) c (adds_when a f c (last (flag 2 (flags (module_of g m))))))
         where
-          last : (b : Bool) → Adds P c (elim b [ true ↦ whenDo (ltb 1 (reexport_count (module_of g m))) (insert_bailout t) c | false ↦ insert_bailout t c ])
+          last : (b : Bool) → Adds P c (elim b [ true ↦ when_do (ltb 1 (reexport_count (module_of g m))) (insert_bailout t) c | false ↦ insert_bailout t c ])
           last true = adds_when (ltb 1 (reexport_count (module_of g m))) (insert_bailout t) c (adds-insert-bailout t c)
           last false = adds-insert-bailout t c
 

@@ -7,14 +7,14 @@ use mathlib.Core.List.{List, [], ◌∷◌}
 use borrow.Author.Tests.{ltb-true}
 use lib.Dec.{ltb}
 use lib.ListN.{length, get_or}
-use Rattle.graph.specs.declared.Checked.TheVariants.{Accepted}
-use Rattle.rows.specs.Walk.{and_then, within, obeys, number, cells, many, elem, firsts, list, plain_row, repeated, distinct_row, lists, item, walk_of, onward, columns_of, row_of, firsts_at}
-use Rattle.graph_format.specs.Format.{header_rules, header_of, namespace_limit, least_statements, statement_limit, module_rules, import_lists, export_lists, name_lists, module_lists, module_at, less_module, modules_at, kind_of, statements_of, import_records_of, symbol_rules, owners_counts, symbol_lists, symbol_at, symbols_at, depended_at, member_rules, parts_at, reference_at, statement_lists, statement_at, module_statements, statements_at, related_module_at, related_import_record_at, related_at, entry_at, entries_at}
-use Rattle.graph_tables.specs.Tables.{items_of, end_of, header_in, modules_read, modules_in, symbols_read, symbols_in, statements_read, statements_in, entries_read, entries_in, first_of}
-use Rattle.graph.specs.Check.{helpers_at, graph_at, walked, each, runtime_normal, owns_namespace, root_is_root, later_rules, check_of, answer_of, graph_in, tail_walk, body_walk}
-use Rattle.graph_access.specs.Names.{kind, effects, exports, module_type, flags, wrap, wrapper, namespace, reexport_count, statement_count, scan_effects, scan_statement_count, import_records, dependencies, named_imports, own_exports, entry_references, common_js_export_symbols, resolved_exports, common_js_namespaces, enum_members, module_helpers, only, import_record_target, import_record_kind, import_record_bits, export_name, export_symbol, export_from_common_js, namespace_symbol, namespace_module, enum_name, enum_member, helper_number, helper_statement, owner, symbol_name, root, alias_namespace, alias_name, constant_bits, export_chain, declaring_statements, written_property_statements, statement_bits, statement_import_records, references, reference_kind, reference_symbol, reference_flag, property_count, first_property, depended_on, entry_module, entry_kind, related, related_module, related_statement, related_import_record, unreachable}
-use Rattle.graph_access.specs.Words.{flag, tabulate, some, module_of, symbol_of, statement_list, statement_of, normal, option, entry_of, root_of}
-use Rattle.facts.specs.Facts.{fact_of, mark_of, mark_count}
+use Rattle.determine_side_effects.specs.graph_crate.declared.Checked.TheVariants.{Accepted}
+use Rattle.determine_side_effects.specs.rows_crate.Walk.{and_then, within, obeys, number, cells, many, elem, firsts, list, plain_row, repeated, distinct_row, lists, item, walk_of, onward, columns_of, row_of, firsts_at}
+use Rattle.determine_side_effects.specs.graph_format_crate.Format.{header_rules, header_of, namespace_limit, least_statements, statement_limit, module_rules, import_lists, export_lists, name_lists, module_lists, module_at, less_module, modules_at, kind_of, statements_of, import_records_of, symbol_rules, owners_counts, symbol_lists, symbol_at, symbols_at, depended_at, member_rules, parts_at, reference_at, statement_lists, statement_at, module_statements, statements_at, related_module_at, related_import_record_at, related_at, entry_at, entries_at}
+use Rattle.determine_side_effects.specs.graph_tables_crate.Tables.{items_of, end_of, header_in, modules_read, modules_in, symbols_read, symbols_in, statements_read, statements_in, entries_read, entries_in, first_of}
+use Rattle.determine_side_effects.specs.graph_crate.Check.{helpers_at, graph_at, walked, each, runtime_normal, owns_namespace, root_is_root, later_rules, check_of, answer_of, graph_in, tail_walk, body_walk}
+use Rattle.determine_side_effects.specs.graph_access_crate.Names.{kind, effects, exports, module_type, flags, wrap, wrapper, namespace, reexport_count, statement_count, scan_effects, scan_statement_count, import_records, dependencies, named_imports, own_exports, entry_references, common_js_export_symbols, resolved_exports, common_js_namespaces, enum_members, module_helpers, only, import_record_target, import_record_kind, import_record_bits, export_name, export_symbol, export_from_common_js, namespace_symbol, namespace_module, enum_name, enum_member, helper_number, helper_statement, owner, symbol_name, root, alias_namespace, alias_name, constant_bits, export_chain, declaring_statements, written_property_statements, statement_bits, statement_import_records, references, reference_kind, reference_symbol, reference_flag, property_count, first_property, depended_on, entry_module, entry_kind, related, related_module, related_statement, related_import_record, unreachable}
+use Rattle.determine_side_effects.specs.graph_access_crate.Words.{flag, tabulate, some, module_of, symbol_of, statement_list, statement_of, normal, option, entry_of, root_of}
+use Rattle.determine_side_effects.specs.facts_crate.Facts.{fact_of, mark_of, mark_count}
 use Rattle.determine_side_effects.specs.Effects.{effectful, seeds, reaches, moves, moved, pass, passes, settle, relaxed, rescanned, recomputed, first_verdict, first_verdicts, last_verdicts, has_effects}
 use Rattle.on_demand.specs.Demand.{user_entry, on_demand, gated, has_gated, has_body, claims, claimed, body_of}
 use Rattle.linking_metadata.specs.Namespaces.{namespace_in, common_js_of, is_namespace, target_of}
@@ -35,7 +35,7 @@ use Rattle.tree_shaking.specs.Rounds.{bailed, round, kept_module, live_count, ke
 use Rattle.dead_records.specs.Dead.{record_count, is_dead_record, dead_row}
 use Rattle.run_rows.specs.Run.{with_runtime, run_of, helpers_row, entries_row}
 use Rattle.closed_choices.specs.Choice.{nothing_given}
-use Rattle.facts.specs.Facts.{use_fact}
+use Rattle.determine_side_effects.specs.facts_crate.Facts.{use_fact}
 use Rattle.closed_choices.specs.Choice.{HasLine}
 use Rattle.rust_values.specs.Values.{Pair, pair, In}
 use Rattle.rust_returns.specs.Circle.{GivesUse, Circle}

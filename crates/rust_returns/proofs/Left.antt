@@ -5,9 +5,9 @@ use mathlib.Core.Logic.{inl, inr}
 use mathlib.Core.Bool.{Bool, true, false, false≢true}
 use mathlib.Core.List.{List, [], ◌∷◌}
 use native.Mathlib.Omega.{arith}
-use Rattle.facts.specs.declared.Fact.{Fact}
-use Rattle.facts.specs.declared.Fact.TheVariants.{Module, Statement, Use, CheckedUse, Forward, Bailout}
-use Rattle.facts.specs.Facts.{module_fact}
+use Rattle.determine_side_effects.specs.facts_crate.declared.Fact.{Fact}
+use Rattle.determine_side_effects.specs.facts_crate.declared.Fact.TheVariants.{Module, Statement, Use, CheckedUse, Forward, Bailout}
+use Rattle.determine_side_effects.specs.facts_crate.Facts.{module_fact}
 use Rattle.keep_record.specs.Lines.{elem}
 use Rattle.rust_values.specs.Values.{pair, has_pair, In}
 use Rattle.rust_values.proofs.Members.{elem_in, in_elem}

@@ -6,12 +6,12 @@ use mathlib.Core.Bool.{Bool, true, false}
 use mathlib.Core.List.{List, [], ◌∷◌}
 use lib.Dec.{eqb}
 use lib.ListN.{get_or}
-use Rattle.graph.specs.Check.{Graph, graph_in}
-use Rattle.graph.specs.Loaded.{Loaded}
-use Rattle.graph_access.specs.Names.{entry_references, export_symbol, export_from_common_js, resolved_exports, only}
-use Rattle.graph_access.specs.Words.{flag, tabulate, module_of, normal}
-use Rattle.facts.specs.declared.Fact.{Fact}
-use Rattle.facts.specs.Facts.{module_fact, use_fact, checked_fact, bailout_fact}
+use Rattle.determine_side_effects.specs.graph_crate.Check.{Graph, graph_in}
+use Rattle.determine_side_effects.specs.graph_crate.Loaded.{Loaded}
+use Rattle.determine_side_effects.specs.graph_access_crate.Names.{entry_references, export_symbol, export_from_common_js, resolved_exports, only}
+use Rattle.determine_side_effects.specs.graph_access_crate.Words.{flag, tabulate, module_of, normal}
+use Rattle.determine_side_effects.specs.facts_crate.declared.Fact.{Fact}
+use Rattle.determine_side_effects.specs.facts_crate.Facts.{module_fact, use_fact, checked_fact, bailout_fact}
 use Rattle.determine_side_effects.specs.Effects.{last_verdicts}
 use Rattle.entry_order.specs.Order.{those, module_of_entry}
 use Rattle.entry_starts.specs.Starts.{reference_starts, references_starts, module_starts, user_starts}

@@ -6,11 +6,11 @@ use mathlib.Core.Bool.{Bool, true, false, not, false≢true}
 use mathlib.Core.List.{List}
 use native.Mathlib.Omega.{arith}
 use lib.ListN.{length, get_or}
-use Rattle.graph.specs.Check.{Graph}
-use Rattle.graph_access.specs.Words.{normal}
-use Rattle.facts.specs.declared.Fact.{Fact}
-use Rattle.facts.specs.declared.Fact.TheVariants.{Module, Statement, Use, CheckedUse, Forward, Bailout}
-use Rattle.facts.specs.Facts.{module_fact, statement_fact, use_fact, checked_fact}
+use Rattle.determine_side_effects.specs.graph_crate.Check.{Graph}
+use Rattle.determine_side_effects.specs.graph_access_crate.Words.{normal}
+use Rattle.determine_side_effects.specs.facts_crate.declared.Fact.{Fact}
+use Rattle.determine_side_effects.specs.facts_crate.declared.Fact.TheVariants.{Module, Statement, Use, CheckedUse, Forward, Bailout}
+use Rattle.determine_side_effects.specs.facts_crate.Facts.{module_fact, statement_fact, use_fact, checked_fact}
 use Rattle.determine_side_effects.specs.Effects.{last_verdicts}
 use Rattle.keep_rules.specs.Rules.{gives, segments_of, given_by}
 use Rattle.keep_record.specs.Lines.{elem}

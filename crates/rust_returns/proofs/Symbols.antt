@@ -5,17 +5,17 @@ use mathlib.Core.Bool.{Bool, true, false, ◌&&◌, ◌||◌, not}
 use mathlib.Core.List.{List}
 use lib.Dec.{eqb}
 use lib.ListN.{length, get_or}
-use Rattle.graph.specs.Check.{Graph}
-use Rattle.graph_access.specs.Names.{module_type, wrap, wrapper, resolved_exports, alias_namespace, alias_name}
-use Rattle.graph_access.specs.Words.{flag, module_of, symbol_of, normal}
-use Rattle.facts.specs.declared.Fact.{Fact}
-use Rattle.facts.specs.declared.Fact.TheVariants.{Module, Statement, Use, CheckedUse, Forward, Bailout}
-use Rattle.facts.specs.Facts.{use_fact}
+use Rattle.determine_side_effects.specs.graph_crate.Check.{Graph}
+use Rattle.determine_side_effects.specs.graph_access_crate.Names.{module_type, wrap, wrapper, resolved_exports, alias_namespace, alias_name}
+use Rattle.determine_side_effects.specs.graph_access_crate.Words.{flag, module_of, symbol_of, normal}
+use Rattle.determine_side_effects.specs.facts_crate.declared.Fact.{Fact}
+use Rattle.determine_side_effects.specs.facts_crate.declared.Fact.TheVariants.{Module, Statement, Use, CheckedUse, Forward, Bailout}
+use Rattle.determine_side_effects.specs.facts_crate.Facts.{use_fact}
 use Rattle.determine_side_effects.specs.Effects.{last_verdicts}
 use Rattle.keep_rules.specs.Rules.{gives}
 use Rattle.closed_choices.specs.Choice.{nothing_given}
 use Rattle.rust_values.specs.Values.{Found, none, found, optional}
-use Rattle.rust_engine.specs.Context.{WorkItem, module_item, symbol_item, statement_item, Context, push, insert_used, insert_external, insert_reason, insert_json, when as whenDo}
+use Rattle.rust_engine.specs.Context.{WorkItem, module_item, symbol_item, statement_item, Context, push, insert_used, insert_external, insert_reason, insert_json, when as when_do}
 use Rattle.rust_engine.specs.Tables.{canonical_ref_for, owner_of, import_record_ns_to_cjs_module, resolved_export, is_module_namespace}
 use Rattle.rust_engine.specs.Engine.{enqueue_declaring_statements, retain_forwarding_declarations, is_bypassed_inlined_constant, drain_body_demand_stmts, alias_target, push_export, include_named_export, follow_cjs_namespace_alias, note_namespace_inclusion_reason, is_simulated_facade_chunk, demand_wrapper, demand_esm_initialization, note_json_self_reference, symbol_body, handle_include_symbol}
 use Rattle.rust_engine.proofs.Asking.{World}
@@ -175,13 +175,13 @@ module _ (g : Graph) (s x : ℕ) where
       t = alias_target root (optional (alias_namespace (symbol_of g root)))
 
       d₁ : Context
-      d₁ = whenDo (not (flag 4 x)) (drain_body_demand_stmts g v root) c
+      d₁ = when_do (not (flag 4 x)) (drain_body_demand_stmts g v root) c
 
       d₂ : Context
       d₂ = insert_used s d₁
 
       d₃ : Context
-      d₃ = whenDo (not (normal g (owner_of g s))) (insert_external s) d₂
+      d₃ = when_do (not (normal g (owner_of g s))) (insert_external s) d₂
 
       d₄ : Context
       d₄ = follow_cjs_namespace_alias g root (optional (alias_namespace (symbol_of g root))) d₃

@@ -1,9 +1,9 @@
 -- A circle: uses among a run's lines each of which gives another of them, by the alias (K11) or the wrapper (K12). The Rust remembers no use, so it does
 -- not return where one is reached; the theorems in proofs/ say that it returns on every other graph.
 use Rattle.std.specs.Prelude.{ℕ, ◌≡◌, ◌⊎◌, ◌↔◌, List}
-use Rattle.graph.specs.declared.Checked.TheVariants.{Accepted}
-use Rattle.graph.specs.Check.{Graph, graph_in, check_of, answer_of}
-use Rattle.facts.specs.Facts.{use_fact}
+use Rattle.determine_side_effects.specs.graph_crate.declared.Checked.TheVariants.{Accepted}
+use Rattle.determine_side_effects.specs.graph_crate.Check.{Graph, graph_in, check_of, answer_of}
+use Rattle.determine_side_effects.specs.facts_crate.Facts.{use_fact}
 use Rattle.determine_side_effects.specs.Effects.{last_verdicts}
 use Rattle.run_rows.specs.Run.{run_of}
 use Rattle.closed_choices.specs.Choice.{Choice, HasLine}

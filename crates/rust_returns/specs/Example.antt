@@ -2,8 +2,8 @@
 -- no entry. The symbol is an alias of export 1 of itself: a CommonJS namespace of its own module, whose export 1 it is. So a use of it gives a use of it,
 -- by K11. The runtime stage includes the module, and K5 uses the symbol. examples/circle.graph is this graph.
 use Rattle.std.specs.Prelude.{ℕ, ◌≡◌, List, [], ◌∷◌}
-use Rattle.graph.specs.declared.Checked.TheVariants.{Accepted}
-use Rattle.graph.specs.Check.{graph_in, check_of, answer_of}
+use Rattle.determine_side_effects.specs.graph_crate.declared.Checked.TheVariants.{Accepted}
+use Rattle.determine_side_effects.specs.graph_crate.Check.{graph_in, check_of, answer_of}
 use Rattle.rust_run.specs.IncludeStatements.{Outcome, Returns}
 use Rattle.rust_returns.specs.Circle.{Circle}
 

@@ -1,9 +1,9 @@
 -- Everything chosen that the relation leaves open: the hash orders, which are the hasher's and may differ from run to run, and petgraph's components.
 -- Which derivation goes by these choices.
 use Rattle.std.specs.Prelude.{ℕ, ◌≡◌, List, [], Bool, false}
-use Rattle.graph.specs.Check.{Graph}
-use Rattle.graph_access.specs.Names.{resolved_exports, entry_references}
-use Rattle.graph_access.specs.Words.{flag, tabulate, module_of}
+use Rattle.determine_side_effects.specs.graph_crate.Check.{Graph}
+use Rattle.determine_side_effects.specs.graph_access_crate.Names.{resolved_exports, entry_references}
+use Rattle.determine_side_effects.specs.graph_access_crate.Words.{flag, tabulate, module_of}
 use Rattle.rust_values.specs.Values.{Pair, SameMembers, filter}
 use Rattle.rust_engine.specs.Context.{Context, WorkItem, rest, module_item, push, take_bailouts, set_changed, new_context, empty}
 use Rattle.rust_engine.specs.Engine.{Orders, Reorders, Drains, returns, pops, handle}

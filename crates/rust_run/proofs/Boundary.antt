@@ -4,12 +4,12 @@ use lib.ListN.{get_or-append}
 use lib.Seq.{take-append_seam}
 use Rattle.bit_row.specs.Row.{bit_at, bytes_for}
 use Rattle.bit_row.proofs.Size.{bytes_hold}
-use Rattle.graph.specs.declared.Checked.TheVariants.{Accepted}
-use Rattle.graph.specs.Check.{Graph, graph_in, check_of, answer_of}
-use Rattle.graph_access.specs.Names.{owner, import_records}
-use Rattle.graph_access.specs.Words.{option, module_of, symbol_of, statement_list, tabulate}
-use Rattle.facts.specs.declared.Fact.{Fact}
-use Rattle.facts.specs.Facts.{Good}
+use Rattle.determine_side_effects.specs.graph_crate.declared.Checked.TheVariants.{Accepted}
+use Rattle.determine_side_effects.specs.graph_crate.Check.{Graph, graph_in, check_of, answer_of}
+use Rattle.determine_side_effects.specs.graph_access_crate.Names.{owner, import_records}
+use Rattle.determine_side_effects.specs.graph_access_crate.Words.{option, module_of, symbol_of, statement_list, tabulate}
+use Rattle.determine_side_effects.specs.facts_crate.declared.Fact.{Fact}
+use Rattle.determine_side_effects.specs.facts_crate.Facts.{Good}
 use Rattle.determine_side_effects.specs.Effects.{last_verdicts}
 use Rattle.keep_record.specs.declared.Line.{Line}
 use Rattle.keep_record.specs.Lines.{has}

@@ -1,8 +1,8 @@
 -- Over a whole round: `module_inclusion_changed` is set exactly if a module was included in it.
 use Rattle.std.proofs.Common.{ℕ, Bool, List}
-use Rattle.graph.specs.Check.{Graph}
-use Rattle.graph_access.specs.Names.{entry_references, export_symbol, only}
-use Rattle.graph_access.specs.Words.{module_of}
+use Rattle.determine_side_effects.specs.graph_crate.Check.{Graph}
+use Rattle.determine_side_effects.specs.graph_access_crate.Names.{entry_references, export_symbol, only}
+use Rattle.determine_side_effects.specs.graph_access_crate.Words.{module_of}
 use Rattle.determine_side_effects.specs.Effects.{last_verdicts}
 use Rattle.rust_values.specs.Values.{Pair}
 use Rattle.rust_engine.specs.Context.{Context, module_item, push}

@@ -2,11 +2,11 @@
 use Rattle.std.proofs.Common.{◌≡◌, ℕ, zero, suc, ◌+◌, ◌<◌, ◌≤◌, Bool, true, false, not, ◌&&◌, ◌||◌, eqb, ◌↔◌, List, [], ◌∷◌, length, get_or, sym, refl, ap, ◌∙◌, inl, inr, arith, eq-eqb, eqb-true}
 use mathlib.Core.Bool.{false≢true}
 use native.Mathlib.Decide.{dec_lt}
-use Rattle.rows.specs.Walk.{Item, no_item}
-use Rattle.graph.specs.declared.Checked.TheVariants.{Accepted}
-use Rattle.graph.specs.Check.{Graph, graph_in, check_of, answer_of}
-use Rattle.graph_access.specs.Names.{import_records, related, related_module, related_import_record, unreachable}
-use Rattle.graph_access.specs.Words.{some, tabulate, module_of, entry_of}
+use Rattle.determine_side_effects.specs.rows_crate.Walk.{Item, no_item}
+use Rattle.determine_side_effects.specs.graph_crate.declared.Checked.TheVariants.{Accepted}
+use Rattle.determine_side_effects.specs.graph_crate.Check.{Graph, graph_in, check_of, answer_of}
+use Rattle.determine_side_effects.specs.graph_access_crate.Names.{import_records, related, related_module, related_import_record, unreachable}
+use Rattle.determine_side_effects.specs.graph_access_crate.Words.{some, tabulate, module_of, entry_of}
 use Rattle.determine_side_effects.specs.Effects.{last_verdicts}
 use Rattle.determine_side_effects.proofs.Lists.{both, some_found, some_holds, length-tabulate, get_d_tabulate}
 use Rattle.keep_record.specs.Lines.{elem}

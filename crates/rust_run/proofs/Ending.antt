@@ -1,9 +1,9 @@
 -- An executed function that has ended: with what, and by which steps. A drain that has ended is one of the relation's.
 use Rattle.std.proofs.Common.{◌≡◌, ℕ, Bool, true, false, List, refl, ap, subst}
 use mathlib.Core.Bool.{false≢true}
-use Rattle.graph.specs.Check.{Graph}
+use Rattle.determine_side_effects.specs.graph_crate.Check.{Graph}
 use Rattle.rust_engine.specs.Context.{Context}
-use Rattle.rust_engine.specs.Engine.{Drains, Returned, not_yet as notDrained, returned, drain_work_items}
+use Rattle.rust_engine.specs.Engine.{Drains, Returned, not_yet as not_drained, returned, drain_work_items}
 use Rattle.rust_engine.proofs.Returning.{drain_returns}
 use Rattle.rust_run.proofs.Executed.{Ended, not_yet, ended, then, drained}
 
@@ -39,6 +39,6 @@ pub drained_returns : (g : Graph) (v : List ℕ) (fuel : ℕ) (c d : Context) �
 unfolding drained
 drained_returns g v fuel c d e = go (drain_work_items g v fuel c) refl e
   where
-    go : (r : Returned) → drain_work_items g v fuel c ≡ r → (elim r [ notDrained ↦ not_yet | returned y ↦ ended y ]) ≡ ended d → Drains g v c d
-    go notDrained q r = absurd (never_ends d r)
+    go : (r : Returned) → drain_work_items g v fuel c ≡ r → (elim r [ not_drained ↦ not_yet | returned y ↦ ended y ]) ≡ ended d → Drains g v c d
+    go not_drained q r = absurd (never_ends d r)
     go (returned y) q r = subst (λ z. Drains g v c z) (same_end y d r) (drain_returns g v fuel c y q)

@@ -3,16 +3,16 @@
 -- (`sorted_entries`, `on_cycle`), which are the Rust's for all components that are right (`rust_order`, `rust_order_exists` of `rust_order`); what 003
 -- does with components is executed beside that. tools/run_definitions.py runs these functions on recorded answers of the Rust.
 use Rattle.std.proofs.Common.{ℕ, zero, suc, Bool, true, false, ◌&&◌, eqb, List, [], ◌∷◌, ◌++◌, get_or}
-use Rattle.graph.specs.Check.{Graph}
-use Rattle.graph_access.specs.Names.{effects, entry_references, import_records, import_record_target, import_record_kind, resolved_exports, export_symbol, export_from_common_js, only}
-use Rattle.graph_access.specs.Words.{flag, tabulate, module_of, normal}
+use Rattle.determine_side_effects.specs.graph_crate.Check.{Graph}
+use Rattle.determine_side_effects.specs.graph_access_crate.Names.{effects, entry_references, import_records, import_record_target, import_record_kind, resolved_exports, export_symbol, export_from_common_js, only}
+use Rattle.determine_side_effects.specs.graph_access_crate.Words.{flag, tabulate, module_of, normal}
 use Rattle.keep_record.specs.Lines.{elem}
 use Rattle.dynamic_entries.specs.Sorted.{on_cycle, sorted_entries}
 use Rattle.rust_values.specs.Values.{Pair, none, found, optional, filter}
 use Rattle.rust_effects.specs.DetermineSideEffects.{Spreading, gathered, pending_below, spread_to_all, dependents_of, recomputed, none_relaxed}
 use Rattle.rust_engine.specs.Context.{Context, empty, new_context, module_item, symbol_item, push, insert_bailout, take_bailouts, set_changed}
 use Rattle.rust_engine.specs.Tables.{owner_of, has_side_effects}
-use Rattle.rust_engine.specs.Engine.{not_yet as notDrained, returned, drain_work_items, enqueue_declaring_statements, push_symbol_and_check_cjs_bailout}
+use Rattle.rust_engine.specs.Engine.{not_yet as not_drained, returned, drain_work_items, enqueue_declaring_statements, push_symbol_and_check_cjs_bailout}
 use Rattle.rust_order.specs.DynamicEntries.{entry_idx, DiGraphMap, no_graph, Walking, insert_visited, with_edge, Call, construct, records, Entered, enter, complete, order_from, sort_by_key}
 use Rattle.rust_run.specs.DynamicEntries.{alive, unused, is_dynamic_entry_alive}
 use Rattle.rust_run.specs.Passes.{collect_depended_runtime_helpers}
@@ -101,7 +101,7 @@ sorted_by g sccs = sort_by_key (λ e. order_from 0 sccs (entry_idx g e)) (dynami
 
 -- Drains, References, IncludesEntry ------------------------------------------------------------------------------------------------------
 unfoldable pub drained : Graph → List ℕ → ℕ → Context → Ended Context
-drained g v fuel c = elim (drain_work_items g v fuel c) [ notDrained ↦ not_yet | returned d ↦ ended d ]
+drained g v fuel c = elim (drain_work_items g v fuel c) [ not_drained ↦ not_yet | returned d ↦ ended d ]
 
 unfoldable pub references_included : Graph → List ℕ → ℕ → List (List ℕ) → Context → Ended Context
 references_included g v fuel [] c = ended c

@@ -1,14 +1,14 @@
 -- The Rust's map of entries groups as the project does; user-defined, dynamic and final entries are the project's.
 use Rattle.std.proofs.Common.{◌≡◌, ℕ, ◌<◌, Bool, true, false, not, ◌&&◌, ◌||◌, eqb, ltb, List, [], ◌∷◌, ◌++◌, sym, refl, ap, ◌∙◌, append_assoc, arith, le-ltb, lt-ltb, eq-eqb, eqb-true}
 use borrow.Author.Tests.{eqb-false}
-use Rattle.graph.specs.declared.Checked.TheVariants.{Accepted}
-use Rattle.graph.specs.Check.{Graph, graph_in, check_of, answer_of}
-use Rattle.graph_access.specs.Names.{entry_kind}
-use Rattle.graph_access.specs.Words.{tabulate, entry_of, option}
-use Rattle.graph_access.proofs.Indexes.{entry_kind_below}
+use Rattle.determine_side_effects.specs.graph_crate.declared.Checked.TheVariants.{Accepted}
+use Rattle.determine_side_effects.specs.graph_crate.Check.{Graph, graph_in, check_of, answer_of}
+use Rattle.determine_side_effects.specs.graph_access_crate.Names.{entry_kind}
+use Rattle.determine_side_effects.specs.graph_access_crate.Words.{tabulate, entry_of, option}
+use Rattle.determine_side_effects.proofs.graph_access_crate.Indexes.{entry_kind_below}
 use Rattle.keep_record.specs.Lines.{elem}
 use Rattle.keep_record.proofs.Adding.{eqb_turned}
-use Rattle.entry_order.specs.Order.{those, grouped_from, grouped, module_of_entry, is_dynamic, user_entries, grouped_entries, is_user_defined as userDefined, dynamic_entries as dynamicOnes}
+use Rattle.entry_order.specs.Order.{those, grouped_from, grouped, module_of_entry, is_dynamic, user_entries, grouped_entries, is_user_defined as user_defined, dynamic_entries as dynamic_ones}
 use Rattle.entry_order.proofs.Those.{those_here, those_not}
 use Rattle.entry_order.proofs.Grouped.{group_old, group_new}
 use Rattle.entry_order.proofs.Entered.{entries_below}
@@ -175,12 +175,12 @@ module _ (numbers : List ℕ) (ok : answer_of (check_of numbers) ≡ Accepted) w
       go true e = le-ltb k 2 (omega (arith, eqb-true k 2 e)) ∙ sym (ap not e)
       go false e = lt-ltb k 2 (omega (arith, l, eqb-false k 2 e)) ∙ sym (ap not e)
 
-  user_same : (e : ℕ) → e < (graph_in numbers).header.entries → is_user_defined (graph_in numbers) e ≡ userDefined (graph_in numbers) e
-  unfolding is_user_defined userDefined is_dynamic graph_in
+  user_same : (e : ℕ) → e < (graph_in numbers).header.entries → is_user_defined (graph_in numbers) e ≡ user_defined (graph_in numbers) e
+  unfolding is_user_defined user_defined is_dynamic graph_in
   user_same e l = by_kind (entry_kind (entry_of (graph_in numbers) e)) (entry_kind_below (accepted_tabled numbers ok).holds e l)
 
   pub dynamic_same : (e : ℕ) → e < (graph_in numbers).header.entries → not (is_user_defined (graph_in numbers) e) ≡ is_dynamic (graph_in numbers) e
-  unfolding userDefined
+  unfolding user_defined
   dynamic_same e l = ap not (user_same e l) ∙ not-not (is_dynamic (graph_in numbers) e)
     where
       not-not : (b : Bool) → not (not b) ≡ b
@@ -195,11 +195,11 @@ module _ (numbers : List ℕ) (ok : answer_of (check_of numbers) ≡ Accepted) w
   unfolding user_defined_entries user_entries
   users_same =
       ap (filter (is_user_defined (graph_in numbers))) grouped_same
-      ∙ filter_those (is_user_defined (graph_in numbers)) (userDefined (graph_in numbers)) (grouped_entries (graph_in numbers))
+      ∙ filter_those (is_user_defined (graph_in numbers)) (user_defined (graph_in numbers)) (grouped_entries (graph_in numbers))
       (λ x e. user_same x (entries_below (graph_in numbers) x e))
 
-  pub dynamics_same : dynamic_entries (graph_in numbers) ≡ dynamicOnes (graph_in numbers)
-  unfolding dynamic_entries dynamicOnes
+  pub dynamics_same : dynamic_entries (graph_in numbers) ≡ dynamic_ones (graph_in numbers)
+  unfolding dynamic_entries dynamic_ones
   dynamics_same =
       ap (filter (λ e. not (is_user_defined (graph_in numbers) e))) grouped_same
       ∙ filter_those (λ e. not (is_user_defined (graph_in numbers) e)) (is_dynamic (graph_in numbers)) (grouped_entries (graph_in numbers))

@@ -2,19 +2,19 @@
 use Rattle.std.proofs.Common.{◌≡◌, ℕ, zero, suc, ◌+◌, ◌%◌, ◌^◌, ◌<◌, Bool, true, false, not, ◌&&◌, ◌||◌, eqb, List, [], ◌∷◌, length, get_or, sym, refl, ap, ◌∙◌, arith, eq-eqb}
 use mathlib.Core.Bool.{and_false, or_true, false≢true}
 use native.Mathlib.Nat.{zero-div}
-use Rattle.rows.specs.Walk.{no_item}
-use Rattle.graph_format.specs.Format.{module_rules, statement_limit}
-use Rattle.graph_tables.specs.Tables.{modules_in}
-use Rattle.graph_tables.proofs.Facts.{its-read, number_same}
-use Rattle.graph.specs.declared.Checked.TheVariants.{Accepted}
-use Rattle.graph.specs.Check.{Graph, graph_in, check_of, answer_of}
-use Rattle.graph.specs.Loaded.{Loaded}
-use Rattle.graph_access.specs.Names.{kind, module_helpers, helper_number, helper_statement}
-use Rattle.graph_access.specs.Words.{flag, some, tabulate, module_of, statement_list, normal}
-use Rattle.graph_access.proofs.Indexes.{helper_row_below}
-use Rattle.graph_access.proofs.StatementNumbers.{all_long}
-use Rattle.facts.specs.declared.Fact.{Fact}
-use Rattle.facts.specs.Facts.{module_fact, statement_fact}
+use Rattle.determine_side_effects.specs.rows_crate.Walk.{no_item}
+use Rattle.determine_side_effects.specs.graph_format_crate.Format.{module_rules, statement_limit}
+use Rattle.determine_side_effects.specs.graph_tables_crate.Tables.{modules_in}
+use Rattle.determine_side_effects.proofs.graph_tables_crate.Facts.{its-read, number_same}
+use Rattle.determine_side_effects.specs.graph_crate.declared.Checked.TheVariants.{Accepted}
+use Rattle.determine_side_effects.specs.graph_crate.Check.{Graph, graph_in, check_of, answer_of}
+use Rattle.determine_side_effects.specs.graph_crate.Loaded.{Loaded}
+use Rattle.determine_side_effects.specs.graph_access_crate.Names.{kind, module_helpers, helper_number, helper_statement}
+use Rattle.determine_side_effects.specs.graph_access_crate.Words.{flag, some, tabulate, module_of, statement_list, normal}
+use Rattle.determine_side_effects.proofs.graph_access_crate.Indexes.{helper_row_below}
+use Rattle.determine_side_effects.proofs.graph_access_crate.StatementNumbers.{all_long}
+use Rattle.determine_side_effects.specs.facts_crate.declared.Fact.{Fact}
+use Rattle.determine_side_effects.specs.facts_crate.Facts.{module_fact, statement_fact}
 use Rattle.determine_side_effects.proofs.Lists.{some_same, length-tabulate, get_d_tabulate}
 use Rattle.keep_record.specs.Lines.{elem}
 use Rattle.answer_rows.specs.Shown.{bit_value}

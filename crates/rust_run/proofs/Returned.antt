@@ -1,11 +1,11 @@
 -- What the executed functions give, the relations have, up to the whole: `include_statements` after 002, for accepted numbers.
 use Rattle.std.proofs.Common.{◌≡◌, ℕ, zero, suc, Bool, true, false, ◌||◌, eqb, List, [], ◌∷◌, ◌++◌, get_or, sym, refl, ap, subst}
-use Rattle.graph.specs.declared.Checked.TheVariants.{Accepted}
-use Rattle.graph.specs.Check.{Graph, graph_in, check_of, answer_of}
-use Rattle.graph_access.specs.Names.{entry_references, resolved_exports, export_symbol, export_from_common_js, only}
-use Rattle.graph_access.specs.Words.{flag, tabulate, module_of, normal}
+use Rattle.determine_side_effects.specs.graph_crate.declared.Checked.TheVariants.{Accepted}
+use Rattle.determine_side_effects.specs.graph_crate.Check.{Graph, graph_in, check_of, answer_of}
+use Rattle.determine_side_effects.specs.graph_access_crate.Names.{entry_references, resolved_exports, export_symbol, export_from_common_js, only}
+use Rattle.determine_side_effects.specs.graph_access_crate.Words.{flag, tabulate, module_of, normal}
 use Rattle.keep_record.specs.Lines.{elem}
-use Rattle.entry_order.specs.Order.{dynamic_entries as entriesOf}
+use Rattle.entry_order.specs.Order.{dynamic_entries as entries_of}
 use Rattle.dynamic_entries.specs.Sorted.{on_cycle, sorted_entries}
 use Rattle.rust_values.specs.Values.{Pair, filter}
 use Rattle.rust_effects.specs.DetermineSideEffects.{SideEffects}
@@ -319,5 +319,5 @@ executed_returns numbers ok fuel o e =
     g : Graph
     g = graph_in numbers
 
-    order : (cycled : List ℕ) × SortDynamicEntriesByTopologicalOrder (graph_in numbers) (entriesOf (graph_in numbers)) (sorted_entries (graph_in numbers)) cycled
+    order : (cycled : List ℕ) × SortDynamicEntriesByTopologicalOrder (graph_in numbers) (entries_of (graph_in numbers)) (sorted_entries (graph_in numbers)) cycled
     order = rust_order_exists numbers ok

@@ -2,11 +2,11 @@
 use Rattle.std.proofs.Common.{◌≡◌, ℕ, zero, suc, ◌+◌, ◌-◌, ◌<◌, ◌≤◌, Bool, true, false, eqb, ◌⊎◌, ◌↔◌, List, [], ◌∷◌, ◌++◌, length, get_or, drop, sym, refl, ap, ◌∙◌, subst, inl, inr, le_refl, arith}
 use mathlib.Core.Bool.{false≢true}
 use native.Mathlib.Decide.{dec_lt}
-use Rattle.graph.specs.declared.Checked.TheVariants.{Accepted}
-use Rattle.graph.specs.Check.{Graph, graph_in, check_of, answer_of}
-use Rattle.facts.specs.declared.Fact.{Fact}
-use Rattle.facts.specs.declared.Fact.TheVariants.{Module, Statement, Use, CheckedUse, Forward, Bailout}
-use Rattle.facts.specs.Facts.{module_fact, bailout_fact, kind_of}
+use Rattle.determine_side_effects.specs.graph_crate.declared.Checked.TheVariants.{Accepted}
+use Rattle.determine_side_effects.specs.graph_crate.Check.{Graph, graph_in, check_of, answer_of}
+use Rattle.determine_side_effects.specs.facts_crate.declared.Fact.{Fact}
+use Rattle.determine_side_effects.specs.facts_crate.declared.Fact.TheVariants.{Module, Statement, Use, CheckedUse, Forward, Bailout}
+use Rattle.determine_side_effects.specs.facts_crate.Facts.{module_fact, bailout_fact, kind_of}
 use Rattle.determine_side_effects.specs.Effects.{last_verdicts}
 use Rattle.determine_side_effects.proofs.Lists.{some_found, some_holds}
 use Rattle.keep_record.specs.declared.Line.{Line}

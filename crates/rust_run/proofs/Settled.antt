@@ -1,8 +1,8 @@
 -- What the executed functions of 002 give, its relations have.
 use Rattle.std.proofs.Common.{◌≡◌, ℕ, zero, suc, Bool, true, false, List, [], ◌∷◌, sym, refl, subst}
-use Rattle.graph.specs.Check.{Graph}
-use Rattle.graph_access.specs.Names.{effects}
-use Rattle.graph_access.specs.Words.{tabulate, module_of}
+use Rattle.determine_side_effects.specs.graph_crate.Check.{Graph}
+use Rattle.determine_side_effects.specs.graph_access_crate.Names.{effects}
+use Rattle.determine_side_effects.specs.graph_access_crate.Words.{tabulate, module_of}
 use Rattle.rust_values.specs.Values.{Pair}
 use Rattle.rust_effects.specs.DetermineSideEffects.{Spreading, gathered, spread_to_all, dependents_of, Propagates, DetermineSideEffects, recomputed, none_relaxed, RecomputeAnalyzedSideEffects, none_relaxed_case, SideEffects}
 use Rattle.rust_effects.specs.DetermineSideEffects.Propagates.{returns, pops}

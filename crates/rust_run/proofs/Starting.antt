@@ -1,11 +1,11 @@
 -- What the loops of a run start: each of them leads from one course of entry points to another, with the facts that the run's definition starts.
 use Rattle.std.proofs.Common.{◌≡◌, ℕ, zero, suc, ◌<◌, Bool, true, false, eqb, ◌⊎◌, List, [], ◌∷◌, ◌++◌, map, sym, refl, ap, ◌∙◌, subst, inl, inr, append_assoc}
 use mathlib.Core.Bool.{false≢true}
-use Rattle.graph.specs.Check.{Graph}
-use Rattle.graph_access.specs.Names.{entry_references, export_symbol, export_from_common_js, resolved_exports, only}
-use Rattle.graph_access.specs.Words.{module_of, normal}
-use Rattle.facts.specs.declared.Fact.{Fact}
-use Rattle.facts.specs.Facts.{module_fact, checked_fact, bailout_fact}
+use Rattle.determine_side_effects.specs.graph_crate.Check.{Graph}
+use Rattle.determine_side_effects.specs.graph_access_crate.Names.{entry_references, export_symbol, export_from_common_js, resolved_exports, only}
+use Rattle.determine_side_effects.specs.graph_access_crate.Words.{module_of, normal}
+use Rattle.determine_side_effects.specs.facts_crate.declared.Fact.{Fact}
+use Rattle.determine_side_effects.specs.facts_crate.Facts.{module_fact, checked_fact, bailout_fact}
 use Rattle.entry_order.specs.Order.{module_of_entry}
 use Rattle.entry_starts.specs.Starts.{declared, reference_starts, references_starts, module_starts, user_starts}
 use Rattle.passes.specs.Bailouts.{export_starts}

@@ -1,17 +1,17 @@
 -- The Rust's test of a dynamic entry is the project's, and what a dead one leaves are the reachable related records that may go.
 use Rattle.std.proofs.Common.{◌≡◌, ℕ, ◌<◌, Bool, true, false, not, ◌&&◌, ◌||◌, eqb, ltb, List, [], ◌∷◌, ◌++◌, length, get_or, sym, refl, ap, ◌∙◌, append_assoc, append-nil, arith, le-ltb, eq-eqb, ne_eqb, eqb-true}
 use borrow.Author.Tests.{eqb-false}
-use Rattle.graph_tables.specs.Tables.{header_in}
-use Rattle.graph.specs.declared.Checked.TheVariants.{Accepted}
-use Rattle.graph.specs.Check.{Graph, graph_in, check_of, answer_of}
-use Rattle.graph.specs.Loaded.{Loaded}
-use Rattle.graph_access.specs.Names.{entry_kind, related, related_module, related_statement, related_import_record, unreachable}
-use Rattle.graph_access.specs.Words.{some, statement_list, entry_of}
-use Rattle.graph_access.specs.Related.{RelatedHere}
-use Rattle.graph_access.proofs.Indexes.{related_here}
-use Rattle.graph_access.proofs.EntryRanges.{related_good}
-use Rattle.facts.specs.declared.Fact.{Fact}
-use Rattle.facts.specs.Facts.{statement_fact}
+use Rattle.determine_side_effects.specs.graph_tables_crate.Tables.{header_in}
+use Rattle.determine_side_effects.specs.graph_crate.declared.Checked.TheVariants.{Accepted}
+use Rattle.determine_side_effects.specs.graph_crate.Check.{Graph, graph_in, check_of, answer_of}
+use Rattle.determine_side_effects.specs.graph_crate.Loaded.{Loaded}
+use Rattle.determine_side_effects.specs.graph_access_crate.Names.{entry_kind, related, related_module, related_statement, related_import_record, unreachable}
+use Rattle.determine_side_effects.specs.graph_access_crate.Words.{some, statement_list, entry_of}
+use Rattle.determine_side_effects.specs.graph_access_crate.Related.{RelatedHere}
+use Rattle.determine_side_effects.proofs.graph_access_crate.Indexes.{related_here}
+use Rattle.determine_side_effects.proofs.graph_access_crate.EntryRanges.{related_good}
+use Rattle.determine_side_effects.specs.facts_crate.declared.Fact.{Fact}
+use Rattle.determine_side_effects.specs.facts_crate.Facts.{statement_fact}
 use Rattle.determine_side_effects.specs.Effects.{effectful, has_effects}
 use Rattle.entry_order.specs.Order.{module_of_entry, is_dynamic}
 use Rattle.dynamic_entries.specs.Alive.{record_of, is_pure, uses_no_export, lets_live, is_alive as lives}

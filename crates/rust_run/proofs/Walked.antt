@@ -1,8 +1,8 @@
 -- What the executed walks of 003 give, its relations have: the graph of the dynamic entries, and a depth-first walk over it.
 use Rattle.std.proofs.Common.{◌≡◌, ℕ, zero, suc, Bool, true, false, eqb, List, [], ◌∷◌, refl, subst}
-use Rattle.graph.specs.Check.{Graph}
-use Rattle.graph_access.specs.Names.{import_records, import_record_target, import_record_kind}
-use Rattle.graph_access.specs.Words.{module_of, normal}
+use Rattle.determine_side_effects.specs.graph_crate.Check.{Graph}
+use Rattle.determine_side_effects.specs.graph_access_crate.Names.{import_records, import_record_target, import_record_kind}
+use Rattle.determine_side_effects.specs.graph_access_crate.Words.{module_of, normal}
 use Rattle.keep_record.specs.Lines.{elem}
 use Rattle.rust_values.specs.Values.{Found, none, found, optional}
 use Rattle.rust_order.specs.DynamicEntries.{entry_idx, DiGraphMap, Walking, insert_visited, with_edge, Call, construct, records, Constructs, FromEntries, Entered, enter, complete, DepthFirst}

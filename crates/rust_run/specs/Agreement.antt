@@ -1,10 +1,10 @@
 -- T11: where the Rust returns on an accepted graph, its outcome is what a run answers. The theorems are in proofs/OfRuns.antt.
 use Rattle.std.specs.Prelude.{◌≡◌, ℕ, ◌+◌, ◌*◌, ◌<◌, ◌≤◌, true, false, ◌⊎◌, ◌↔◌, List, length}
-use Rattle.graph.specs.declared.Checked.TheVariants.{Accepted}
-use Rattle.graph.specs.Check.{Graph, graph_in, check_of, answer_of}
-use Rattle.graph_access.specs.Names.{owner, import_records}
-use Rattle.graph_access.specs.Words.{symbol_of, module_of, option}
-use Rattle.facts.specs.Facts.{module_fact, statement_fact, mark_count}
+use Rattle.determine_side_effects.specs.graph_crate.declared.Checked.TheVariants.{Accepted}
+use Rattle.determine_side_effects.specs.graph_crate.Check.{Graph, graph_in, check_of, answer_of}
+use Rattle.determine_side_effects.specs.graph_access_crate.Names.{owner, import_records}
+use Rattle.determine_side_effects.specs.graph_access_crate.Words.{symbol_of, module_of, option}
+use Rattle.determine_side_effects.specs.facts_crate.Facts.{module_fact, statement_fact, mark_count}
 use Rattle.determine_side_effects.specs.Effects.{last_verdicts}
 use Rattle.keep_record.specs.Lines.{has}
 use Rattle.answer_rows.specs.declared.Row.TheVariants.{Used, External, Json}

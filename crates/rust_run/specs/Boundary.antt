@@ -2,9 +2,9 @@
 -- proofs/Boundary.antt.
 use Rattle.std.specs.Prelude.{◌≡◌, ℕ, ◌+◌, ◌*◌, ◌<◌, true, false, ◌↔◌, List, length, take, slice_index}
 use Rattle.bit_row.specs.Row.{bit_at}
-use Rattle.graph.specs.Check.{Graph, graph_in}
-use Rattle.graph_access.specs.Names.{owner, import_records}
-use Rattle.graph_access.specs.Words.{module_of, symbol_of, statement_list, option}
+use Rattle.determine_side_effects.specs.graph_crate.Check.{Graph, graph_in}
+use Rattle.determine_side_effects.specs.graph_access_crate.Names.{owner, import_records}
+use Rattle.determine_side_effects.specs.graph_access_crate.Words.{module_of, symbol_of, statement_list, option}
 use Rattle.answer_rows.specs.Shown.{bytes_before}
 use Rattle.dynamic_entries.specs.Alive.{records_before}
 use Rattle.run_parts.specs.declared.Totals.{Totals}

@@ -1,9 +1,9 @@
 -- dynamic_entries.rs (003): whether a dynamic entry is alive, and its processing, under the Rust's names. An entry is its number in the graph.
 -- A relation holds where the Rust returns.
 use Rattle.std.specs.Prelude.{◌≡◌, ℕ, ◌-◌, Bool, true, false, not, ◌&&◌, ◌||◌, List, [], ◌∷◌, ◌++◌, ◌==◌, nat_lt, slice_index_or}
-use Rattle.graph.specs.Check.{Graph}
-use Rattle.graph_access.specs.Names.{flags, entry_references, import_records, import_record_target, import_record_bits, only, entry_kind, related, related_module, related_statement, related_import_record, unreachable}
-use Rattle.graph_access.specs.Words.{flag, module_of, normal, entry_of}
+use Rattle.determine_side_effects.specs.graph_crate.Check.{Graph}
+use Rattle.determine_side_effects.specs.graph_access_crate.Names.{flags, entry_references, import_records, import_record_target, import_record_bits, only, entry_kind, related, related_module, related_statement, related_import_record, unreachable}
+use Rattle.determine_side_effects.specs.graph_access_crate.Words.{flag, module_of, normal, entry_of}
 use Rattle.keep_record.specs.Lines.{elem}
 use Rattle.rust_values.specs.Values.{Pair, pair, has_pair}
 use Rattle.rust_engine.specs.Context.{Context, module_item, push}

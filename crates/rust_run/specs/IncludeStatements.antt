@@ -1,9 +1,9 @@
 -- `include_statements()` of include_statements.rs (000:261-490), under the Rust's names: a relation, since hash sets and maps are gone through in any
 -- order, and since it holds only where the Rust returns. An entry is its number in the graph.
 use Rattle.std.specs.Prelude.{◌≡◌, ℕ, zero, suc, Bool, true, false, not, ◌&&◌, ◌||◌, List, [], ◌∷◌, ◌++◌, map, ◌==◌, nat_eq, nat_lt}
-use Rattle.graph.specs.Check.{Graph}
-use Rattle.graph_access.specs.Names.{entry_kind, module_helpers, helper_number, helper_statement}
-use Rattle.graph_access.specs.Words.{some, tabulate, module_of, normal, entry_of, option}
+use Rattle.determine_side_effects.specs.graph_crate.Check.{Graph}
+use Rattle.determine_side_effects.specs.graph_access_crate.Names.{entry_kind, module_helpers, helper_number, helper_statement}
+use Rattle.determine_side_effects.specs.graph_access_crate.Words.{some, tabulate, module_of, normal, entry_of, option}
 use Rattle.keep_record.specs.Lines.{elem}
 use Rattle.rust_values.specs.Values.{Pair, has_pair, is_empty, filter}
 use Rattle.rust_effects.specs.DetermineSideEffects.{SideEffects}

@@ -1,8 +1,8 @@
 -- passes.rs (004), under the Rust's names. A set of runtime helpers is the number of its bits.
 use Rattle.std.specs.Prelude.{◌≡◌, ℕ, zero, suc, ◌+◌, ◌^◌, Bool, true, false, ◌&&◌, List, [], ◌∷◌, ◌==◌, nat_eq, slice_index_or}
-use Rattle.graph.specs.Check.{Graph}
-use Rattle.graph_access.specs.Names.{resolved_exports, export_symbol, export_from_common_js, only}
-use Rattle.graph_access.specs.Words.{flag, some, tabulate, module_of, normal}
+use Rattle.determine_side_effects.specs.graph_crate.Check.{Graph}
+use Rattle.determine_side_effects.specs.graph_access_crate.Names.{resolved_exports, export_symbol, export_from_common_js, only}
+use Rattle.determine_side_effects.specs.graph_access_crate.Words.{flag, some, tabulate, module_of, normal}
 use Rattle.keep_record.specs.Lines.{elem}
 use Rattle.rust_values.specs.Values.{In, SameMembers, filter}
 use Rattle.rust_engine.specs.Context.{Context, module_item, symbol_item, push}

@@ -8,16 +8,16 @@ use mathlib.Core.List.{List, []}
 use native.Mathlib.Omega.{arith}
 use lib.Dec.{eqb}
 use lib.ListN.{length, get_or}
-use Rattle.rows.specs.Walk.{Item, no_item}
-use Rattle.rows.proofs.Items.{many-length}
-use Rattle.graph_format.specs.Format.{entries_at}
-use Rattle.graph_tables.specs.Tables.{entries_read}
-use Rattle.graph.specs.Check.{Graph, graph_in}
-use Rattle.graph.specs.Loaded.{Loaded}
-use Rattle.graph_access.specs.Names.{entry_module, entry_kind, related}
-use Rattle.graph_access.specs.Words.{module_of, symbol_of, entry_of, option}
-use Rattle.facts.specs.declared.Fact.{Fact}
-use Rattle.facts.specs.Facts.{bailout_fact}
+use Rattle.determine_side_effects.specs.rows_crate.Walk.{Item, no_item}
+use Rattle.determine_side_effects.proofs.rows_crate.Items.{many-length}
+use Rattle.determine_side_effects.specs.graph_format_crate.Format.{entries_at}
+use Rattle.determine_side_effects.specs.graph_tables_crate.Tables.{entries_read}
+use Rattle.determine_side_effects.specs.graph_crate.Check.{Graph, graph_in}
+use Rattle.determine_side_effects.specs.graph_crate.Loaded.{Loaded}
+use Rattle.determine_side_effects.specs.graph_access_crate.Names.{entry_module, entry_kind, related}
+use Rattle.determine_side_effects.specs.graph_access_crate.Words.{module_of, symbol_of, entry_of, option}
+use Rattle.determine_side_effects.specs.facts_crate.declared.Fact.{Fact}
+use Rattle.determine_side_effects.specs.facts_crate.Facts.{bailout_fact}
 use Rattle.determine_side_effects.specs.Effects.{last_verdicts}
 use Rattle.keep_rules.specs.Rules.{Given}
 use Rattle.entry_order.specs.Order.{module_of_entry, is_dynamic, is_user_defined}

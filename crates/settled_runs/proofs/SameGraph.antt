@@ -5,11 +5,11 @@ use mathlib.Core.Bool.{Bool, true, ◌&&◌}
 use mathlib.Core.List.{List}
 use lib.Dec.{eqb, ltb}
 use lib.ListN.{length, get_or}
-use Rattle.rows.specs.Walk.{Item, no_item}
-use Rattle.graph.specs.Check.{Graph}
-use Rattle.graph_access.specs.Names.{entry_module, entry_kind}
-use Rattle.graph_access.specs.Words.{some, option}
-use Rattle.facts.specs.declared.Fact.{Fact}
+use Rattle.determine_side_effects.specs.rows_crate.Walk.{Item, no_item}
+use Rattle.determine_side_effects.specs.graph_crate.Check.{Graph}
+use Rattle.determine_side_effects.specs.graph_access_crate.Names.{entry_module, entry_kind}
+use Rattle.determine_side_effects.specs.graph_access_crate.Words.{some, option}
+use Rattle.determine_side_effects.specs.facts_crate.declared.Fact.{Fact}
 use Rattle.determine_side_effects.specs.Effects.{last_verdicts}
 use Rattle.on_demand.specs.Demand.{user_entry}
 use Rattle.keep_rules.specs.Rules.{gives}

@@ -5,9 +5,9 @@ use native.Mathlib.Omega.{arith}
 use borrow.Author.Tests.{lt-ltb}
 use lib.Dec.{eqb, ltb}
 use lib.ListN.{length, drop, length-drop}
-use Rattle.graph.specs.Check.{Graph}
-use Rattle.graph_access.specs.Words.{option}
-use Rattle.facts.specs.Facts.{kind_of}
+use Rattle.determine_side_effects.specs.graph_crate.Check.{Graph}
+use Rattle.determine_side_effects.specs.graph_access_crate.Words.{option}
+use Rattle.determine_side_effects.specs.facts_crate.Facts.{kind_of}
 use Rattle.keep_record.specs.declared.Line.{Line}
 use Rattle.dynamic_entries.specs.Tries.{Progress}
 use Rattle.tree_shaking.specs.Rounds.{kept_module, keeps_module, has_moved, goes_on}

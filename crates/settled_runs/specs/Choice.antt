@@ -1,11 +1,11 @@
 -- What a run with options bit 7 promises of its facts and live entries (docs/RULES.md, Settled runs): which choices are settled, and the smallest one. An entry
 -- is live as its module is, so a choice is a set of facts and a set of modules. No order of entries, rounds or lines is named.
 use Rattle.std.specs.Prelude.{ℕ, ◌<◌, ◌≡◌, true, not, ◌||◌, List, [], length, get_or}
-use Rattle.graph.specs.Check.{Graph}
-use Rattle.graph_access.specs.Names.{related, related_module, related_statement, unreachable}
-use Rattle.graph_access.specs.Words.{entry_of}
-use Rattle.facts.specs.declared.Fact.{Fact}
-use Rattle.facts.specs.Facts.{statement_fact, bailout_fact}
+use Rattle.determine_side_effects.specs.graph_crate.Check.{Graph}
+use Rattle.determine_side_effects.specs.graph_access_crate.Names.{related, related_module, related_statement, unreachable}
+use Rattle.determine_side_effects.specs.graph_access_crate.Words.{entry_of}
+use Rattle.determine_side_effects.specs.facts_crate.declared.Fact.{Fact}
+use Rattle.determine_side_effects.specs.facts_crate.Facts.{statement_fact, bailout_fact}
 use Rattle.determine_side_effects.specs.Effects.{last_verdicts}
 use Rattle.entry_order.specs.Order.{module_of_entry, is_dynamic, is_user_defined}
 use Rattle.entry_starts.specs.Starts.{module_starts, user_starts}

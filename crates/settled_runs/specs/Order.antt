@@ -1,9 +1,9 @@
 -- Graphs that differ only in the order of their entries (docs/RULES.md, Settled runs).
 use Rattle.std.specs.Prelude.{ℕ, ◌<◌, ◌≡◌, ◌↔◌, true, List}
-use Rattle.rows.specs.Walk.{Item}
-use Rattle.graph.specs.Check.{Graph}
-use Rattle.graph_access.specs.Words.{entry_of}
-use Rattle.facts.specs.declared.Fact.{Fact}
+use Rattle.determine_side_effects.specs.rows_crate.Walk.{Item}
+use Rattle.determine_side_effects.specs.graph_crate.Check.{Graph}
+use Rattle.determine_side_effects.specs.graph_access_crate.Words.{entry_of}
+use Rattle.determine_side_effects.specs.facts_crate.declared.Fact.{Fact}
 use Rattle.entry_order.specs.Order.{module_of_entry, is_dynamic}
 use Rattle.dynamic_entries.specs.Sorted.{on_cycle}
 use Rattle.run_rows.specs.Run.{Run}

@@ -1,9 +1,9 @@
 -- When the rounds of a run end, with options bit 7 and without it (docs/RULES.md, Step 3), said of the rounds themselves: no count of lines or live modules, and
 -- no bound on the rounds, has to be believed for it.
 use Rattle.std.specs.Prelude.{ℕ, suc, ◌<◌, ◌≤◌, ◌≡◌, Bool, true, length}
-use Rattle.graph.specs.Check.{Graph}
-use Rattle.facts.specs.declared.Fact.{Fact}
-use Rattle.facts.specs.Facts.{module_fact, bailout_fact}
+use Rattle.determine_side_effects.specs.graph_crate.Check.{Graph}
+use Rattle.determine_side_effects.specs.facts_crate.declared.Fact.{Fact}
+use Rattle.determine_side_effects.specs.facts_crate.Facts.{module_fact, bailout_fact}
 use Rattle.determine_side_effects.specs.Effects.{last_verdicts}
 use Rattle.worklist.specs.Drain.{fact_at}
 use Rattle.dynamic_entries.specs.Tries.{Progress}

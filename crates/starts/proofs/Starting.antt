@@ -7,14 +7,14 @@ use native.Mathlib.Omega.{arith}
 use borrow.Author.Tests.{lt-ltb, le-ltb, ltb-true, ltb-false, eq-eqb, ne_eqb, eqb-true, eqb-false}
 use lib.Dec.{eqb, ltb}
 use lib.ListN.{length, get_or}
-use Rattle.rows.specs.declared.Walk.{Walk}
-use Rattle.rows.specs.declared.Walk.TheVariants.{At, Fault}
-use Rattle.rows.proofs.Walks.{clash}
-use Rattle.graph_format.specs.declared.Header.{Header}
-use Rattle.graph_tables.specs.Tables.{header_in}
-use Rattle.graph.specs.Check.{Graph, graph_in, OnceRead}
-use Rattle.graph_access.specs.Words.{statement_list, normal}
-use Rattle.facts.specs.Facts.{fact_of, module_fact, Good}
+use Rattle.determine_side_effects.specs.rows_crate.declared.Walk.{Walk}
+use Rattle.determine_side_effects.specs.rows_crate.declared.Walk.TheVariants.{At, Fault}
+use Rattle.determine_side_effects.proofs.rows_crate.Walks.{clash}
+use Rattle.determine_side_effects.specs.graph_format_crate.declared.Header.{Header}
+use Rattle.determine_side_effects.specs.graph_tables_crate.Tables.{header_in}
+use Rattle.determine_side_effects.specs.graph_crate.Check.{Graph, graph_in, OnceRead}
+use Rattle.determine_side_effects.specs.graph_access_crate.Words.{statement_list, normal}
+use Rattle.determine_side_effects.specs.facts_crate.Facts.{fact_of, module_fact, Good}
 use Rattle.determine_side_effects.proofs.Lists.{both, length-tabulate, get_d_tabulate}
 use Rattle.starts.specs.Starts.{unused_fault, is_normal_index, start_fault, starts_fault, starts_walk, starts_of, StartsGood}
 

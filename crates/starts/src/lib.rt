@@ -1,20 +1,20 @@
 // The starts of a drain: triples of a kind and two parts, and what is wrong with them.
 ghost use Rattle.std.specs.Prelude.{◌≡◌, ℕ, ◌+◌, ◌*◌, ◌-◌, ◌/◌, ◌%◌, ◌<◌, ◌≤◌, Bool, true, false, length, get_or};
-ghost use Rattle.graph_tables.specs.Tables.{header_in};
-ghost use Rattle.graph.specs.Check.{graph_in, OnceRead};
-ghost use Rattle.graph.specs.Loaded.{Loaded};
-ghost use Rattle.starts.specs.Starts.{unused_fault, is_normal_index, start_fault as startFaultOf, starts_fault, starts_walk, starts_of, StartsGood};
+ghost use Rattle.determine_side_effects.specs.graph_tables_crate.Tables.{header_in};
+ghost use Rattle.determine_side_effects.specs.graph_crate.Check.{graph_in, OnceRead};
+ghost use Rattle.determine_side_effects.specs.graph_crate.Loaded.{Loaded};
+ghost use Rattle.starts.specs.Starts.{unused_fault, is_normal_index, start_fault as start_fault_of, starts_fault, starts_walk, starts_of, StartsGood};
 
-use graph_access::modules;
-use index::ModuleIdx;
-use rows::Walk;
+use determine_side_effects::graph_access_crate::modules;
+use determine_side_effects::index_crate::ModuleIdx;
+use determine_side_effects::rows_crate::Walk;
 
 // Whether a module's index is one of a normal module.
 fn is_normal_index(numbers: &[u32], tables: &[usize], m: usize) -> bool
     requires { Loaded numbers.now tables.now }
     ensures { result ≡ is_normal_index (graph_in numbers.now) m }
 {
-    let h = graph::header_of(numbers);
+    let h = determine_side_effects::graph_crate::header_of(numbers);
     if m >= h.modules {
         return false;
     }
@@ -24,7 +24,7 @@ fn is_normal_index(numbers: &[u32], tables: &[usize], m: usize) -> bool
 // The faulty number of a start of a statement's kind, counted from 1, or 0.
 fn statement_fault(numbers: &[u32], tables: &[usize], a: usize, b: usize) -> usize
     requires { Loaded numbers.now tables.now }
-    ensures { result ≡ startFaultOf (graph_in numbers.now) 2 a b }
+    ensures { result ≡ start_fault_of (graph_in numbers.now) 2 a b }
 {
     if !is_normal_index(numbers, tables, a) {
         return 2;
@@ -38,9 +38,9 @@ fn statement_fault(numbers: &[u32], tables: &[usize], a: usize, b: usize) -> usi
 // Of a use's kind.
 fn use_fault(numbers: &[u32], tables: &[usize], a: usize, b: usize) -> usize
     requires { Loaded numbers.now tables.now }
-    ensures { (result ≡ startFaultOf (graph_in numbers.now) 3 a b) × (result ≡ startFaultOf (graph_in numbers.now) 4 a b) }
+    ensures { (result ≡ start_fault_of (graph_in numbers.now) 3 a b) × (result ≡ start_fault_of (graph_in numbers.now) 4 a b) }
 {
-    let h = graph::header_of(numbers);
+    let h = determine_side_effects::graph_crate::header_of(numbers);
     if a >= h.symbols {
         return 2;
     }
@@ -66,7 +66,7 @@ fn unused_fault(b: usize) -> usize
 // The faulty number of a start, counted from 1, or 0.
 pub fn start_fault(numbers: &[u32], tables: &[usize], kind: usize, a: usize, b: usize) -> usize
     requires { Loaded numbers.now tables.now }
-    ensures { result ≡ startFaultOf (graph_in numbers.now) kind a b }
+    ensures { result ≡ start_fault_of (graph_in numbers.now) kind a b }
 {
     if kind == 1 {
         if is_normal_index(numbers, tables, a) {
@@ -84,7 +84,7 @@ pub fn start_fault(numbers: &[u32], tables: &[usize], kind: usize, a: usize, b: 
         return use_fault(numbers, tables, a, b);
     }
     if kind == 6 {
-        let h = graph::header_of(numbers);
+        let h = determine_side_effects::graph_crate::header_of(numbers);
         if a < h.modules {
             return unused_fault(b);
         }
@@ -108,9 +108,9 @@ pub fn check(numbers: &[u32], tables: &[usize], starts: &[u32]) -> Walk
         let fault = start_fault(
             numbers,
             tables,
-            rows::wide(starts[p]),
-            rows::wide(starts[p + 1]),
-            rows::wide(starts[p + 2]),
+            determine_side_effects::rows_crate::wide(starts[p]),
+            determine_side_effects::rows_crate::wide(starts[p + 1]),
+            determine_side_effects::rows_crate::wide(starts[p + 2]),
         );
         if fault != 0 {
             return Walk::Fault(3, p + fault - 1);

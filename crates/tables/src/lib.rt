@@ -1,6 +1,10 @@
 // All tables of a graph in one slice: where each section begins, and which size of slice a graph needs.
 ghost use Rattle.std.specs.Prelude.{◌≡◌, ℕ, ◌+◌, ◌<◌, ◌≤◌, Bool, true, false, length, get_or};
-ghost use Rattle.tables.specs.Layout.{start_of, section as sectionOf, Inside, Kept, Counts, FitsSize};
+ghost use Rattle.tables.specs.Layout.{start_of, section as section_of, Inside, Kept, Counts, FitsSize};
+
+// The crates below, for the crates above, which list this one alone.
+pub use graph_format as graph_format_crate;
+pub use graph_format::rows_crate;
 
 use graph_format::Header;
 
@@ -113,7 +117,7 @@ pub fn lay_out(tables: &mut [usize], h: Header)
 // Section k.
 pub fn section(tables: &[usize], k: usize) -> &[usize]
     requires { Inside k tables.now }
-    ensures { result.now ≡ sectionOf k tables.now }
+    ensures { result.now ≡ section_of k tables.now }
 {
     let at = tables[k];
     let end = tables[k + 1];
@@ -123,7 +127,7 @@ pub fn section(tables: &[usize], k: usize) -> &[usize]
 // Clears section k.
 pub fn clear(tables: &mut [usize], k: usize)
     requires { Inside k tables.old × (k + 1 < get_or tables.old k 0) }
-    ensures { Kept (get_or tables.old k 0) tables.old tables.new × ((i : ℕ) → get_or (sectionOf k tables.new) i 0 ≡ 0) }
+    ensures { Kept (get_or tables.old k 0) tables.old tables.new × ((i : ℕ) → get_or (section_of k tables.new) i 0 ≡ 0) }
 {
     let end = tables[k + 1];
     let mut at = tables[k];

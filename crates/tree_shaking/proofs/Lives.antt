@@ -7,8 +7,8 @@ use native.Mathlib.Omega.{arith}
 use borrow.Author.Tests.{eq-eqb, ne_eqb, lt-ltb, le-ltb}
 use lib.Dec.{ltb}
 use lib.ListN.{length, get_or}
-use Rattle.graph.specs.Check.{Graph}
-use Rattle.graph_access.specs.Words.{tabulate, option}
+use Rattle.determine_side_effects.specs.graph_crate.Check.{Graph}
+use Rattle.determine_side_effects.specs.graph_access_crate.Words.{tabulate, option}
 use Rattle.entry_order.specs.Order.{those}
 use Rattle.entry_order.specs.Plan.{is_set, live_in}
 use Rattle.entry_order.proofs.Those.{those_here, those_not}

@@ -7,10 +7,10 @@ use native.Mathlib.Omega.{arith}
 use borrow.Author.Tests.{eq-eqb, ne_eqb}
 use lib.Dec.{eqb}
 use lib.ListN.{get_or}
-use Rattle.graph_access.specs.Words.{some}
-use Rattle.facts.specs.declared.Fact.{Fact}
-use Rattle.facts.specs.Facts.{kind_of, module_fact}
-use Rattle.facts.proofs.Folds.{some_next, some_here, some_none}
+use Rattle.determine_side_effects.specs.graph_access_crate.Words.{some}
+use Rattle.determine_side_effects.specs.facts_crate.declared.Fact.{Fact}
+use Rattle.determine_side_effects.specs.facts_crate.Facts.{kind_of, module_fact}
+use Rattle.determine_side_effects.proofs.facts_crate.Folds.{some_next, some_here, some_none}
 use Rattle.keep_record.specs.declared.Line.{Line}
 use Rattle.keep_record.specs.Held.{line_at, lines_of}
 use Rattle.keep_record.proofs.Rows.{lines-length, lines_at}

@@ -7,7 +7,7 @@ use native.Mathlib.Decide.{dec_lt}
 use native.Mathlib.Omega.{arith}
 use borrow.Author.Tests.{le-ltb}
 use lib.ListN.{length, get_or, drop}
-use Rattle.graph.specs.Check.{Graph}
+use Rattle.determine_side_effects.specs.graph_crate.Check.{Graph}
 use Rattle.determine_side_effects.specs.Effects.{last_verdicts}
 use Rattle.keep_record.specs.declared.Added.{Added}
 use Rattle.keep_record.specs.declared.Added.TheVariants.{Lines, Full}

@@ -1,7 +1,7 @@
 -- The run's own starts, by who brought them: what steps 1, 3 and 4 start, in their order (docs/RULES.md, A run's own starts).
 use Rattle.std.specs.Prelude.{ℕ, zero, suc, ◌+◌, Bool, true, false, List, [], ◌∷◌, ◌++◌, map, length, drop}
-use Rattle.graph.specs.Check.{Graph}
-use Rattle.facts.specs.declared.Fact.{Fact}
+use Rattle.determine_side_effects.specs.graph_crate.Check.{Graph}
+use Rattle.determine_side_effects.specs.facts_crate.declared.Fact.{Fact}
 use Rattle.keep_record.specs.declared.Line.{Line}
 use Rattle.entry_order.specs.Order.{module_of_entry, user_entries}
 use Rattle.entry_starts.specs.Starts.{module_starts, user_starts}

@@ -1,9 +1,9 @@
 -- The run's main part and its runtime stage (docs/RULES.md, The run; 000, `include_statements`).
 use Rattle.std.specs.Prelude.{ℕ, zero, suc, ◌+◌, ◌*◌, Bool, true, false, ◌||◌, List, [], ◌∷◌, ◌++◌, eqb, ltb, length, drop}
-use Rattle.graph.specs.Check.{Graph}
-use Rattle.graph_access.specs.Words.{some, tabulate, option}
-use Rattle.facts.specs.declared.Fact.{Fact}
-use Rattle.facts.specs.Facts.{kind_of}
+use Rattle.determine_side_effects.specs.graph_crate.Check.{Graph}
+use Rattle.determine_side_effects.specs.graph_access_crate.Words.{some, tabulate, option}
+use Rattle.determine_side_effects.specs.facts_crate.declared.Fact.{Fact}
+use Rattle.determine_side_effects.specs.facts_crate.Facts.{kind_of}
 use Rattle.keep_record.specs.declared.Line.{Line}
 use Rattle.worklist.specs.Drain.{drained_all}
 use Rattle.entry_order.specs.Order.{those, grouped, module_of_entry, user_entries}

@@ -1,7 +1,7 @@
 // The run: its main part and its runtime stage (include_statements.rs, `include_statements`).
 ghost use Rattle.std.specs.Prelude.{◌≡◌, ℕ, ◌+◌, ◌*◌, ◌<◌, ◌≤◌, [], length, get_or, set};
-ghost use Rattle.graph_tables.specs.Tables.{header_in};
-ghost use Rattle.graph.specs.Check.{graph_in};
+ghost use Rattle.determine_side_effects.specs.graph_tables_crate.Tables.{header_in};
+ghost use Rattle.determine_side_effects.specs.graph_crate.Check.{graph_in};
 ghost use Rattle.determine_side_effects.specs.Effects.{last_verdicts};
 ghost use Rattle.keep_rules.specs.Prepared.{Prepared};
 ghost use Rattle.keep_record.specs.Held.{lines_of};
@@ -12,12 +12,12 @@ ghost use Rattle.entry_starts.specs.Starts.{module_starts};
 ghost use Rattle.entry_starts.specs.Working.{Working, Started};
 ghost use Rattle.dynamic_entries.specs.Sorted.{sorted_entries};
 ghost use Rattle.dynamic_entries.specs.Tries.{tries, progress_in, Planned, Unlived};
-ghost use Rattle.tree_shaking.specs.Rounds.{users_starts, round as roundOf, kept_module, live_count, goes_on, rounds_from, main_part};
+ghost use Rattle.tree_shaking.specs.Rounds.{users_starts, round as round_of, kept_module, live_count, goes_on, rounds_from, main_part};
 ghost use Rattle.tree_shaking.specs.Parts.{Progressed, CountsLive, TellsFurther, MainEnds, StageEnds};
 
 use entry_liveness::next_live;
-use graph_access::entries;
-use index::EntryIdx;
+use determine_side_effects::graph_access_crate::entries;
+use determine_side_effects::index_crate::EntryIdx;
 use keep_record::{Added, Stage};
 
 // The bit of the options by which rounds go on until nothing moves.
@@ -87,7 +87,7 @@ fn include_live_entry(
     requires working { Working (graph_in numbers.now) 0 partners.old marks.old lines.old count × (plan_size (header_in numbers.now) ≤ length plan.old) × Entries (graph_in numbers.now) plan.old (header_in numbers.now).entries × (i < (header_in numbers.now).entries) }
     ensures { Started (graph_in numbers.now) 0 (module_starts (graph_in numbers.now) (module_of_entry (graph_in numbers.now) (get_or plan.old i 0))) (lines_of count lines.old) partners.new marks.new lines.new result × (plan.new ≡ set plan.old ((header_in numbers.now).entries + module_of_entry (graph_in numbers.now) (get_or plan.old i 0)) 1) × (module_of_entry (graph_in numbers.now) (get_or plan.old i 0) < (header_in numbers.now).modules) }
 {
-    let h = graph::header_of(numbers);
+    let h = determine_side_effects::graph_crate::header_of(numbers);
     let m = entries::entry_module(numbers, tables, EntryIdx(plan[i]));
     let u = m.0;
     let live = entry_order::live_at(h);
@@ -110,7 +110,7 @@ fn try_dynamic_entries(
     requires working { Working (graph_in numbers.now) 0 partners.old marks.old lines.old count × Planned (graph_in numbers.now) plan.old users }
     ensures { Progressed (graph_in numbers.now) users (tries (graph_in numbers.now) (last_verdicts (graph_in numbers.now)) (sorted_entries (graph_in numbers.now)) (progress_in (header_in numbers.now) (lines_of count lines.old) plan.old)) partners.new marks.new lines.new plan.new result }
 {
-    let h = graph::header_of(numbers);
+    let h = determine_side_effects::graph_crate::header_of(numbers);
     let mut total = count;
     let mut i = next_live(numbers, tables, marks, plan, users, users);
     while i < h.entries {
@@ -141,7 +141,7 @@ fn round(
 ) -> Added
     requires prepared { Prepared numbers.now tables.now }
     requires working { Working (graph_in numbers.now) 0 partners.old marks.old lines.old count × Planned (graph_in numbers.now) plan.old users × (taken ≤ count) }
-    ensures { Progressed (graph_in numbers.now) users (roundOf (graph_in numbers.now) (last_verdicts (graph_in numbers.now)) taken (progress_in (header_in numbers.now) (lines_of count lines.old) plan.old)) partners.new marks.new lines.new plan.new result }
+    ensures { Progressed (graph_in numbers.now) users (round_of (graph_in numbers.now) (last_verdicts (graph_in numbers.now)) taken (progress_in (header_in numbers.now) (lines_of count lines.old) plan.old)) partners.new marks.new lines.new plan.new result }
 {
     match passes::include_cjs_bailout_exports(
         numbers, tables, partners, marks, lines, count, taken,
@@ -160,7 +160,7 @@ fn has_module(lines: &[u32], from: usize, to: usize) -> bool
 {
     let mut k = from;
     while k < to {
-        if facts::kind_of(keep_record::fact_at(lines, k)) == 1 {
+        if determine_side_effects::facts_crate::kind_of(keep_record::fact_at(lines, k)) == 1 {
             return true;
         }
         k += 1;
@@ -173,7 +173,7 @@ fn live_count(numbers: &[u32], plan: &[usize]) -> usize
     requires { (7 ≤ length numbers.now) × (plan_size (header_in numbers.now) ≤ length plan.now) × (length plan.now < 4294967296) }
     ensures { result ≡ live_count (graph_in numbers.now) (live_in (header_in numbers.now) plan.now) }
 {
-    let h = graph::header_of(numbers);
+    let h = determine_side_effects::graph_crate::header_of(numbers);
     let first = entry_order::live_at(h);
     let mut live: usize = 0;
     let mut m: usize = 0;
@@ -248,7 +248,7 @@ fn rounds(
     requires working { Working (graph_in numbers.now) 0 partners.old marks.old lines.old count × Planned (graph_in numbers.now) plan.old users }
     ensures { MainEnds (graph_in numbers.now) users (rounds_from (graph_in numbers.now) (last_verdicts (graph_in numbers.now)) (goes_on (graph_in numbers.now)) (2 * (header_in numbers.now).modules + 1) 0 0 (progress_in (header_in numbers.now) (lines_of count lines.old) plan.old)) partners.new marks.new lines.new plan.new result }
 {
-    let h = graph::header_of(numbers);
+    let h = determine_side_effects::graph_crate::header_of(numbers);
     let mut total = count;
     let mut taken: usize = 0;
     let mut made: usize = 0;

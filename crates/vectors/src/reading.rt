@@ -7,7 +7,7 @@ fn numbers_read(numbers: &[u32], n: usize) {
     let mut i: usize = 0;
     while i < numbers.len() {
         if i < n {
-            text::number(rows::wide(numbers[i]) as u64);
+            text::number(graph::rows_crate::wide(numbers[i]) as u64);
         }
         i += 1;
     }

@@ -2,14 +2,14 @@
 use Rattle.std.specs.Prelude.{ℕ, ◌≡◌, refl, List, [], ◌∷◌}
 use Rattle.leb128.specs.Groups.{value, groups, ended, shortest, good}
 use Rattle.leb128.specs.Read.{Decoded, all, refused, before, numbers_from, read_of}
-use Rattle.rows.specs.Walk.{got, fault, within, obeys, number, cells, many, elem, repeated, firsts, list, plain_row, distinct_row, lists, item, and_then}
-use Rattle.graph_format.specs.Format.{header_rules, header_of, namespace_limit, least_statements, statement_limit, module_rules, import_lists, export_lists, name_lists, module_lists, module_at, less_module, modules_at, kind_of, statements_of, import_records_of, symbol_rules, owners_counts, symbol_lists, symbol_at, symbols_at, depended_at, member_rules, parts_at, reference_at, statement_lists, statement_at, module_statements, statements_at, related_module_at, related_import_record_at, related_at, entry_at, entries_at}
-use Rattle.graph_tables.specs.Tables.{first_of}
-use Rattle.graph.specs.declared.Checked.{Checked}
-use Rattle.graph.specs.declared.Checked.TheVariants.{Accepted, Refused}
-use Rattle.graph.specs.Check.{helpers_at, graph_at, walked, each, runtime_normal, owns_namespace, root_is_root, later_rules, check_of, answer_of}
-use Rattle.graph_access.specs.Words.{flag, tabulate, some, module_of, symbol_of, statement_list, statement_of, normal, option}
-use Rattle.facts.specs.Facts.{fact_of, mark_of, mark_count}
+use Rattle.determine_side_effects.specs.rows_crate.Walk.{got, fault, within, obeys, number, cells, many, elem, repeated, firsts, list, plain_row, distinct_row, lists, item, and_then}
+use Rattle.determine_side_effects.specs.graph_format_crate.Format.{header_rules, header_of, namespace_limit, least_statements, statement_limit, module_rules, import_lists, export_lists, name_lists, module_lists, module_at, less_module, modules_at, kind_of, statements_of, import_records_of, symbol_rules, owners_counts, symbol_lists, symbol_at, symbols_at, depended_at, member_rules, parts_at, reference_at, statement_lists, statement_at, module_statements, statements_at, related_module_at, related_import_record_at, related_at, entry_at, entries_at}
+use Rattle.determine_side_effects.specs.graph_tables_crate.Tables.{first_of}
+use Rattle.determine_side_effects.specs.graph_crate.declared.Checked.{Checked}
+use Rattle.determine_side_effects.specs.graph_crate.declared.Checked.TheVariants.{Accepted, Refused}
+use Rattle.determine_side_effects.specs.graph_crate.Check.{helpers_at, graph_at, walked, each, runtime_normal, owns_namespace, root_is_root, later_rules, check_of, answer_of}
+use Rattle.determine_side_effects.specs.graph_access_crate.Words.{flag, tabulate, some, module_of, symbol_of, statement_list, statement_of, normal, option}
+use Rattle.determine_side_effects.specs.facts_crate.Facts.{fact_of, mark_of, mark_count}
 use Rattle.determine_side_effects.specs.Effects.{effectful, seeds, reaches, moves, moved, pass, passes, settle, relaxed, rescanned, recomputed, first_verdict, first_verdicts, last_verdicts, has_effects}
 use Rattle.on_demand.specs.Demand.{user_entry, on_demand, gated, has_gated, has_body, claims, claimed, body_of}
 use Rattle.on_demand.specs.Tabled.{one, keyed}
@@ -20,9 +20,9 @@ use Rattle.keep_record.specs.Lines.{numbers_of, written, elem as elem_of, marks_
 use Rattle.keep_record.specs.Held.{line_at, lines_of}
 use Rattle.worklist.specs.Drain.{fact_at, followed, joined, forwards_to, is_module, joins_all, module_line, name_of, joined_to, joins, news, drained, started, drained_all, drain_of}
 use Rattle.starts.specs.Starts.{starts_of}
-use Rattle.graph_access.specs.Names.{kind, effects, exports, module_type, flags, wrap, wrapper, namespace, reexport_count, statement_count, scan_effects, scan_statement_count, import_records, dependencies, named_imports, own_exports, entry_references, common_js_export_symbols, resolved_exports, common_js_namespaces, enum_members, module_helpers, only, import_record_target, import_record_kind, import_record_bits, export_name, export_symbol, export_from_common_js, namespace_symbol, namespace_module, enum_name, enum_member, helper_number, helper_statement, owner, symbol_name, root, alias_namespace, alias_name, constant_bits, export_chain, declaring_statements, written_property_statements, statement_bits, statement_import_records, references, reference_kind, reference_symbol, reference_flag, property_count, first_property, depended_on, entry_module, entry_kind, related, related_module, related_statement, related_import_record, unreachable}
-use Rattle.graph_access.specs.Lists.{place_of, module_widths, symbol_widths, module_limits, symbol_limits}
-use Rattle.graph_access.specs.Words.{root_of}
+use Rattle.determine_side_effects.specs.graph_access_crate.Names.{kind, effects, exports, module_type, flags, wrap, wrapper, namespace, reexport_count, statement_count, scan_effects, scan_statement_count, import_records, dependencies, named_imports, own_exports, entry_references, common_js_export_symbols, resolved_exports, common_js_namespaces, enum_members, module_helpers, only, import_record_target, import_record_kind, import_record_bits, export_name, export_symbol, export_from_common_js, namespace_symbol, namespace_module, enum_name, enum_member, helper_number, helper_statement, owner, symbol_name, root, alias_namespace, alias_name, constant_bits, export_chain, declaring_statements, written_property_statements, statement_bits, statement_import_records, references, reference_kind, reference_symbol, reference_flag, property_count, first_property, depended_on, entry_module, entry_kind, related, related_module, related_statement, related_import_record, unreachable}
+use Rattle.determine_side_effects.specs.graph_access_crate.Lists.{place_of, module_widths, symbol_widths, module_limits, symbol_limits}
+use Rattle.determine_side_effects.specs.graph_access_crate.Words.{root_of}
 
 -- a file with room for so many numbers reads as this; numbers are checked with this answer; the last verdicts of a graph are these; the
 -- record of a drain of a graph by these starts is this

@@ -4,15 +4,15 @@ use mathlib.Core.Path.{◌≡◌, ap, ◌∙◌, sym}
 use mathlib.Core.List.{List, [], ◌∷◌}
 use native.Mathlib.Omega.{arith}
 use lib.ListN.{length, get_or}
-use Rattle.graph_tables.specs.Tables.{header_in}
-use Rattle.graph.specs.Check.{Graph, graph_in}
-use Rattle.graph_access.specs.Names.{owner, declaring_statements, only}
-use Rattle.index.specs.declared.ModuleIdx.{ModuleIdx}
-use Rattle.index.specs.declared.StmtIdx.{StmtIdx}
-use Rattle.facts.specs.declared.Fact.TheVariants.{Statement}
-use Rattle.facts.specs.Facts.{statement_fact}
-use Rattle.graph_access.specs.Words.{tabulate, symbol_of, statement_list}
-use Rattle.facts.proofs.Folds.{tabulate_next, tabulate-none}
+use Rattle.determine_side_effects.specs.graph_tables_crate.Tables.{header_in}
+use Rattle.determine_side_effects.specs.graph_crate.Check.{Graph, graph_in}
+use Rattle.determine_side_effects.specs.graph_access_crate.Names.{owner, declaring_statements, only}
+use Rattle.determine_side_effects.specs.index_crate.declared.ModuleIdx.{ModuleIdx}
+use Rattle.determine_side_effects.specs.index_crate.declared.StmtIdx.{StmtIdx}
+use Rattle.determine_side_effects.specs.facts_crate.declared.Fact.TheVariants.{Statement}
+use Rattle.determine_side_effects.specs.facts_crate.Facts.{statement_fact}
+use Rattle.determine_side_effects.specs.graph_access_crate.Words.{tabulate, symbol_of, statement_list}
+use Rattle.determine_side_effects.proofs.facts_crate.Folds.{tabulate_next, tabulate-none}
 use Rattle.keep_record.specs.declared.Line.{Line}
 use Rattle.keep_record.specs.declared.Added.TheVariants.{Lines, Full}
 use Rattle.keep_record.specs.Lines.{added, adds}

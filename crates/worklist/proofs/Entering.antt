@@ -9,13 +9,13 @@ use native.Mathlib.Omega.{arith}
 use borrow.Author.Tests.{eq-eqb, ne_eqb}
 use lib.Seq.{get_or-set_same, get_or-set_other, get_or_at, drop-append-le}
 use lib.ListN.{length, get_or, set, drop, length-set, length-append, length-drop, drop_of_length-le, get_or-append}
-use Rattle.graph.specs.Check.{Graph}
-use Rattle.graph_access.specs.Names.{owner}
-use Rattle.index.specs.declared.ModuleIdx.{ModuleIdx}
-use Rattle.index.specs.declared.SymbolIdx.{SymbolIdx}
-use Rattle.facts.specs.declared.Fact.TheVariants.{Module, Forward}
-use Rattle.facts.specs.Facts.{kind_of, first_part, module_fact, forward_fact}
-use Rattle.graph_access.specs.Words.{symbol_of}
+use Rattle.determine_side_effects.specs.graph_crate.Check.{Graph}
+use Rattle.determine_side_effects.specs.graph_access_crate.Names.{owner}
+use Rattle.determine_side_effects.specs.index_crate.declared.ModuleIdx.{ModuleIdx}
+use Rattle.determine_side_effects.specs.index_crate.declared.SymbolIdx.{SymbolIdx}
+use Rattle.determine_side_effects.specs.facts_crate.declared.Fact.TheVariants.{Module, Forward}
+use Rattle.determine_side_effects.specs.facts_crate.Facts.{kind_of, first_part, module_fact, forward_fact}
+use Rattle.determine_side_effects.specs.graph_access_crate.Words.{symbol_of}
 use Rattle.keep_record.specs.declared.Line.{Line}
 use Rattle.worklist.specs.Drain.{fact_at, forwards_to, is_module, module_line}
 use Rattle.worklist.specs.Links.{first_forward, last_forward, Linked}

@@ -7,17 +7,17 @@ use native.Mathlib.Decide.{dec_lt}
 use native.Mathlib.Omega.{arith}
 use borrow.Author.Tests.{ne_eqb, le-leb, lt-leb}
 use lib.ListN.{length, get_or, take, drop, length-take}
-use Rattle.graph_tables.specs.Tables.{header_in}
-use Rattle.graph.specs.Check.{Graph, graph_in}
-use Rattle.graph_access.specs.Names.{owner}
-use Rattle.index.specs.declared.ModuleIdx.{ModuleIdx}
-use Rattle.index.specs.declared.SymbolIdx.{SymbolIdx}
-use Rattle.index.specs.declared.StmtIdx.{StmtIdx}
-use Rattle.facts.specs.declared.Reason.{Reason}
-use Rattle.facts.specs.declared.Fact.{Fact}
-use Rattle.facts.specs.declared.Fact.TheVariants.{Module, Statement, Use, CheckedUse, Forward, Bailout}
-use Rattle.facts.specs.Facts.{Good}
-use Rattle.graph_access.specs.Words.{symbol_of}
+use Rattle.determine_side_effects.specs.graph_tables_crate.Tables.{header_in}
+use Rattle.determine_side_effects.specs.graph_crate.Check.{Graph, graph_in}
+use Rattle.determine_side_effects.specs.graph_access_crate.Names.{owner}
+use Rattle.determine_side_effects.specs.index_crate.declared.ModuleIdx.{ModuleIdx}
+use Rattle.determine_side_effects.specs.index_crate.declared.SymbolIdx.{SymbolIdx}
+use Rattle.determine_side_effects.specs.index_crate.declared.StmtIdx.{StmtIdx}
+use Rattle.determine_side_effects.specs.facts_crate.declared.Reason.{Reason}
+use Rattle.determine_side_effects.specs.facts_crate.declared.Fact.{Fact}
+use Rattle.determine_side_effects.specs.facts_crate.declared.Fact.TheVariants.{Module, Statement, Use, CheckedUse, Forward, Bailout}
+use Rattle.determine_side_effects.specs.facts_crate.Facts.{Good}
+use Rattle.determine_side_effects.specs.graph_access_crate.Words.{symbol_of}
 use Rattle.keep_record.specs.declared.Line.{Line}
 use Rattle.keep_record.specs.declared.Added.{Added}
 use Rattle.keep_record.specs.declared.Added.TheVariants.{Lines}

@@ -11,12 +11,12 @@ use borrow.Author.Tests.{eq-eqb, ne_eqb}
 use lib.Dec.{eqb}
 use lib.Seq.{drop-cons, drop-drop, get_or-drop, take-append-le}
 use lib.ListN.{length, get_or, take, drop, length-drop}
-use Rattle.graph.specs.Check.{Graph}
-use Rattle.graph_access.specs.Names.{owner}
-use Rattle.index.specs.declared.SymbolIdx.{SymbolIdx}
-use Rattle.facts.specs.declared.Fact.TheVariants.{Forward}
-use Rattle.facts.specs.Facts.{Good, first_part}
-use Rattle.graph_access.specs.Words.{symbol_of}
+use Rattle.determine_side_effects.specs.graph_crate.Check.{Graph}
+use Rattle.determine_side_effects.specs.graph_access_crate.Names.{owner}
+use Rattle.determine_side_effects.specs.index_crate.declared.SymbolIdx.{SymbolIdx}
+use Rattle.determine_side_effects.specs.facts_crate.declared.Fact.TheVariants.{Forward}
+use Rattle.determine_side_effects.specs.facts_crate.Facts.{Good, first_part}
+use Rattle.determine_side_effects.specs.graph_access_crate.Words.{symbol_of}
 use Rattle.keep_record.specs.declared.Line.{Line}
 use Rattle.keep_record.specs.declared.Added.{Added}
 use Rattle.keep_record.specs.declared.Added.TheVariants.{Lines, Full}

@@ -10,14 +10,14 @@ use borrow.Author.Tests.{eqb-true}
 use lib.Dec.{eqb}
 use lib.Seq.{get_or-drop, drop-drop}
 use lib.ListN.{length, get_or, drop, length-drop}
-use Rattle.graph.specs.Check.{Graph}
-use Rattle.graph_access.specs.Names.{owner}
-use Rattle.index.specs.declared.ModuleIdx.{ModuleIdx}
-use Rattle.index.specs.declared.SymbolIdx.{SymbolIdx}
-use Rattle.facts.specs.declared.Fact.{Fact}
-use Rattle.facts.specs.declared.Fact.TheVariants.{Module, Statement, Use, CheckedUse, Forward, Bailout}
-use Rattle.facts.specs.Facts.{kind_of, module_fact}
-use Rattle.graph_access.specs.Words.{symbol_of}
+use Rattle.determine_side_effects.specs.graph_crate.Check.{Graph}
+use Rattle.determine_side_effects.specs.graph_access_crate.Names.{owner}
+use Rattle.determine_side_effects.specs.index_crate.declared.ModuleIdx.{ModuleIdx}
+use Rattle.determine_side_effects.specs.index_crate.declared.SymbolIdx.{SymbolIdx}
+use Rattle.determine_side_effects.specs.facts_crate.declared.Fact.{Fact}
+use Rattle.determine_side_effects.specs.facts_crate.declared.Fact.TheVariants.{Module, Statement, Use, CheckedUse, Forward, Bailout}
+use Rattle.determine_side_effects.specs.facts_crate.Facts.{kind_of, module_fact}
+use Rattle.determine_side_effects.specs.graph_access_crate.Words.{symbol_of}
 use Rattle.keep_record.specs.declared.Line.{Line}
 use Rattle.worklist.specs.Drain.{line, forwards_to, is_module, module_line}
 use Rattle.worklist.specs.Links.{first_forward, last_forward}

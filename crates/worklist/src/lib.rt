@@ -1,11 +1,11 @@
 // The drain's work: each line in turn, and what follows from it added behind the last line (include_statements.rs).
 ghost use Rattle.std.specs.Prelude.{◌≡◌, ℕ, ◌+◌, ◌*◌, ◌-◌, ◌/◌, ◌<◌, ◌≤◌, List, [], ◌∷◌, length, get_or, take, drop};
-ghost use Rattle.graph_tables.specs.Tables.{header_in};
-ghost use Rattle.graph.specs.Check.{graph_in};
-ghost use Rattle.graph_access.specs.Names.{owner as ownerIn};
+ghost use Rattle.determine_side_effects.specs.graph_tables_crate.Tables.{header_in};
+ghost use Rattle.determine_side_effects.specs.graph_crate.Check.{graph_in};
+ghost use Rattle.determine_side_effects.specs.graph_access_crate.Names.{owner as owner_in};
 ghost use Rattle.determine_side_effects.specs.Effects.{last_verdicts};
-ghost use Rattle.facts.specs.Facts.{Good, mark_count};
-ghost use Rattle.graph_access.specs.Words.{symbol_of};
+ghost use Rattle.determine_side_effects.specs.facts_crate.Facts.{Good, mark_count};
+ghost use Rattle.determine_side_effects.specs.graph_access_crate.Words.{symbol_of};
 ghost use Rattle.keep_rules.specs.Prepared.{Prepared};
 ghost use Rattle.keep_record.specs.Lines.{adds};
 ghost use Rattle.keep_record.specs.Held.{line_at, lines_of, Held, Grown};
@@ -13,12 +13,12 @@ ghost use Rattle.worklist.specs.Drain.{joined, joins_all, joins, news, drained, 
 ghost use Rattle.starts.specs.Starts.{starts_of};
 ghost use Rattle.worklist.specs.Links.{Linked, LinkReady, StillLinked, AllLinked, firsts_at, lasts_at, nexts_at, partners_size};
 ghost use Rattle.starts.specs.Starts.{StartsGood};
-ghost use Rattle.facts.specs.declared.Fact.TheVariants.{Forward};
+ghost use Rattle.determine_side_effects.specs.facts_crate.declared.Fact.TheVariants.{Forward};
 
-use facts::Fact;
-use graph_access::symbols;
-use graph_format::Header;
-use index::{ModuleIdx, SymbolIdx};
+use determine_side_effects::facts_crate::Fact;
+use determine_side_effects::graph_access_crate::symbols;
+use determine_side_effects::graph_format_crate::Header;
+use determine_side_effects::index_crate::{ModuleIdx, SymbolIdx};
 use keep_record::{Added, Line, Stage};
 
 // Where in the table of K1's partners the first forwards begin.
@@ -111,7 +111,7 @@ fn join_forwards(
     requires m_bound { (m.0 < (header_in numbers.now).modules) × (stage.base ≤ k) × (k < stage.count) }
     ensures { Grown (graph_in numbers.now) stage.base (adds (graph_in numbers.now) stage.base (lines_of stage.count lines.old) (joins_all (graph_in numbers.now) m.0 k stage.base (drop stage.base (take k (lines_of stage.count lines.old))))) marks.new lines.new result }
 {
-    let h = graph::header_of(numbers);
+    let h = determine_side_effects::graph_crate::header_of(numbers);
     let firsts = firsts_at(h);
     let nexts = nexts_at(h);
     let owner = m.0;
@@ -119,7 +119,7 @@ fn join_forwards(
     let mut total = stage.count;
     let mut at = partners[firsts + owner];
     while at > 0 {
-        let s = SymbolIdx(facts::first_part(keep_record::fact_at(lines, at - 1)));
+        let s = SymbolIdx(determine_side_effects::facts_crate::first_part(keep_record::fact_at(lines, at - 1)));
         match declare(
             numbers,
             tables,
@@ -193,7 +193,7 @@ fn link_forward(
     requires linked { Linked (graph_in numbers.now) stage.base partners.old (take k (lines_of stage.count lines.now)) }
     ensures { Linked (graph_in numbers.now) stage.base partners.new (take (k + 1) (lines_of stage.count lines.now)) }
 {
-    let h = graph::header_of(numbers);
+    let h = determine_side_effects::graph_crate::header_of(numbers);
     let firsts = firsts_at(h);
     let lasts = lasts_at(h);
     let nexts = nexts_at(h);
@@ -202,7 +202,7 @@ fn link_forward(
     if last == 0 {
         partners[firsts + owner.0] = k + 1;
     } else {
-        let before = facts::first_part(keep_record::fact_at(lines, last - 1));
+        let before = determine_side_effects::facts_crate::first_part(keep_record::fact_at(lines, last - 1));
         partners[nexts + before] = k + 1;
     }
     partners[lasts + owner.0] = k + 1;
@@ -385,10 +385,10 @@ pub fn drain_starts(
     let mut i: usize = 0;
     while i < triples {
         let p = 3 * i;
-        let fact = facts::fact_of(
-            rows::wide(starts[p]),
-            rows::wide(starts[p + 1]),
-            rows::wide(starts[p + 2]),
+        let fact = determine_side_effects::facts_crate::fact_of(
+            determine_side_effects::rows_crate::wide(starts[p]),
+            determine_side_effects::rows_crate::wide(starts[p + 1]),
+            determine_side_effects::rows_crate::wide(starts[p + 2]),
         );
         match start(
             numbers,

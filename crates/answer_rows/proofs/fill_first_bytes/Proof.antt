@@ -3,9 +3,9 @@ use mathlib.Core.Path.{ap}
 use lib.ListN.{length, get_or}
 use native.Mathlib.Omega.{arith}
 use Rattle.bit_row.proofs.Size.{bytes_at_most}
-use Rattle.tables.proofs.Sections.{word_inside}
-use Rattle.graph_format.specs.declared.Header.{Header}
-use Rattle.graph_tables.specs.Tables.{header_in}
+use Rattle.determine_side_effects.proofs.tables_crate.Sections.{word_inside}
+use Rattle.determine_side_effects.specs.graph_format_crate.declared.Header.{Header}
+use Rattle.determine_side_effects.specs.graph_tables_crate.Tables.{header_in}
 use Rattle.answer_rows.proofs.FirstBytes.{Filling, filling_none, filling-done, word-there, still_loaded, filling-more, total_small}
 use borrow.Author.Rules.{rules}
 use Rattle.answer_rows.proofs.fill_first_bytes.Statement.{statement}

@@ -1,6 +1,6 @@
-use Rattle.graph.specs.Check.{graph_in}
-use Rattle.tables.specs.Layout.{sizes}
-use Rattle.tables.proofs.Sections.{ends_inside, inside}
+use Rattle.determine_side_effects.specs.graph_crate.Check.{graph_in}
+use Rattle.determine_side_effects.specs.tables_crate.Layout.{sizes}
+use Rattle.determine_side_effects.proofs.tables_crate.Sections.{ends_inside, inside}
 use native.Mathlib.Omega.{arith}
 use mathlib.Core.Path.{ap, ◌∙◌}
 use lib.ListN.{length, get_or}

@@ -1,7 +1,7 @@
 use Rattle.answer_rows.proofs.InRow.{modules_bytes, statements_bytes, used_bytes, external_bytes, json_bytes, reasons_bytes}
 use Rattle.bit_row.specs.Row.{bytes_for}
-use Rattle.graph_format.specs.declared.Header.{Header}
-use Rattle.graph.specs.Check.{graph_in}
+use Rattle.determine_side_effects.specs.graph_format_crate.declared.Header.{Header}
+use Rattle.determine_side_effects.specs.graph_crate.Check.{graph_in}
 use native.Mathlib.Omega.{arith}
 use mathlib.Core.Path.{ap, ◌∙◌, sym}
 use borrow.Author.Rules.{rules}

@@ -2,9 +2,9 @@ use Rattle.answer_rows.proofs.Turned.{checked_none, forward_none, bailout_none, 
 use Rattle.answer_rows.proofs.InRow.{good_module, good_statement, good_use}
 use Rattle.answer_rows.proofs.Fitting.{wide}
 use Rattle.answer_rows.proofs.FirstBytes.{statement_inside}
-use Rattle.graph_tables.specs.Tables.{header_in}
-use Rattle.graph_access.specs.Words.{statement_list}
-use Rattle.graph.specs.Check.{graph_in}
+use Rattle.determine_side_effects.specs.graph_tables_crate.Tables.{header_in}
+use Rattle.determine_side_effects.specs.graph_access_crate.Words.{statement_list}
+use Rattle.determine_side_effects.specs.graph_crate.Check.{graph_in}
 use native.Mathlib.Omega.{arith}
 use borrow.Author.Rules.{rules}
 use Rattle.answer_rows.proofs.show_fact.Statement.{statement}

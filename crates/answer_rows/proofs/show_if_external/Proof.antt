@@ -1,6 +1,6 @@
 use Rattle.answer_rows.proofs.OfUses.{strange_none, strange_this}
 use Rattle.answer_rows.proofs.Listed.{set-none, set-one}
-use Rattle.graph.specs.Check.{graph_in}
+use Rattle.determine_side_effects.specs.graph_crate.Check.{graph_in}
 use native.Mathlib.Omega.{arith}
 use mathlib.Core.Path.{refl}
 use Rattle.answer_rows.proofs.show_if_external.Statement.{statement}

@@ -3,7 +3,7 @@ use Rattle.answer_rows.proofs.Fitting.{same_lengths, still_enough}
 use Rattle.answer_rows.proofs.InRow.{good_same}
 use Rattle.answer_rows.specs.declared.Lengths.{Lengths}
 use Rattle.answer_rows.specs.Together.{six_rows}
-use Rattle.graph.specs.Check.{graph_in}
+use Rattle.determine_side_effects.specs.graph_crate.Check.{graph_in}
 use Prim.Native.Nat.{◌-◌, ◌<◌, ◌≤◌}
 use mathlib.Core.Path.{ap}
 use native.Mathlib.Omega.{arith}

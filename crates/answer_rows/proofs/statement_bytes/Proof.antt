@@ -1,6 +1,6 @@
 use Prim.Native.Nat.{◌-◌}
 use Rattle.bit_row.proofs.Size.{bytes_at_most}
-use Rattle.graph_format.specs.declared.Header.{Header}
+use Rattle.determine_side_effects.specs.graph_format_crate.declared.Header.{Header}
 use Rattle.answer_rows.proofs.FirstBytes.{some_modules, before_few, last_module, last_bytes}
 use native.Mathlib.Omega.{arith}
 use mathlib.Core.Path.{ap}

@@ -2,11 +2,11 @@ use Prim.Native.Nat.{ℕ}
 use mathlib.Core.Path.{◌∙◌, sym}
 use native.Mathlib.Omega.{arith}
 use lib.ListN.{length-replicate}
-use Rattle.rows.proofs.Walks.{at_got}
-use Rattle.tables.specs.declared.Size.TheVariants.{Largest}
-use Rattle.tables.proofs.Sections.{fits_places}
-use Rattle.graph.specs.Check.{HeaderRead}
-use Rattle.graph.proofs.Checking.{seven, bounded, check_stop_header}
+use Rattle.determine_side_effects.proofs.rows_crate.Walks.{at_got}
+use Rattle.determine_side_effects.specs.tables_crate.declared.Size.TheVariants.{Largest}
+use Rattle.determine_side_effects.proofs.tables_crate.Sections.{fits_places}
+use Rattle.determine_side_effects.specs.graph_crate.Check.{HeaderRead}
+use Rattle.determine_side_effects.proofs.graph_crate.Checking.{seven, bounded, check_stop_header}
 use Rattle.answer_text.proofs.Outcomes.{text_rejected}
 use Rattle.answer_text.proofs.Texts.{told_as}
 use borrow.Author.Rules.{rules}

@@ -1,10 +1,10 @@
 use mathlib.Core.List.{[]}
 use Rattle.completeness.proofs.Walks.{all_end, all_stop, all-next, statement_kept, declaring_kept, declaring_good, owner-external, owner-absent, owner-kept}
 use Rattle.completeness.specs.Complete.{all, are_declared}
-use Rattle.graph_access.specs.Names.{declaring_statements}
-use Rattle.graph_access.specs.Words.{symbol_of}
+use Rattle.determine_side_effects.specs.graph_access_crate.Names.{declaring_statements}
+use Rattle.determine_side_effects.specs.graph_access_crate.Words.{symbol_of}
 use Rattle.marked.specs.Marked.{marked}
-use Rattle.graph.specs.Check.{graph_in}
+use Rattle.determine_side_effects.specs.graph_crate.Check.{graph_in}
 use lib.ListN.{drop}
 use borrow.Author.Tests.{not_true, not-false}
 use mathlib.Core.Bool.{true}

@@ -2,7 +2,7 @@ use Rattle.completeness.proofs.Walks.{all_end, all_stop, all-next, starts-length
 use Rattle.completeness.specs.Complete.{all}
 use Rattle.starts.specs.Starts.{starts_of}
 use Rattle.marked.specs.Marked.{marked}
-use Rattle.graph.specs.Check.{graph_in}
+use Rattle.determine_side_effects.specs.graph_crate.Check.{graph_in}
 use lib.ListN.{drop}
 use borrow.Author.Tests.{not_true, not-false}
 use Prim.Native.Nat.{◌-◌, ◌≤◌}

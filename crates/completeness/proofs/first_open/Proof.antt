@@ -42,9 +42,9 @@ use denote.Exit.{yes, left}
 use denote.Triple.Clauses.{Lasts, ensured, lasts}
 use Prim.Native.Nat.{◌*◌, ◌/◌, ◌<◌, ◌≤◌}
 use lib.Dec.{eqb}
-use Rattle.graph.specs.Check.{graph_in}
+use Rattle.determine_side_effects.specs.graph_crate.Check.{graph_in}
 use Rattle.determine_side_effects.specs.Effects.{last_verdicts}
-use Rattle.facts.specs.Facts.{Good, mark_count}
+use Rattle.determine_side_effects.specs.facts_crate.Facts.{Good, mark_count}
 use Rattle.keep_rules.specs.Prepared.{Prepared}
 use Rattle.keep_record.specs.Held.{line_at, lines_of}
 use Rattle.marked.specs.Marked.{marked}

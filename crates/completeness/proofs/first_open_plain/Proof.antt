@@ -4,7 +4,7 @@ use Rattle.keep_record.specs.Held.{lines_of}
 use Rattle.keep_record.proofs.Rows.{lines-length}
 use Rattle.determine_side_effects.specs.Effects.{last_verdicts}
 use Rattle.marked.specs.Marked.{marked}
-use Rattle.graph.specs.Check.{graph_in}
+use Rattle.determine_side_effects.specs.graph_crate.Check.{graph_in}
 use lib.ListN.{length, drop}
 use borrow.Author.Tests.{not_true, not-false}
 use Prim.Native.Nat.{◌-◌, ◌/◌, ◌≤◌}

@@ -3,7 +3,7 @@ use Rattle.completeness.specs.Complete.{all, is_closed_at}
 use Rattle.consequences.specs.Cursors.{left, Placed}
 use Rattle.determine_side_effects.specs.Effects.{last_verdicts}
 use Rattle.marked.specs.Marked.{marked}
-use Rattle.graph.specs.Check.{graph_in}
+use Rattle.determine_side_effects.specs.graph_crate.Check.{graph_in}
 use Prim.Native.Nat.{◌-◌}
 use borrow.Author.Tests.{not_true, not-false}
 use mathlib.Core.Path.{◌≡◌, sym, ◌∙◌}

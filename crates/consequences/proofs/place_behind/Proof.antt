@@ -1,5 +1,5 @@
 use Rattle.consequences.proofs.BySegment.{good_statement, placed_first, width_inside, placed-next, placed_other}
-use Rattle.facts.specs.Facts.{kind_of}
+use Rattle.determine_side_effects.specs.facts_crate.Facts.{kind_of}
 use native.Mathlib.Omega.{arith}
 use mathlib.Core.Path.{ap}
 use borrow.Author.Rules.{rules}

@@ -1,6 +1,6 @@
 use Prim.Native.Nat.{◌+◌, ◌-◌, ◌<◌, ◌≤◌}
 use lib.ListN.{length}
-use Rattle.graph_tables.specs.Tables.{header_in}
+use Rattle.determine_side_effects.specs.graph_tables_crate.Tables.{header_in}
 use Rattle.dead_records.proofs.Late.{modules_read, statements_read, modules_word, statements_word, Wiping, wiping_none, wiping_more}
 use native.Mathlib.Omega.{arith}
 use Rattle.dead_records.proofs.clear_words.Statement.{statement}

@@ -2,8 +2,8 @@ use Prim.Native.Nat.{◌-◌, ◌<◌}
 use mathlib.Core.Logic.{⊎_elim}
 use native.Mathlib.Omega.{arith}
 use borrow.Author.Rules.{rules}
-use Rattle.graph_tables.specs.Tables.{header_in}
-use Rattle.graph.specs.Check.{graph_in}
+use Rattle.determine_side_effects.specs.graph_tables_crate.Tables.{header_in}
+use Rattle.determine_side_effects.specs.graph_crate.Check.{graph_in}
 use Rattle.entry_order.specs.Plan.{live_in}
 use Rattle.dead_records.specs.Parts.{kept_before}
 use Rattle.dead_records.proofs.Numbering.{entries_are}

@@ -3,10 +3,10 @@ use mathlib.Core.Logic.{⊎_elim}
 use native.Mathlib.Omega.{arith}
 use borrow.Author.Rules.{rules}
 use lib.ListN.{length}
-use Rattle.graph_tables.specs.Tables.{header_in}
-use Rattle.graph.specs.Check.{graph_in}
-use Rattle.graph_access.specs.Names.{related}
-use Rattle.graph_access.specs.Words.{entry_of}
+use Rattle.determine_side_effects.specs.graph_tables_crate.Tables.{header_in}
+use Rattle.determine_side_effects.specs.graph_crate.Check.{graph_in}
+use Rattle.determine_side_effects.specs.graph_access_crate.Names.{related}
+use Rattle.determine_side_effects.specs.graph_access_crate.Words.{entry_of}
 use Rattle.entry_liveness.proofs.Related.{module_inside, statement_inside}
 use Rattle.dead_records.specs.Parts.{kept_before}
 use Rattle.dead_records.proofs.Numbering.{records_few}

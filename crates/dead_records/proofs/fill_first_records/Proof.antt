@@ -1,4 +1,4 @@
-use Rattle.graph.specs.Check.{graph_in}
+use Rattle.determine_side_effects.specs.graph_crate.Check.{graph_in}
 use Prim.Native.Nat.{◌-◌}
 use Rattle.dead_records.proofs.Numbering.{Numbering, numbering_none, numbering_more, modules_are}
 use native.Mathlib.Omega.{arith}

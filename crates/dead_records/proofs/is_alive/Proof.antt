@@ -2,9 +2,9 @@ use borrow.Author.Rules.{rules}
 use Prim.Native.Nat.{◌-◌, ◌≤◌}
 use mathlib.Core.Path.{sym}
 use lib.ListN.{length}
-use Rattle.graph.specs.Check.{graph_in}
-use Rattle.graph_access.specs.Names.{related}
-use Rattle.graph_access.specs.Words.{entry_of}
+use Rattle.determine_side_effects.specs.graph_crate.Check.{graph_in}
+use Rattle.determine_side_effects.specs.graph_access_crate.Names.{related}
+use Rattle.determine_side_effects.specs.graph_access_crate.Words.{entry_of}
 use Rattle.determine_side_effects.specs.Effects.{last_verdicts}
 use Rattle.entry_order.specs.Order.{module_of_entry}
 use Rattle.entry_liveness.proofs.Related.{Searching, search_start, search_end, search-found, search-next, unused_is}

@@ -1,7 +1,7 @@
 use mathlib.Core.Path.{◌∙◌, sym}
 use native.Mathlib.Omega.{arith}
 use borrow.Author.Tests.{eq-eqb, ne_eqb}
-use Rattle.graph.specs.Check.{graph_in}
+use Rattle.determine_side_effects.specs.graph_crate.Check.{graph_in}
 use Rattle.dead_records.proofs.Numbering.{modules_are, entries_are}
 use Rattle.dead_records.proofs.Clearing.{live_word, unlive_word}
 use Rattle.dead_records.proofs.DeadNow.{cycle_word, not_dynamic, is_live, on_a_cycle, by-its-statements}

@@ -1,7 +1,7 @@
 use mathlib.Core.Path.{◌∙◌, sym}
 use native.Mathlib.Omega.{arith}
 use borrow.Author.Tests.{not_true, not-false}
-use Rattle.graph.specs.Check.{graph_in}
+use Rattle.determine_side_effects.specs.graph_crate.Check.{graph_in}
 use Rattle.dead_records.proofs.Numbering.{modules_are}
 use Rattle.dead_records.proofs.Exempting.{statement_place, unmarked_not_kept, kept_by_word}
 use Rattle.dead_records.proofs.is_kept.Statement.{statement}

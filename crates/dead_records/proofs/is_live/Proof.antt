@@ -1,6 +1,6 @@
 use native.Mathlib.Omega.{arith}
-use Rattle.graph_tables.specs.Tables.{header_in}
-use Rattle.graph.specs.Check.{graph_in}
+use Rattle.determine_side_effects.specs.graph_tables_crate.Tables.{header_in}
+use Rattle.determine_side_effects.specs.graph_crate.Check.{graph_in}
 use Rattle.entry_order.specs.Plan.{live_in}
 use Rattle.dead_records.proofs.Numbering.{modules_are, entries_are}
 use Rattle.dead_records.proofs.Clearing.{word_tells, no_dynamic, dynamic_live}

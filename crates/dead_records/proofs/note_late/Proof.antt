@@ -2,9 +2,9 @@ use Prim.Native.Nat.{◌+◌, ◌*◌, ◌-◌, ◌<◌, ◌≤◌}
 use mathlib.Core.Path.{sym, ◌∙◌}
 use mathlib.Core.Logic.{⊎_elim}
 use native.Mathlib.Omega.{arith}
-use Rattle.graph_tables.specs.Tables.{header_in}
-use Rattle.graph.specs.Check.{graph_in}
-use Rattle.facts.specs.Facts.{Good}
+use Rattle.determine_side_effects.specs.graph_tables_crate.Tables.{header_in}
+use Rattle.determine_side_effects.specs.graph_crate.Check.{graph_in}
+use Rattle.determine_side_effects.specs.facts_crate.Facts.{Good}
 use Rattle.answer_rows.proofs.InRow.{good_statement, good_same}
 use Rattle.dead_records.proofs.Exempting.{statement_place}
 use Rattle.dead_records.proofs.Late.{modules_read, Noting, noting_none, noting-set, noting-passed, noting_done, elsewhere_module, elsewhere_use, elsewhere_checked, elsewhere_forward, elsewhere_bailout}

@@ -1,7 +1,7 @@
 use mathlib.Core.Path.{ap, ◌∙◌}
 use Rattle.bit_row.specs.Row.{bytes_for}
 use Rattle.bit_row.proofs.Size.{bytes_hold}
-use Rattle.graph.specs.Check.{graph_in}
+use Rattle.determine_side_effects.specs.graph_crate.Check.{graph_in}
 use Rattle.dead_records.specs.Dead.{record_count}
 use Rattle.dead_records.proofs.Ending.{option_is, found-row, end_row}
 use native.Mathlib.Omega.{arith}

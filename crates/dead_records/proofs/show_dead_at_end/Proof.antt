@@ -1,5 +1,5 @@
 use mathlib.Core.Path.{◌∙◌}
-use Rattle.graph.specs.Check.{graph_in}
+use Rattle.determine_side_effects.specs.graph_crate.Check.{graph_in}
 use Rattle.dead_records.proofs.Late.{late_kept}
 use Rattle.dead_records.proofs.Ending.{end-bits}
 use native.Mathlib.Omega.{arith}

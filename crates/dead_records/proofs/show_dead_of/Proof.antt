@@ -1,11 +1,11 @@
 use Rattle.dead_records.proofs.Numbering.{records_few}
-use Rattle.graph.specs.Check.{graph_in}
-use Rattle.graph_tables.specs.Tables.{header_in}
+use Rattle.determine_side_effects.specs.graph_crate.Check.{graph_in}
+use Rattle.determine_side_effects.specs.graph_tables_crate.Tables.{header_in}
 use Prim.Native.Nat.{◌-◌, ◌<◌}
 use mathlib.Core.Logic.{⊎_elim}
 use lib.ListN.{length}
-use Rattle.graph_access.specs.Names.{related}
-use Rattle.graph_access.specs.Words.{entry_of}
+use Rattle.determine_side_effects.specs.graph_access_crate.Names.{related}
+use Rattle.determine_side_effects.specs.graph_access_crate.Words.{entry_of}
 use Rattle.determine_side_effects.specs.Effects.{last_verdicts}
 use Rattle.dead_records.proofs.DeadBits.{Marking, marking_none, marking_done, bit-inside, marking-set, marking-unreachable, marking-impure}
 use borrow.Author.Rules.{rules}

@@ -1,8 +1,8 @@
 use mathlib.Core.Path.{◌∙◌, sym}
 use borrow.Author.Rules.{rules}
-use Rattle.rows.proofs.Walks.{at_got}
-use Rattle.graph.specs.Check.{HeaderRead}
-use Rattle.graph.proofs.Checking.{seven, check_stop_header}
+use Rattle.facts.proofs.rows_crate.Walks.{at_got}
+use Rattle.facts.specs.graph_crate.Check.{HeaderRead}
+use Rattle.facts.proofs.graph_crate.Checking.{seven, check_stop_header}
 use Rattle.determine_side_effects.proofs.Loading.{refused_answer, refused_row}
 use Rattle.determine_side_effects.proofs.effects.Statement.{statement}
 use Rattle.determine_side_effects.proofs.effects.Tie as tie

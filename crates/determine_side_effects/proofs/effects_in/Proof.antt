@@ -1,10 +1,10 @@
 use borrow.Author.Rules.{rules}
 use mathlib.Core.Path.{◌≡◌, ap, ◌∙◌, sym}
 use native.Mathlib.Omega.{arith}
-use Rattle.tables.proofs.Sections.{start_mono}
-use Rattle.graph_tables.specs.Tables.{header_in}
-use Rattle.graph.specs.declared.Checked.TheVariants.{Accepted}
-use Rattle.graph.specs.Check.{check_of, answer_of}
+use Rattle.facts.proofs.tables_crate.Sections.{start_mono}
+use Rattle.facts.specs.graph_tables_crate.Tables.{header_in}
+use Rattle.facts.specs.graph_crate.declared.Checked.TheVariants.{Accepted}
+use Rattle.facts.specs.graph_crate.Check.{check_of, answer_of}
 use Rattle.determine_side_effects.specs.Tabled.{HasVerdicts}
 use Rattle.determine_side_effects.proofs.InSection.{verdicts_kept, verdicts_fit}
 use Rattle.determine_side_effects.proofs.Loading.{refused_answer, refused_row, short_answer, short_row, long_answer, long_row}

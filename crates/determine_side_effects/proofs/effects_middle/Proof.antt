@@ -2,8 +2,8 @@ use Prim.Native.Nat.{ℕ}
 use native.Mathlib.Omega.{arith}
 use borrow.Author.Rules.{rules}
 use lib.ListN.{length-replicate}
-use Rattle.tables.specs.declared.Size.TheVariants.{Middle}
-use Rattle.tables.proofs.Sections.{start_mono, fits_all}
+use Rattle.facts.specs.tables_crate.declared.Size.TheVariants.{Middle}
+use Rattle.facts.proofs.tables_crate.Sections.{start_mono, fits_all}
 use Rattle.determine_side_effects.proofs.effects_middle.Statement.{statement}
 use Rattle.determine_side_effects.proofs.effects_middle.Tie as tie
 

@@ -3,11 +3,11 @@ use mathlib.Core.Path.{◌≡◌, ap, ◌∙◌}
 use mathlib.Core.List.{◌++◌}
 use native.Mathlib.Omega.{arith}
 use lib.ListN.{drop}
-use Rattle.tables.specs.Layout.{sizes, start_of, Kept, verdicts_in, at_verdicts}
-use Rattle.tables.proofs.Sections.{word_inside, kept_none}
-use Rattle.graph_tables.specs.Tables.{header_in}
-use Rattle.graph.specs.Check.{graph_in}
-use Rattle.graph_access.specs.Words.{tabulate}
+use Rattle.facts.specs.tables_crate.Layout.{sizes, start_of, Kept, verdicts_in, at_verdicts}
+use Rattle.facts.proofs.tables_crate.Sections.{word_inside, kept_none}
+use Rattle.facts.specs.graph_tables_crate.Tables.{header_in}
+use Rattle.facts.specs.graph_crate.Check.{graph_in}
+use Rattle.facts.specs.graph_access_crate.Words.{tabulate}
 use Rattle.determine_side_effects.specs.Effects.{first_verdict, first_verdicts}
 use Rattle.determine_side_effects.proofs.InSection.{word_fits, kept_written, section_written, verdicts_long, verdicts_kept}
 use Rattle.determine_side_effects.proofs.Reading.{fill_start, fill_step, fill_done}

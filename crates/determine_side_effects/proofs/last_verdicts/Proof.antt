@@ -1,6 +1,6 @@
 use mathlib.Core.Path.{ap, ◌∙◌}
-use Rattle.tables.proofs.Sections.{kept_both}
-use Rattle.graph.specs.Check.{graph_in}
+use Rattle.facts.proofs.tables_crate.Sections.{kept_both}
+use Rattle.facts.specs.graph_crate.Check.{graph_in}
 use Rattle.determine_side_effects.specs.Effects.{settle, last_verdicts}
 use Rattle.determine_side_effects.proofs.InSection.{verdicts_kept}
 use Rattle.determine_side_effects.proofs.last_verdicts.Statement.{statement}

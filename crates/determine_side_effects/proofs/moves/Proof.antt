@@ -5,11 +5,11 @@ use mathlib.Core.List.{[]}
 use native.Mathlib.Omega.{arith}
 use borrow.Author.Tests.{not_true, not-false}
 use lib.ListN.{length, get_or, drop}
-use Rattle.tables.specs.Layout.{verdicts_in}
-use Rattle.tables.proofs.Sections.{inside}
-use Rattle.graph.specs.Check.{graph_in}
-use Rattle.graph_access.specs.Names.{import_records}
-use Rattle.graph_access.specs.Words.{some, module_of}
+use Rattle.facts.specs.tables_crate.Layout.{verdicts_in}
+use Rattle.facts.proofs.tables_crate.Sections.{inside}
+use Rattle.facts.specs.graph_crate.Check.{graph_in}
+use Rattle.facts.specs.graph_access_crate.Names.{import_records}
+use Rattle.facts.specs.graph_access_crate.Words.{some, module_of}
 use Rattle.determine_side_effects.specs.Effects.{seeds, reaches, moves}
 use Rattle.determine_side_effects.proofs.InSection.{verdicts_long}
 use Rattle.determine_side_effects.proofs.Lists.{some_end}

@@ -2,10 +2,10 @@ use Prim.Native.Nat.{◌-◌, ◌<◌, ◌≤◌}
 use mathlib.Core.Path.{◌≡◌, refl, ap, ◌∙◌}
 use mathlib.Core.Bool.{false, true≢false}
 use native.Mathlib.Omega.{arith}
-use Rattle.tables.specs.Layout.{sizes, start_of, Kept, verdicts_in, at_verdicts}
-use Rattle.tables.proofs.Sections.{word_inside, kept_none}
-use Rattle.graph_tables.specs.Tables.{header_in}
-use Rattle.graph.specs.Check.{graph_in}
+use Rattle.facts.specs.tables_crate.Layout.{sizes, start_of, Kept, verdicts_in, at_verdicts}
+use Rattle.facts.proofs.tables_crate.Sections.{word_inside, kept_none}
+use Rattle.facts.specs.graph_tables_crate.Tables.{header_in}
+use Rattle.facts.specs.graph_crate.Check.{graph_in}
 use Rattle.determine_side_effects.specs.Effects.{pass}
 use Rattle.determine_side_effects.proofs.InSection.{word_fits, kept_written, section_written, verdicts_kept}
 use Rattle.determine_side_effects.proofs.Reading.{pass_moved, pass_kept, pass_done}

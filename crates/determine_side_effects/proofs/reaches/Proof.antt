@@ -3,7 +3,7 @@ use borrow.Author.Rules.{rules}
 use mathlib.Core.Path.{ap, ◌∙◌, sym}
 use native.Mathlib.Omega.{arith}
 use lib.ListN.{length, get_or}
-use Rattle.tables.proofs.Sections.{inside}
+use Rattle.facts.proofs.tables_crate.Sections.{inside}
 use Rattle.determine_side_effects.specs.Effects.{effectful}
 use Rattle.determine_side_effects.proofs.InSection.{verdicts_long}
 use Rattle.determine_side_effects.proofs.Reading.{reaches_none, reaches_by}

@@ -1,7 +1,7 @@
 use mathlib.Core.Path.{ap, ◌∙◌, sym}
 use native.Mathlib.Omega.{arith}
 use borrow.Author.Tests.{not_true, not-false}
-use Rattle.graph_access.specs.Words.{flag}
+use Rattle.facts.specs.graph_access_crate.Words.{flag}
 use Rattle.determine_side_effects.proofs.Reading.{recomputed_external, recomputed-other, recomputed-relaxed, recomputed-one}
 use Rattle.determine_side_effects.proofs.recomputed.Statement.{statement}
 use Rattle.determine_side_effects.proofs.recomputed.Tie as tie

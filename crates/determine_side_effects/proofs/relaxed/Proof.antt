@@ -2,11 +2,11 @@ use Prim.Native.Nat.{◌-◌, ◌<◌, ◌≤◌}
 use mathlib.Core.Path.{◌≡◌, refl, ap}
 use native.Mathlib.Omega.{arith}
 use lib.ListN.{length, drop}
-use Rattle.graph_tables.specs.Tables.{header_in, modules_in}
-use Rattle.graph_tables.proofs.Facts.{modules_long}
-use Rattle.graph.specs.Check.{graph_in}
-use Rattle.graph_access.specs.Names.{flags}
-use Rattle.graph_access.specs.Words.{flag, some, module_of}
+use Rattle.facts.specs.graph_tables_crate.Tables.{header_in, modules_in}
+use Rattle.facts.proofs.graph_tables_crate.Facts.{modules_long}
+use Rattle.facts.specs.graph_crate.Check.{graph_in}
+use Rattle.facts.specs.graph_access_crate.Names.{flags}
+use Rattle.facts.specs.graph_access_crate.Words.{flag, some, module_of}
 use Rattle.determine_side_effects.specs.Effects.{relaxed}
 use Rattle.determine_side_effects.proofs.Reading.{relaxed-stop, relaxed-on, relaxed_end}
 use Rattle.determine_side_effects.proofs.relaxed.Statement.{statement}

@@ -2,9 +2,9 @@ use Prim.Native.Nat.{◌-◌, ◌<◌, ◌≤◌}
 use mathlib.Core.Path.{◌≡◌, refl, ap, ◌∙◌}
 use native.Mathlib.Omega.{arith}
 use lib.ListN.{length, drop, take, length-take}
-use Rattle.graph.specs.Check.{graph_in}
-use Rattle.graph_access.specs.Names.{scan_statement_count, statement_bits}
-use Rattle.graph_access.specs.Words.{flag, some, module_of, statement_list, statement_of}
+use Rattle.facts.specs.graph_crate.Check.{graph_in}
+use Rattle.facts.specs.graph_access_crate.Names.{scan_statement_count, statement_bits}
+use Rattle.facts.specs.graph_access_crate.Words.{flag, some, module_of, statement_list, statement_of}
 use Rattle.determine_side_effects.proofs.Reading.{scan_over, scan-hit, scan-on}
 use Rattle.determine_side_effects.proofs.rescanned.Statement.{statement}
 use Rattle.determine_side_effects.proofs.rescanned.Tie as tie

@@ -1,10 +1,10 @@
 use mathlib.Core.Path.{◌≡◌, refl, ap, ◌∙◌}
 use native.Mathlib.Omega.{arith}
 use borrow.Author.Tests.{not_true}
-use Rattle.tables.specs.Layout.{start_of, Kept, verdicts_in, at_verdicts}
-use Rattle.tables.proofs.Sections.{kept_none, kept_both}
-use Rattle.graph_tables.specs.Tables.{header_in}
-use Rattle.graph.specs.Check.{graph_in}
+use Rattle.facts.specs.tables_crate.Layout.{start_of, Kept, verdicts_in, at_verdicts}
+use Rattle.facts.proofs.tables_crate.Sections.{kept_none, kept_both}
+use Rattle.facts.specs.graph_tables_crate.Tables.{header_in}
+use Rattle.facts.specs.graph_crate.Check.{graph_in}
 use Rattle.determine_side_effects.specs.Effects.{passes, settle}
 use Rattle.determine_side_effects.proofs.InSection.{verdicts_kept}
 use Rattle.determine_side_effects.proofs.Reading.{passes_turn, passes_stop, passes_done}

@@ -1,8 +1,8 @@
 use mathlib.Core.Path.{ap, ◌∙◌}
 use native.Mathlib.Omega.{arith}
 use lib.ListN.{length, get_or}
-use Rattle.tables.specs.Layout.{sizes}
-use Rattle.tables.proofs.Sections.{inside, kept_none}
+use Rattle.facts.specs.tables_crate.Layout.{sizes}
+use Rattle.facts.proofs.tables_crate.Sections.{inside, kept_none}
 use Rattle.determine_side_effects.proofs.InSection.{word_fits, verdicts_long}
 use Rattle.determine_side_effects.proofs.verdict.Statement.{statement}
 use Rattle.determine_side_effects.proofs.verdict.Tie as tie

@@ -1,6 +1,6 @@
 use mathlib.Core.Path.{◌∙◌}
 use Rattle.drain_parts.proofs.Working.{held_start, linked_none, work_holds, work_full}
-use Rattle.graph.specs.Check.{graph_in}
+use Rattle.determine_side_effects.specs.graph_crate.Check.{graph_in}
 use Rattle.drain_parts.proofs.work.Statement.{statement}
 use Rattle.drain_parts.proofs.work.Tie as tie
 

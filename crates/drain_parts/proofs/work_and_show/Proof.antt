@@ -1,7 +1,7 @@
 use native.Mathlib.Omega.{arith}
 use Rattle.drain_parts.specs.Operation.{rooms_of}
 use Rattle.drain_parts.proofs.Ending.{fits, ends_short, ends_done}
-use Rattle.graph.specs.Check.{graph_in}
+use Rattle.determine_side_effects.specs.graph_crate.Check.{graph_in}
 use Rattle.drain_parts.proofs.work_and_show.Statement.{statement}
 use Rattle.drain_parts.proofs.work_and_show.Tie as tie
 

@@ -1,7 +1,7 @@
 use mathlib.Core.Path.{refl}
 use native.Mathlib.Omega.{arith}
-use Rattle.tables.specs.declared.Size.TheVariants.{Small}
-use Rattle.tables.proofs.Zeros.{tables_long}
+use Rattle.graph.specs.tables_crate.declared.Size.TheVariants.{Small}
+use Rattle.graph.proofs.tables_crate.Zeros.{tables_long}
 use Rattle.drain_sizes.proofs.Tiers.{partners_long}
 use Rattle.drain_sizes.proofs.drain_small.Statement.{statement}
 use Rattle.drain_sizes.proofs.drain_small.Tie as tie

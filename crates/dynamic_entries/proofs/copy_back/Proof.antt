@@ -7,7 +7,7 @@ use Rattle.dynamic_entries.proofs.copy_back.Statement.{statement}
 use Rattle.dynamic_entries.proofs.copy_back.Tie as tie
 use Rattle.dynamic_entries.proofs.copy_back.Reads as reads
 use Rattle.dynamic_entries.proofs.copy_back.Lts as lts
-use Rattle.rows.proofs.wide.Reads as wide-reads
+use Rattle.determine_side_effects.proofs.rows_crate.wide.Reads as wide-reads
 
 abbrev invariant-loop : tie.invariant-loop
 invariant-loop list count plan₀ users i₀ plan i = Copies list count users plan₀ i plan

@@ -3,7 +3,7 @@ use mathlib.Core.Path.{refl, ◌∙◌}
 use native.Mathlib.Omega.{arith}
 use lib.ListN.{length}
 use borrow.Author.Rules.{part_to_end}
-use Rattle.graph_tables.specs.Tables.{header_in}
+use Rattle.determine_side_effects.specs.graph_tables_crate.Tables.{header_in}
 use Rattle.dynamic_entries.proofs.Parting.{users_long, users_inside, part_below}
 use Rattle.dynamic_entries.proofs.Building.{orders_done, built_holds, built_full}
 use Rattle.dynamic_entries.proofs.order_in.Statement.{statement}

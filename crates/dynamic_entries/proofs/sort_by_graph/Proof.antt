@@ -11,7 +11,7 @@ use Rattle.dynamic_entries.proofs.sort_by_graph.Lts as lts
 use Rattle.cycles.proofs.find_cycles.Reads as find-cycles-reads
 use Rattle.dynamic_entries.proofs.sort_entries.Reads as sort-entries-reads
 use Rattle.entry_order.proofs.cycled_at.Reads as cycled-at-reads
-use Rattle.graph.proofs.header_of.Reads as header-of-reads
+use Rattle.determine_side_effects.proofs.graph_crate.header_of.Reads as header-of-reads
 
 header-of-requires : tie.Need-header-of-requires
 header-of-requires c κs = c.before.before.before.before.before.before.before.before.before.before.requires.0.long

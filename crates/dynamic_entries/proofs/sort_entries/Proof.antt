@@ -14,7 +14,7 @@ use Rattle.dynamic_entries.proofs.copy_back.Reads as copy-back-reads
 use Rattle.dynamic_entries.proofs.take_by_completion.Reads as take-by-completion-reads
 use Rattle.dynamic_entries.proofs.take_first.Reads as take-first-reads
 use Rattle.entry_order.proofs.link.Reads as link-reads
-use Rattle.graph.proofs.header_of.Reads as header-of-reads
+use Rattle.determine_side_effects.proofs.graph_crate.header_of.Reads as header-of-reads
 
 header-of-requires : tie.Need-header-of-requires
 header-of-requires c κs = c.before.before.before.before.before.before.before.requires.0.long

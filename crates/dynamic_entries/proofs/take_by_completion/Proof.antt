@@ -3,8 +3,8 @@ use Rattle.entry_order.specs.Chains.{of_module}
 use Prim.Native.Nat.{ℕ, ◌+◌, ◌-◌, ◌*◌, ◌^◌, ◌<◌, ◌≤◌}
 use mathlib.Core.Path.{◌≡◌, refl, ap, ◌∙◌, sym}
 use lib.ListN.{length, get_or}
-use Rattle.graph_tables.specs.Tables.{header_in}
-use Rattle.graph.specs.Check.{graph_in}
+use Rattle.determine_side_effects.specs.graph_tables_crate.Tables.{header_in}
+use Rattle.determine_side_effects.specs.graph_crate.Check.{graph_in}
 use Rattle.dynamic_entries.proofs.Completing.{Completes, completes_start, completes-done, node-place, node-room, pass-cycled, take-node}
 use Rattle.dynamic_entries.proofs.Parting.{users_long, users_inside, part_read, plan_fits}
 use borrow.Author.Rules.{rules}
@@ -15,7 +15,7 @@ use Rattle.dynamic_entries.proofs.take_by_completion.Reads as reads
 use Rattle.dynamic_entries.proofs.take_by_completion.Lts as lts
 use Rattle.entry_order.proofs.append_module.Reads as append-module-reads
 use Rattle.entry_order.proofs.cycled_at.Reads as cycled-at-reads
-use Rattle.graph.proofs.header_of.Reads as header-of-reads
+use Rattle.determine_side_effects.proofs.graph_crate.header_of.Reads as header-of-reads
 
 abbrev invariant-loop : tie.invariant-loop
 invariant-loop numbers plan users order found chain list₀ n count at total₀ k₀ list total k = Completes (graph_in numbers) n order list₀ found k total list

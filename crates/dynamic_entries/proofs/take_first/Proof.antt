@@ -2,8 +2,8 @@ use Prim.Native.Nat.{ℕ, ◌+◌, ◌-◌, ◌*◌, ◌^◌, ◌<◌, ◌≤◌
 use mathlib.Core.Path.{◌≡◌, refl, ap, ◌∙◌, sym}
 use mathlib.Core.Logic.{⊎_elim}
 use lib.ListN.{length, get_or, set, length-set}
-use Rattle.graph_tables.specs.Tables.{header_in}
-use Rattle.graph.specs.Check.{graph_in}
+use Rattle.determine_side_effects.specs.graph_tables_crate.Tables.{header_in}
+use Rattle.determine_side_effects.specs.graph_crate.Check.{graph_in}
 use Rattle.dynamic_entries.proofs.Firsts.{Firsts, begins, ends, turn-entry, turn-words, turn_room, turn-here, turn-not}
 use borrow.Author.Rules.{rules}
 use native.Mathlib.Omega.{arith}
@@ -13,9 +13,9 @@ use Rattle.dynamic_entries.proofs.take_first.Reads as reads
 use Rattle.dynamic_entries.proofs.take_first.Lts as lts
 use Rattle.dynamic_entries.proofs.goes_first.Reads as goes-first-reads
 use Rattle.entry_order.proofs.cycled_at.Reads as cycled-at-reads
-use Rattle.facts.proofs.narrow.Reads as narrow-reads
-use Rattle.graph.proofs.header_of.Reads as header-of-reads
-use Rattle.graph_access.proofs.entries.entry_module.Reads as entry-module-reads
+use Rattle.determine_side_effects.proofs.facts_crate.narrow.Reads as narrow-reads
+use Rattle.determine_side_effects.proofs.graph_crate.header_of.Reads as header-of-reads
+use Rattle.determine_side_effects.proofs.graph_access_crate.entries.entry_module.Reads as entry-module-reads
 
 abbrev invariant-loop : tie.invariant-loop
 invariant-loop numbers tables plan users outs list₀ count at n₀ i₀ list n i = Firsts (graph_in numbers) plan list₀ i n list

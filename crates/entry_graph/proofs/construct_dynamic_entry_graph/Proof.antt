@@ -3,8 +3,8 @@ use mathlib.Core.Path.{◌≡◌, refl, ◌∙◌}
 use native.Mathlib.Omega.{arith}
 use lib.ListN.{length, length-set}
 use Rattle.bit_row.specs.Row.{bit_at}
-use Rattle.graph_tables.specs.Tables.{header_in}
-use Rattle.graph.specs.Check.{graph_in}
+use Rattle.graph_access.specs.graph_tables_crate.Tables.{header_in}
+use Rattle.graph_access.specs.graph_crate.Check.{graph_in}
 use Rattle.entry_graph.specs.Memory.{ordering_in}
 use Rattle.entry_graph.proofs.Deep.{fresh, fresh_set}
 use Rattle.entry_graph.proofs.Walking.{take_from, walk_from}

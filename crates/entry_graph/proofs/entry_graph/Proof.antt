@@ -3,8 +3,8 @@ use mathlib.Core.Path.{◌≡◌, refl, ap, ◌∙◌, sym}
 use native.Mathlib.Omega.{arith}
 use lib.ListN.{length, take}
 use lib.Seq.{length-take-le, get_or-take}
-use Rattle.graph_tables.specs.Tables.{header_in}
-use Rattle.graph.specs.Check.{graph_in}
+use Rattle.graph_access.specs.graph_tables_crate.Tables.{header_in}
+use Rattle.graph_access.specs.graph_crate.Check.{graph_in}
 use Rattle.entry_order.specs.Order.{module_of_entry}
 use Rattle.entry_graph.proofs.Entries.{all_clear, Building, building_start, building-step, building-done, builds_full}
 use borrow.Author.Rules.{rules}

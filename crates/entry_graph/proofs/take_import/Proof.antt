@@ -1,7 +1,7 @@
 use mathlib.Core.Path.{refl}
 use native.Mathlib.Omega.{arith}
 use Prim.Native.Nat.{◌<◌}
-use Rattle.graph_tables.specs.Tables.{header_in}
+use Rattle.graph_access.specs.graph_tables_crate.Tables.{header_in}
 use Rattle.entry_graph.proofs.Imports.{left_unresolved, left_same_root, left-edge}
 use borrow.Author.Rules.{rules}
 use Rattle.entry_graph.proofs.take_import.Statement.{statement}

@@ -3,8 +3,8 @@ use mathlib.Core.Path.{◌≡◌, refl, ◌∙◌, sym}
 use native.Mathlib.Omega.{arith}
 use borrow.Author.Tests.{not_true, not-false}
 use lib.ListN.{length}
-use Rattle.graph_tables.specs.Tables.{header_in}
-use Rattle.graph.specs.Check.{graph_in}
+use Rattle.graph_access.specs.graph_tables_crate.Tables.{header_in}
+use Rattle.graph_access.specs.graph_crate.Check.{graph_in}
 use Rattle.entry_graph.specs.Memory.{ordering_in}
 use Rattle.entry_graph.specs.Steps.{records_of}
 use Rattle.entry_graph.proofs.Walking.{take_from, record_inside, Going, going_stay, going-over, takes-upto, takes_all, takes_full}

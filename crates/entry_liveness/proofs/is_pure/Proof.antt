@@ -1,4 +1,4 @@
-use Rattle.graph.specs.Check.{graph_in}
+use Rattle.determine_side_effects.specs.graph_crate.Check.{graph_in}
 use Rattle.entry_liveness.proofs.Related.{module_inside, import_record_inside, target-some, impure, pure-by-bits}
 use mathlib.Core.List.{[]}
 use mathlib.Core.Path.{◌∙◌, sym}

@@ -1,4 +1,4 @@
-use Rattle.graph.specs.Check.{graph_in}
+use Rattle.determine_side_effects.specs.graph_crate.Check.{graph_in}
 use Rattle.entry_liveness.proofs.Related.{module_inside, statement_inside, never-reached, unkept, kept-used, kept-unused}
 use borrow.Author.Tests.{not_true, not-false}
 use mathlib.Core.Path.{◌∙◌, sym}

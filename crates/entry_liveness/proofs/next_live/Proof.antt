@@ -6,7 +6,7 @@ use Rattle.entry_order.specs.Order.{module_of_entry}
 use Rattle.entry_order.specs.Plan.{plan_size}
 use Rattle.marked.specs.Marked.{marked}
 use Rattle.determine_side_effects.specs.Effects.{last_verdicts}
-use Rattle.graph.specs.Check.{graph_in}
+use Rattle.determine_side_effects.specs.graph_crate.Check.{graph_in}
 use mathlib.Core.Path.{sym}
 use borrow.Author.Rules.{rules}
 use native.Mathlib.Omega.{arith}

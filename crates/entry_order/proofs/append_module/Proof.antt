@@ -1,7 +1,7 @@
 use Prim.Native.Nat.{◌+◌, ◌-◌, ◌*◌, ◌^◌, ◌<◌, ◌≤◌}
 use lib.ListN.{length, get_or}
-use Rattle.graph_tables.specs.Tables.{header_in}
-use Rattle.graph.specs.Check.{graph_in}
+use Rattle.facts.specs.graph_tables_crate.Tables.{header_in}
+use Rattle.facts.specs.graph_crate.Check.{graph_in}
 use Rattle.entry_order.proofs.Places.{left_at}
 use Rattle.entry_order.proofs.Appending.{Along, first_fits, along_start, along_done, along-place, along_step, along-less}
 use native.Mathlib.Omega.{arith}

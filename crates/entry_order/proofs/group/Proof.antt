@@ -1,8 +1,8 @@
 use Prim.Native.Nat.{◌-◌, ◌<◌}
 use mathlib.Core.Logic.{⊎_elim}
 use lib.ListN.{length, get_or}
-use Rattle.graph_tables.specs.Tables.{header_in}
-use Rattle.graph.specs.Check.{graph_in}
+use Rattle.facts.specs.graph_tables_crate.Tables.{header_in}
+use Rattle.facts.specs.graph_crate.Check.{graph_in}
 use Rattle.entry_order.proofs.Linking.{entry_below}
 use Rattle.entry_order.proofs.Grouping.{Going, go_start, go_done, turn_room, turn_first, turn_later}
 use native.Mathlib.Omega.{arith}

@@ -1,7 +1,7 @@
 use Prim.Native.Nat.{◌+◌, ◌-◌, ◌*◌, ◌^◌, ◌<◌, ◌≤◌}
 use mathlib.Core.Path.{◌≡◌, refl, ◌∙◌}
 use lib.ListN.{length, length-set}
-use Rattle.graph.specs.Check.{graph_in}
+use Rattle.facts.specs.graph_crate.Check.{graph_in}
 use Rattle.entry_order.proofs.Linking.{Linked, link_done, chain_ready, chain_long, chain_turn, entry_below}
 use native.Mathlib.Omega.{arith}
 use Rattle.entry_order.proofs.link.Statement.{statement}

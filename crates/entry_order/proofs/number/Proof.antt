@@ -1,5 +1,5 @@
 use Prim.Native.Nat.{◌-◌, ◌≤◌}
-use Rattle.graph_access.specs.Words.{tabulate}
+use Rattle.facts.specs.graph_access_crate.Words.{tabulate}
 use Rattle.entry_order.proofs.Filling.{Filling}
 use Rattle.entry_order.proofs.Numbered.{number_start, number_step, number-done}
 use borrow.Author.Rules.{rules}

@@ -1,8 +1,8 @@
 use Prim.Native.Nat.{◌+◌, ◌≤◌}
 use mathlib.Core.Path.{◌≡◌, ◌∙◌}
 use lib.ListN.{length}
-use Rattle.graph_tables.specs.Tables.{header_in}
-use Rattle.graph.specs.Check.{graph_in}
+use Rattle.facts.specs.graph_tables_crate.Tables.{header_in}
+use Rattle.facts.specs.graph_crate.Check.{graph_in}
 use Rattle.entry_order.proofs.Splitting.{numbered, list-entries, user-room, dynamic-room, split-is, split_rest, count_is, count_turned}
 use native.Mathlib.Omega.{arith}
 use Rattle.entry_order.proofs.split_entries.Statement.{statement}

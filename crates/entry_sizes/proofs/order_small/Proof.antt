@@ -2,7 +2,7 @@ use mathlib.Core.Path.{sym}
 use Prim.Native.Nat.{ℕ, ◌+◌, ◌-◌, ◌*◌, ◌<◌, ◌≤◌}
 use native.Mathlib.Omega.{arith}
 use lib.ListN.{length-replicate}
-use Rattle.graph_tables.specs.Tables.{header_in}
+use Rattle.determine_side_effects.specs.graph_tables_crate.Tables.{header_in}
 use Rattle.entry_sizes.proofs.Tiers.{rows_ready}
 use borrow.Author.Rules.{rules}
 use Rattle.entry_sizes.proofs.order_small.Statement.{statement}

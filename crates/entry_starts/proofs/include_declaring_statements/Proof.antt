@@ -4,7 +4,7 @@ use Rattle.entry_starts.specs.Starts.{declared}
 use Rattle.determine_side_effects.specs.Effects.{last_verdicts}
 use Rattle.worklist.specs.Drain.{drained_all}
 use Rattle.keep_record.specs.Held.{lines_of}
-use Rattle.graph.specs.Check.{graph_in}
+use Rattle.determine_side_effects.specs.graph_crate.Check.{graph_in}
 use lib.ListN.{length}
 use Prim.Native.Nat.{◌-◌, ◌≤◌}
 use mathlib.Core.Path.{◌≡◌, refl, ◌∙◌}

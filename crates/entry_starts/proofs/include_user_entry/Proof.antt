@@ -1,6 +1,6 @@
 use Rattle.entry_starts.proofs.Referring.{started_nothing, user_none, user_then, user_full}
 use Rattle.entry_starts.proofs.Together.{working_after}
-use Rattle.graph.specs.Check.{graph_in}
+use Rattle.determine_side_effects.specs.graph_crate.Check.{graph_in}
 use borrow.Author.Tests.{not_true, not-false}
 use mathlib.Core.Path.{◌∙◌, sym}
 use borrow.Author.Rules.{rules}

@@ -1,4 +1,4 @@
-use Rattle.graph_access.specs.Words.{flag as flagOf}
+use Rattle.graph_access.specs.Words.{flag as flag_of}
 use mathlib.Core.Path.{refl}
 use borrow.Author.Rules.{rules}
 use Rattle.facts.proofs.flag.Statement.{statement}
@@ -8,7 +8,7 @@ shr-result : tie.Need-overflow-shr-result
 shr-result c = search rules
 
 returns : tie.Need-returns
-unfolding flagOf
+unfolding flag_of
 returns c = refl
 
 pub flag-spec : {M : Type 1} → statement M

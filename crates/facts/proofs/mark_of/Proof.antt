@@ -2,8 +2,8 @@ use Prim.Native.Nat.{ℕ, ◌<◌, ◌≤◌}
 use mathlib.Core.Path.{◌≡◌}
 use native.Mathlib.Omega.{arith}
 use lib.ListN.{length}
-use Rattle.graph_tables.specs.Tables.{header_in}
-use Rattle.graph.specs.Check.{graph_in}
+use Rattle.graph_access.specs.graph_tables_crate.Tables.{header_in}
+use Rattle.graph_access.specs.graph_crate.Check.{graph_in}
 use Rattle.graph_access.specs.Words.{statement_list}
 use Rattle.graph_access.proofs.StatementNumbers.{small}
 use Rattle.facts.specs.Facts.{statement_fact, use_fact, checked_fact, forward_fact, bailout_fact}

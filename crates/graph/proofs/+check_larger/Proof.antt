@@ -3,7 +3,7 @@ use native.Mathlib.Omega.{arith}
 use borrow.Fn.Kinds.{In}
 use borrow.Fn.PlainCycle.{Measures, is, falls, and}
 use Rattle.graph.proofs.Checking.{bounded}
-use Rattle.tables.proofs.fits.Reads as fits-reads
+use Rattle.graph_entries.proofs.tables_crate.fits.Reads as fits-reads
 use Rattle.graph.proofs.check_middle.Reads as middle-reads
 use Rattle.graph.proofs.check_large.Reads as large-reads
 use Rattle.graph.proofs.check_largest.Reads as largest-reads

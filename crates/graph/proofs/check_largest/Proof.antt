@@ -1,8 +1,8 @@
 use Prim.Native.Nat.{ℕ}
 use native.Mathlib.Omega.{arith}
 use lib.ListN.{length-replicate}
-use Rattle.tables.specs.declared.Size.TheVariants.{Largest}
-use Rattle.tables.proofs.Sections.{fits_places}
+use Rattle.graph_entries.specs.tables_crate.declared.Size.TheVariants.{Largest}
+use Rattle.graph_entries.proofs.tables_crate.Sections.{fits_places}
 use borrow.Author.Rules.{rules}
 use Rattle.graph.proofs.check_largest.Statement.{statement}
 use Rattle.graph.proofs.check_largest.Tie as tie

@@ -1,8 +1,8 @@
 use Prim.Native.Nat.{ℕ}
 use native.Mathlib.Omega.{arith}
 use lib.ListN.{length-replicate}
-use Rattle.tables.specs.declared.Size.TheVariants.{Middle}
-use Rattle.tables.proofs.Sections.{fits_places}
+use Rattle.graph_entries.specs.tables_crate.declared.Size.TheVariants.{Middle}
+use Rattle.graph_entries.proofs.tables_crate.Sections.{fits_places}
 use borrow.Author.Rules.{rules}
 use Rattle.graph.proofs.check_middle.Statement.{statement}
 use Rattle.graph.proofs.check_middle.Tie as tie

@@ -3,17 +3,17 @@ use mathlib.Core.Path.{◌≡◌, refl, ap, ◌∙◌, sym}
 use mathlib.Core.List.{List, [], ◌∷◌, ◌++◌}
 use native.Mathlib.Omega.{arith}
 use lib.ListN.{length, get_or}
-use Rattle.rows.specs.Walk.{columns_of}
-use Rattle.graph_format.specs.Format.{header_rules}
-use Rattle.graph_format.proofs.Chains.{row_go, row_stop, cells_go, cells_stop}
+use Rattle.graph_entries.specs.rows_crate.Walk.{columns_of}
+use Rattle.graph_entries.specs.graph_format_crate.Format.{header_rules}
+use Rattle.graph_entries.proofs.graph_format_crate.Chains.{row_go, row_stop, cells_go, cells_stop}
 use borrow.Author.Rules.{rules}
 use Rattle.graph.proofs.header.Statement.{statement}
 use Rattle.graph.proofs.header.Tie as tie
 use Rattle.graph.proofs.header.Reads as reads
 use Rattle.graph.proofs.header.Lts as lts
 use Rattle.graph.proofs.last_counts.Reads as last-counts-reads
-use Rattle.rows.proofs.counter.Reads as counter-reads
-use Rattle.rows.proofs.row.Reads as row_reads
+use Rattle.graph_entries.proofs.rows_crate.counter.Reads as counter-reads
+use Rattle.graph_entries.proofs.rows_crate.row.Reads as row_reads
 
 row-requires : tie.Need-row-requires
 row-requires c κs = search rules

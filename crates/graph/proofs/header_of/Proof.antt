@@ -4,14 +4,14 @@ use mathlib.Core.List.{List, [], ◌∷◌, ◌++◌}
 use native.Mathlib.Omega.{arith}
 use lib.ListN.{length, get_or, take}
 use lib.Seq.{get_or-take}
-use Rattle.graph_format.specs.Format.{header_of}
-use Rattle.graph_tables.specs.Tables.{header_in}
+use Rattle.graph_entries.specs.graph_format_crate.Format.{header_of}
+use Rattle.graph_entries.specs.graph_tables_crate.Tables.{header_in}
 use borrow.Author.Rules.{rules}
 use Rattle.graph.proofs.header_of.Statement.{statement}
 use Rattle.graph.proofs.header_of.Tie as tie
 use Rattle.graph.proofs.header_of.Reads as reads
 use Rattle.graph.proofs.header_of.Lts as lts
-use Rattle.rows.proofs.wide.Reads as wide-reads
+use Rattle.graph_entries.proofs.rows_crate.wide.Reads as wide-reads
 
 shared-slice-read-wide : tie.Need-shared-slice-read-wide
 shared-slice-read-wide c = omega (arith, c.before.before.requires)

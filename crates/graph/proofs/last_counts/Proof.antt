@@ -4,14 +4,14 @@ use mathlib.Core.List.{List, [], ◌∷◌, ◌++◌}
 use native.Mathlib.Omega.{arith}
 use lib.ListN.{length, get_or}
 use Rattle.graph.proofs.Loading.{cells_one}
-use Rattle.graph_format.specs.Format.{header_rules}
-use Rattle.graph_format.proofs.Chains.{cells_go, cells_stop}
+use Rattle.graph_entries.specs.graph_format_crate.Format.{header_rules}
+use Rattle.graph_entries.proofs.graph_format_crate.Chains.{cells_go, cells_stop}
 use borrow.Author.Rules.{rules}
 use Rattle.graph.proofs.last_counts.Statement.{statement}
 use Rattle.graph.proofs.last_counts.Tie as tie
 use Rattle.graph.proofs.last_counts.Reads as reads
 use Rattle.graph.proofs.last_counts.Lts as lts
-use Rattle.rows.proofs.counter.Reads as counter-reads
+use Rattle.graph_entries.proofs.rows_crate.counter.Reads as counter-reads
 
 counter-requires : tie.Need-counter-requires
 counter-requires c κs = search rules

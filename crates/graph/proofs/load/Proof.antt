@@ -1,7 +1,7 @@
 use mathlib.Core.Path.{◌∙◌, sym}
 use native.Mathlib.Omega.{arith}
-use Rattle.tables.specs.Layout.{Laid, at_verdicts}
-use Rattle.tables.proofs.Sections.{start_low, inside, laid_kept}
+use Rattle.graph_entries.specs.tables_crate.Layout.{Laid, at_verdicts}
+use Rattle.graph_entries.proofs.tables_crate.Sections.{start_low, inside, laid_kept}
 use Rattle.graph.specs.Loaded.{Places}
 use Rattle.graph.proofs.Checking.{bounded, check-over, check_stop_parts, check-stop-later, check-good, once_refused}
 use Rattle.graph.proofs.Loading.{loaded}

@@ -2,8 +2,8 @@ use mathlib.Core.Path.{◌≡◌, refl}
 use Prim.Native.Nat.{◌-◌, ◌<◌, ◌≤◌}
 use lib.ListN.{drop}
 use Rattle.graph.specs.Check.{each, owns_namespace}
-use Rattle.graph_tables.specs.Tables.{header_in, modules_in, symbols_in}
-use Rattle.graph_tables.proofs.Facts.{modules_long, its-place, at-inside}
+use Rattle.graph_entries.specs.graph_tables_crate.Tables.{header_in, modules_in, symbols_in}
+use Rattle.graph_entries.proofs.graph_tables_crate.Facts.{modules_long, its-place, at-inside}
 use borrow.Author.Tests.{not_true, not-false}
 use Rattle.graph.proofs.LaterRules.{all_go, all_stop, all_end}
 use borrow.Author.Rules.{rules}

@@ -5,8 +5,8 @@ use Rattle.graph.proofs.owns_namespace.Statement.{statement}
 use Rattle.graph.proofs.owns_namespace.Tie as tie
 use Rattle.graph.proofs.owns_namespace.Reads as reads
 use Rattle.graph.proofs.owns_namespace.Lts as lts
-use Rattle.graph_tables.proofs.module_number.Reads as module-number-reads
-use Rattle.graph_tables.proofs.symbol_number.Reads as symbol-number-reads
+use Rattle.graph_entries.proofs.graph_tables_crate.module_number.Reads as module-number-reads
+use Rattle.graph_entries.proofs.graph_tables_crate.symbol_number.Reads as symbol-number-reads
 
 module-number-requires : tie.Need-module-number-requires
 module-number-requires c κs = search rules

@@ -1,10 +1,10 @@
 use Prim.Native.Nat.{◌+◌}
 use mathlib.Core.Path.{◌≡◌, refl, ◌∙◌, sym}
 use native.Mathlib.Omega.{arith}
-use Rattle.tables.specs.Layout.{module_places, Laid, at_verdicts}
-use Rattle.tables.proofs.Sections.{laid_kept, kept_none, kept_then}
-use Rattle.graph_tables.specs.Places.{ModuleTable}
-use Rattle.graph_tables.proofs.Sections.{modules_kept}
+use Rattle.graph_entries.specs.tables_crate.Layout.{module_places, Laid, at_verdicts}
+use Rattle.graph_entries.proofs.tables_crate.Sections.{laid_kept, kept_none, kept_then}
+use Rattle.graph_entries.specs.graph_tables_crate.Places.{ModuleTable}
+use Rattle.graph_entries.proofs.graph_tables_crate.Sections.{modules_kept}
 use Rattle.graph.proofs.Loading.{once_fault, once_places, end_is, helpers_end, modules_part, module-table, graph_stop_helpers, graph_stop_modules, graph_go}
 use borrow.Author.Rules.{rules}
 use Rattle.graph.proofs.parts.Statement.{statement}

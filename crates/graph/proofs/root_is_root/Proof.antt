@@ -5,7 +5,7 @@ use Rattle.graph.proofs.root_is_root.Statement.{statement}
 use Rattle.graph.proofs.root_is_root.Tie as tie
 use Rattle.graph.proofs.root_is_root.Reads as reads
 use Rattle.graph.proofs.root_is_root.Lts as lts
-use Rattle.graph_tables.proofs.symbol_number.Reads as symbol-number-reads
+use Rattle.graph_entries.proofs.graph_tables_crate.symbol_number.Reads as symbol-number-reads
 
 symbol-number-requires : tie.Need-symbol-number-requires
 symbol-number-requires c κs = search rules

@@ -5,7 +5,7 @@ use Rattle.graph.proofs.runtime_normal.Statement.{statement}
 use Rattle.graph.proofs.runtime_normal.Tie as tie
 use Rattle.graph.proofs.runtime_normal.Reads as reads
 use Rattle.graph.proofs.runtime_normal.Lts as lts
-use Rattle.graph_tables.proofs.module_number.Reads as module-number-reads
+use Rattle.graph_entries.proofs.graph_tables_crate.module_number.Reads as module-number-reads
 
 module-number-requires : tie.Need-module-number-requires
 module-number-requires c κs = let s = c.before.before.before.before in (s.requires.0, (rw (sym s.requires.1) c.if1.true, omega arith))

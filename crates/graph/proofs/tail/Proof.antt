@@ -1,8 +1,8 @@
 use mathlib.Core.Path.{refl, ◌∙◌, sym}
 use native.Mathlib.Omega.{arith}
-use Rattle.tables.specs.Layout.{Laid, at_verdicts}
-use Rattle.tables.proofs.Sections.{laid_kept, kept_then}
-use Rattle.graph_tables.proofs.Sections.{modules_kept}
+use Rattle.graph_entries.specs.tables_crate.Layout.{Laid, at_verdicts}
+use Rattle.graph_entries.proofs.tables_crate.Sections.{laid_kept, kept_then}
+use Rattle.graph_entries.proofs.graph_tables_crate.Sections.{modules_kept}
 use Rattle.graph.proofs.Loading.{once_fault, end_is, statements_part, tail_stop, tail_go, statement-table, entry-table}
 use Rattle.graph.proofs.Kept.{statements_kept}
 use borrow.Author.Rules.{rules}

@@ -2,11 +2,11 @@ use Prim.Native.Nat.{◌+◌, ◌-◌, ◌<◌, ◌≤◌}
 use mathlib.Core.Path.{◌≡◌, ap, ◌∙◌, sym}
 use mathlib.Core.List.{List, [], ◌∷◌, ◌++◌}
 use lib.ListN.{length, get_or}
-use Rattle.rows.specs.Walk.{got, Item}
-use Rattle.rows.proofs.Walks.{at_got}
-use Rattle.graph_format.specs.Format.{entry_at, entries_at, following}
-use Rattle.tables.specs.Layout.{sizes, start_of, at_entries}
-use Rattle.tables.proofs.Sections.{ends_inside, word_inside}
+use Rattle.graph_tables.specs.rows_crate.Walk.{got, Item}
+use Rattle.graph_tables.proofs.rows_crate.Walks.{at_got}
+use Rattle.graph_tables.specs.graph_format_crate.Format.{entry_at, entries_at, following}
+use Rattle.graph_tables.specs.tables_crate.Layout.{sizes, start_of, at_entries}
+use Rattle.graph_tables.proofs.tables_crate.Sections.{ends_inside, word_inside}
 use Rattle.graph_tables.specs.Tables.{modules_in}
 use Rattle.graph_tables.proofs.Filling.{Filling, filling_start, filling_inside, filling_step, filling_stop, filling_end}
 use Rattle.graph_tables.proofs.Sections.{modules_inside, modules_kept}

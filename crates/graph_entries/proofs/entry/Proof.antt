@@ -7,7 +7,7 @@ use Rattle.graph_entries.proofs.entry.Tie as tie
 use Rattle.graph_entries.proofs.entry.Reads as reads
 use Rattle.graph_entries.proofs.entry.Lts as lts
 use Rattle.graph_entries.proofs.related_list.Reads as related-list-reads
-use Rattle.rows.proofs.row.Reads as row_reads
+use Rattle.graph_tables.proofs.rows_crate.row.Reads as row_reads
 
 row-requires : tie.Need-row-requires
 row-requires c κs = search rules

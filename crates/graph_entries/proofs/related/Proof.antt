@@ -3,11 +3,11 @@ use mathlib.Core.Path.{◌≡◌, refl, ap, ◌∙◌, sym}
 use mathlib.Core.List.{List, [], ◌∷◌, ◌++◌}
 use native.Mathlib.Omega.{arith}
 use lib.ListN.{length, get_or, length-set}
-use Rattle.rows.specs.Walk.{got, walk_of, number, below, many, firsts, no_item, Item}
-use Rattle.rows.proofs.Walks.{at_got}
-use Rattle.rows.proofs.Cells.{Number, number_got}
+use Rattle.graph_tables.specs.rows_crate.Walk.{got, walk_of, number, below, many, firsts, no_item, Item}
+use Rattle.graph_tables.proofs.rows_crate.Walks.{at_got}
+use Rattle.graph_tables.proofs.rows_crate.Cells.{Number, number_got}
 use Rattle.graph_tables.specs.Tables.{header_in, modules_in}
-use Rattle.graph_format.specs.Format.{statements_of, related_module_at}
+use Rattle.graph_tables.specs.graph_format_crate.Format.{statements_of, related_module_at}
 use Rattle.graph_entries.proofs.Parts.{module_is, related_stop, related-stop-statement, related-stop-record, related-last}
 use borrow.Author.Rules.{rules}
 use Rattle.graph_entries.proofs.related.Statement.{statement}
@@ -17,8 +17,8 @@ use Rattle.graph_entries.proofs.related.Lts as lts
 use Rattle.graph_entries.proofs.related_module.Reads as related-module-reads
 use Rattle.graph_entries.proofs.related_import_record.Reads as related-import-record-reads
 use Rattle.graph_tables.proofs.module_number.Reads as module-number-reads
-use Rattle.rows.proofs.wide.Reads as wide-reads
-use Rattle.rows.proofs.within.Reads as within-reads
+use Rattle.graph_tables.proofs.rows_crate.wide.Reads as wide-reads
+use Rattle.graph_tables.proofs.rows_crate.within.Reads as within-reads
 
 -- the module that was read, and its statement and record
 counted : (c : tie.After-known-told2) → let s = c.before.before.before.before.before.before in (x : ℕ) × (related_module_at s.args.h (modules_in s.args.numbers.now) s.args.numbers.now s.args.at ≡ got x c.before.q.given.0.0)

@@ -3,9 +3,9 @@ use mathlib.Core.Path.{◌≡◌, refl, ap, ◌∙◌, sym}
 use mathlib.Core.List.{List, [], ◌∷◌, ◌++◌}
 use native.Mathlib.Omega.{arith}
 use lib.ListN.{length, get_or, length-set}
-use Rattle.rows.specs.Walk.{got, walk_of, number, below, many, firsts, no_item, Item}
-use Rattle.rows.proofs.Walks.{at_got}
-use Rattle.rows.proofs.Cells.{Number, number_got}
+use Rattle.graph_tables.specs.rows_crate.Walk.{got, walk_of, number, below, many, firsts, no_item, Item}
+use Rattle.graph_tables.proofs.rows_crate.Walks.{at_got}
+use Rattle.graph_tables.proofs.rows_crate.Cells.{Number, number_got}
 use Rattle.graph_tables.specs.Tables.{header_in, modules_in}
 use Rattle.graph_entries.proofs.Parts.{record_stop, record_none, record_some}
 use borrow.Author.Rules.{rules}
@@ -15,8 +15,8 @@ use Rattle.graph_entries.proofs.related_import_record.Reads as reads
 use Rattle.graph_entries.proofs.related_import_record.Lts as lts
 use Rattle.graph_tables.proofs.import_record_count.Reads as import-record-count-reads
 use Rattle.graph_tables.proofs.import_record_number.Reads as import-record-number-reads
-use Rattle.rows.proofs.wide.Reads as wide-reads
-use Rattle.rows.proofs.within.Reads as within-reads
+use Rattle.graph_tables.proofs.rows_crate.wide.Reads as wide-reads
+use Rattle.graph_tables.proofs.rows_crate.within.Reads as within-reads
 
 -- the record's number that was read
 counted : (c : tie.After-known-told2) → let s = c.before.before.before.before.before.before.before in (x : ℕ) × (number (below c.before.before.before.before.import-record-count.result) s.args.numbers.now s.args.at ≡ got x c.before.q.given.0.0)

@@ -3,18 +3,18 @@ use mathlib.Core.Path.{◌≡◌, refl, ap, ◌∙◌, sym}
 use mathlib.Core.List.{List, [], ◌∷◌, ◌++◌}
 use native.Mathlib.Omega.{arith}
 use lib.ListN.{length, get_or, length-set}
-use Rattle.rows.proofs.Walks.{at_got, list_go, list_stop}
+use Rattle.graph_tables.proofs.rows_crate.Walks.{at_got, list_go, list_stop}
 use Rattle.graph_tables.specs.Tables.{header_in, modules_in}
-use Rattle.rows.specs.Walk.{got, walk_of, number, count}
-use Rattle.rows.proofs.Cells.{Number, number_got}
+use Rattle.graph_tables.specs.rows_crate.Walk.{got, walk_of, number, count}
+use Rattle.graph_tables.proofs.rows_crate.Cells.{Number, number_got}
 use borrow.Author.Rules.{rules}
 use Rattle.graph_entries.proofs.related_list.Statement.{statement}
 use Rattle.graph_entries.proofs.related_list.Tie as tie
 use Rattle.graph_entries.proofs.related_list.Reads as reads
 use Rattle.graph_entries.proofs.related_list.Lts as lts
 use Rattle.graph_entries.proofs.related_rows.Reads as related-rows-reads
-use Rattle.rows.proofs.counter.Reads as counter-reads
-use Rattle.rows.proofs.wide.Reads as wide-reads
+use Rattle.graph_tables.proofs.rows_crate.counter.Reads as counter-reads
+use Rattle.graph_tables.proofs.rows_crate.wide.Reads as wide-reads
 
 -- the count that was read
 counted : (c : tie.After-known-told2) → let s = c.before.before.before.before.before.before in (x : ℕ) × (number (count 16384 0 16385) s.args.numbers.now s.args.at ≡ got x c.before.q.given.0.0)

@@ -3,11 +3,11 @@ use mathlib.Core.Path.{◌≡◌, refl, ap, ◌∙◌, sym}
 use mathlib.Core.List.{List, [], ◌∷◌, ◌++◌}
 use native.Mathlib.Omega.{arith}
 use lib.ListN.{length, get_or, length-set}
-use Rattle.rows.specs.Walk.{got, walk_of, number, below, many, firsts, no_item, Item}
-use Rattle.rows.proofs.Walks.{at_got}
-use Rattle.rows.proofs.Cells.{Number, number_got}
+use Rattle.graph_tables.specs.rows_crate.Walk.{got, walk_of, number, below, many, firsts, no_item, Item}
+use Rattle.graph_tables.proofs.rows_crate.Walks.{at_got}
+use Rattle.graph_tables.proofs.rows_crate.Cells.{Number, number_got}
 use Rattle.graph_tables.specs.Tables.{header_in, modules_in}
-use Rattle.graph_format.specs.Format.{kind_of}
+use Rattle.graph_tables.specs.graph_format_crate.Format.{kind_of}
 use Rattle.graph_entries.proofs.Parts.{module_stop, module_normal, module_external}
 use borrow.Author.Rules.{rules}
 use Rattle.graph_entries.proofs.related_module.Statement.{statement}
@@ -15,8 +15,8 @@ use Rattle.graph_entries.proofs.related_module.Tie as tie
 use Rattle.graph_entries.proofs.related_module.Reads as reads
 use Rattle.graph_entries.proofs.related_module.Lts as lts
 use Rattle.graph_tables.proofs.module_number.Reads as module-number-reads
-use Rattle.rows.proofs.wide.Reads as wide-reads
-use Rattle.rows.proofs.within.Reads as within-reads
+use Rattle.graph_tables.proofs.rows_crate.wide.Reads as wide-reads
+use Rattle.graph_tables.proofs.rows_crate.within.Reads as within-reads
 
 -- the module's number that was read
 counted : (c : tie.After-known-told2) → let s = c.before.before.before.before.before.before in (x : ℕ) × (number (below s.args.h.modules) s.args.numbers.now s.args.at ≡ got x c.before.q.given.0.0)

@@ -2,12 +2,12 @@ use Prim.Native.Nat.{ℕ, ◌+◌, ◌-◌, ◌*◌, ◌<◌, ◌≤◌}
 use mathlib.Core.Path.{◌≡◌, refl, ap, ◌∙◌, sym}
 use mathlib.Core.List.{List, [], ◌∷◌, ◌++◌}
 use lib.ListN.{length, get_or, length-set}
-use Rattle.rows.specs.Walk.{got, walk_of, number, below, many, firsts, no_item, Item}
-use Rattle.rows.proofs.Walks.{at_got}
-use Rattle.rows.proofs.Cells.{Number, number_got}
+use Rattle.graph_tables.specs.rows_crate.Walk.{got, walk_of, number, below, many, firsts, no_item, Item}
+use Rattle.graph_tables.proofs.rows_crate.Walks.{at_got}
+use Rattle.graph_tables.proofs.rows_crate.Cells.{Number, number_got}
 use Rattle.graph_tables.specs.Tables.{header_in, modules_in}
-use Rattle.rows.proofs.Many.{Going, going_start, going_step, going_stop, going_end}
-use Rattle.graph_format.specs.Format.{related_at}
+use Rattle.graph_tables.proofs.rows_crate.Many.{Going, going_start, going_step, going_stop, going_end}
+use Rattle.graph_tables.specs.graph_format_crate.Format.{related_at}
 use borrow.Author.Rules.{rules}
 use native.Mathlib.Omega.{arith}
 use Rattle.graph_entries.proofs.related_rows.Statement.{statement}

@@ -7,7 +7,7 @@ use Rattle.graph_tables.proofs.import_record_count.Statement.{statement}
 use Rattle.graph_tables.proofs.import_record_count.Tie as tie
 use Rattle.graph_tables.proofs.import_record_count.Reads as reads
 use Rattle.graph_tables.proofs.import_record_count.Lts as lts
-use Rattle.rows.proofs.wide.Reads as wide-reads
+use Rattle.tables.proofs.rows_crate.wide.Reads as wide-reads
 
 mul-p : tie.Need-overflow-mul-p
 mul-p c = search rules

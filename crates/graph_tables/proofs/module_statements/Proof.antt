@@ -2,10 +2,10 @@ use Prim.Native.Nat.{ℕ, ◌+◌, ◌-◌, ◌<◌}
 use mathlib.Core.Path.{◌≡◌, refl, ◌∙◌, sym}
 use mathlib.Core.List.{List, [], ◌∷◌, ◌++◌}
 use lib.ListN.{length}
-use Rattle.rows.specs.Walk.{got, Item}
-use Rattle.rows.proofs.Walks.{at_got}
-use Rattle.graph_format.specs.declared.Header.{Header}
-use Rattle.graph_format.specs.Format.{statement_at, following}
+use Rattle.tables.specs.rows_crate.Walk.{got, Item}
+use Rattle.tables.proofs.rows_crate.Walks.{at_got}
+use Rattle.tables.specs.graph_format_crate.declared.Header.{Header}
+use Rattle.tables.specs.graph_format_crate.Format.{statement_at, following}
 use Rattle.graph_tables.proofs.OneItem.{item_place}
 use Rattle.graph_tables.proofs.Filling.{Filling, filling_start, filling_inside, filling_step, filling_stop, filling_end}
 use borrow.Author.Rules.{rules}

@@ -2,10 +2,10 @@ use Prim.Native.Nat.{ℕ, ◌+◌, ◌-◌, ◌<◌, ◌≤◌}
 use mathlib.Core.Path.{◌≡◌, ap, ◌∙◌, sym}
 use mathlib.Core.List.{List, [], ◌∷◌, ◌++◌}
 use lib.ListN.{length, get_or}
-use Rattle.rows.specs.Walk.{got, Item}
-use Rattle.rows.proofs.Walks.{at_got}
-use Rattle.graph_format.specs.declared.Header.{Header}
-use Rattle.graph_format.specs.Format.{module_at, modules_at, less_module}
+use Rattle.tables.specs.rows_crate.Walk.{got, Item}
+use Rattle.tables.proofs.rows_crate.Walks.{at_got}
+use Rattle.tables.specs.graph_format_crate.declared.Header.{Header}
+use Rattle.tables.specs.graph_format_crate.Format.{module_at, modules_at, less_module}
 use Rattle.tables.specs.Layout.{sizes, start_of, at_modules}
 use Rattle.tables.proofs.Sections.{ends_inside, word_inside}
 use Rattle.graph_tables.proofs.Facts.{read_place, nine_inside, nine_same, nine_fits, less}

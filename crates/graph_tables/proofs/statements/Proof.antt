@@ -2,9 +2,9 @@ use Prim.Native.Nat.{ℕ, ◌+◌, ◌-◌, ◌<◌, ◌≤◌}
 use mathlib.Core.Path.{◌≡◌, ap, ◌∙◌, sym}
 use mathlib.Core.List.{List, [], ◌∷◌, ◌++◌}
 use lib.ListN.{length, get_or}
-use Rattle.rows.specs.Walk.{many, walk_of, Item}
-use Rattle.rows.proofs.Walks.{at_got}
-use Rattle.graph_format.specs.Format.{statement_at, following, module_statements, statements_of}
+use Rattle.tables.specs.rows_crate.Walk.{many, walk_of, Item}
+use Rattle.tables.proofs.rows_crate.Walks.{at_got}
+use Rattle.tables.specs.graph_format_crate.Format.{statement_at, following, module_statements, statements_of}
 use Rattle.tables.specs.Layout.{sizes, start_of, Kept, at_first_statements, at_statements}
 use Rattle.tables.proofs.Sections.{ends_inside, word_inside}
 use Rattle.graph_tables.specs.Tables.{header_in, modules_in, first_of}

@@ -2,9 +2,9 @@ use Prim.Native.Nat.{ℕ, ◌+◌, ◌-◌, ◌*◌, ◌<◌, ◌≤◌}
 use mathlib.Core.Path.{◌≡◌, refl, ap, ◌∙◌, sym}
 use mathlib.Core.List.{List, [], ◌∷◌, ◌++◌}
 use native.Mathlib.Omega.{arith}
-use Rattle.rows.specs.Walk.{got, cells}
-use Rattle.rows.proofs.Walks.{at_got}
-use Rattle.graph_format.specs.Format.{symbol_rules}
+use Rattle.tables.specs.rows_crate.Walk.{got, cells}
+use Rattle.tables.proofs.rows_crate.Walks.{at_got}
+use Rattle.tables.specs.graph_format_crate.Format.{symbol_rules}
 use Rattle.graph_tables.specs.Tables.{modules_in}
 use Rattle.graph_tables.proofs.OneItem.{symbol_stop, symbol-go, owner-inside, owner-good}
 use borrow.Author.Rules.{rules}
@@ -12,10 +12,10 @@ use Rattle.graph_tables.proofs.symbol.Statement.{statement}
 use Rattle.graph_tables.proofs.symbol.Tie as tie
 use Rattle.graph_tables.proofs.symbol.Reads as reads
 use Rattle.graph_tables.proofs.symbol.Lts as lts
-use Rattle.graph_format.proofs.symbol_head.Reads as symbol-head-reads
-use Rattle.graph_format.proofs.symbol_lists.Reads as symbol-lists-reads
+use Rattle.tables.proofs.graph_format_crate.symbol_head.Reads as symbol-head-reads
+use Rattle.tables.proofs.graph_format_crate.symbol_lists.Reads as symbol-lists-reads
 use Rattle.graph_tables.proofs.module_number.Reads as module-number-reads
-use Rattle.rows.proofs.wide.Reads as wide-reads
+use Rattle.tables.proofs.rows_crate.wide.Reads as wide-reads
 
 -- the leading numbers that were read
 headed : (c : tie.After-known-told2) → let s = c.before.before.before.before.before.before in (head : List ℕ) × (cells (symbol_rules s.args.h) s.args.numbers.now s.args.at ≡ got head c.before.a.given.0.0)

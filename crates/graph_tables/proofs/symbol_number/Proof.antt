@@ -7,7 +7,7 @@ use Rattle.graph_tables.proofs.symbol_number.Statement.{statement}
 use Rattle.graph_tables.proofs.symbol_number.Tie as tie
 use Rattle.graph_tables.proofs.symbol_number.Reads as reads
 use Rattle.graph_tables.proofs.symbol_number.Lts as lts
-use Rattle.rows.proofs.wide.Reads as wide-reads
+use Rattle.tables.proofs.rows_crate.wide.Reads as wide-reads
 
 mul-p : tie.Need-overflow-mul-p
 mul-p c = search rules

@@ -2,7 +2,7 @@ use Rattle.include_module.proofs.Following.{dependency_external, dependency_whol
 use borrow.Author.Tests.{not_true, not-false}
 use mathlib.Core.Path.{◌∙◌, sym}
 use native.Mathlib.Omega.{arith}
-use Rattle.graph.specs.Check.{graph_in}
+use Rattle.determine_side_effects.specs.graph_crate.Check.{graph_in}
 use Rattle.keep_rules.proofs.Picks.{gives_good, nothing_good}
 use Rattle.include_module.proofs.dependency_candidate.Statement.{statement}
 use Rattle.include_module.proofs.dependency_candidate.Tie as tie

@@ -1,7 +1,7 @@
 use Rattle.include_module.proofs.Following.{dev_kept, dev_left}
-use Rattle.graph_access.proofs.Indexes.{statements_of_normal}
+use Rattle.determine_side_effects.proofs.graph_access_crate.Indexes.{statements_of_normal}
 use mathlib.Core.Path.{◌∙◌, sym}
-use Rattle.graph.specs.Check.{graph_in}
+use Rattle.determine_side_effects.specs.graph_crate.Check.{graph_in}
 use Rattle.keep_rules.proofs.Picks.{gives_good, nothing_good}
 use Rattle.include_module.proofs.dev_candidate.Statement.{statement}
 use Rattle.include_module.proofs.dev_candidate.Tie as tie

@@ -2,7 +2,7 @@ use Rattle.include_module.proofs.Following.{not_dev, dev-runtime, dev-other}
 use borrow.Author.Tests.{not_true, not-false}
 use mathlib.Core.Path.{ap, ◌∙◌, sym}
 use native.Mathlib.Omega.{arith}
-use Rattle.graph.specs.Check.{graph_in}
+use Rattle.determine_side_effects.specs.graph_crate.Check.{graph_in}
 use Rattle.include_module.proofs.dev_namespace.Statement.{statement}
 use Rattle.include_module.proofs.dev_namespace.Tie as tie
 

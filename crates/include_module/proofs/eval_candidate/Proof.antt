@@ -1,6 +1,6 @@
 use Rattle.include_module.proofs.Following.{eval_is}
 use native.Mathlib.Omega.{arith}
-use Rattle.graph.specs.Check.{graph_in}
+use Rattle.determine_side_effects.specs.graph_crate.Check.{graph_in}
 use Rattle.keep_rules.proofs.Picks.{gives_good}
 use Rattle.include_module.proofs.eval_candidate.Statement.{statement}
 use Rattle.include_module.proofs.eval_candidate.Tie as tie

@@ -1,6 +1,6 @@
 use Rattle.include_module.proofs.Sweeping.{another_module, the_runtime}
 use mathlib.Core.Path.{ap}
-use Rattle.graph.specs.Check.{graph_in}
+use Rattle.determine_side_effects.specs.graph_crate.Check.{graph_in}
 use Rattle.include_module.proofs.is_quiet_runtime.Statement.{statement}
 use Rattle.include_module.proofs.is_quiet_runtime.Tie as tie
 

@@ -1,6 +1,6 @@
 use Rattle.include_module.proofs.Sweeping.{swept_kept, swept_left}
 use mathlib.Core.Path.{◌∙◌, sym}
-use Rattle.graph.specs.Check.{graph_in}
+use Rattle.determine_side_effects.specs.graph_crate.Check.{graph_in}
 use Rattle.keep_rules.proofs.Picks.{gives_good, nothing_good}
 use Rattle.include_module.proofs.sweep_candidate.Statement.{statement}
 use Rattle.include_module.proofs.sweep_candidate.Tie as tie

@@ -1,6 +1,6 @@
 use mathlib.Core.Logic.{◌⊎◌, inl, inr, ⊎_elim}
 use Rattle.include_module.proofs.Sweeping.{swept_free, swept_ungated, swept-not, swept-declares}
-use Rattle.graph_access.specs.Words.{flag}
+use Rattle.determine_side_effects.specs.graph_access_crate.Words.{flag}
 use Rattle.determine_side_effects.specs.Effects.{last_verdicts}
 use Rattle.on_demand.specs.Demand.{on_demand, gated}
 use Rattle.keep_rules.specs.Rules.{effect_bit}
@@ -8,7 +8,7 @@ use borrow.Author.Tests.{not_true, not-false}
 use mathlib.Core.Path.{◌≡◌, ap, ◌∙◌, sym}
 use mathlib.Core.Bool.{true, false}
 use native.Mathlib.Omega.{arith}
-use Rattle.graph.specs.Check.{graph_in}
+use Rattle.determine_side_effects.specs.graph_crate.Check.{graph_in}
 use Rattle.include_module.proofs.swept_shaken.Statement.{statement}
 use Rattle.include_module.proofs.swept_shaken.Tie as tie
 

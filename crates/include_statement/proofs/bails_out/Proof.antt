@@ -1,4 +1,4 @@
-use Rattle.graph_access.specs.Words.{flag}
+use Rattle.determine_side_effects.specs.graph_access_crate.Words.{flag}
 use Rattle.include_statement.proofs.Bailing.{bails_external, bails-other, bails-import, bails-bare, bails-own, bails-several}
 use Rattle.determine_side_effects.specs.Effects.{has_effects, last_verdicts}
 use borrow.Author.Tests.{not_true, not-false}
@@ -6,7 +6,7 @@ use mathlib.Core.Logic.{◌⊎◌, inl, inr, ⊎_elim}
 use mathlib.Core.Path.{◌≡◌, ◌∙◌, sym}
 use mathlib.Core.Bool.{true, false}
 use native.Mathlib.Omega.{arith}
-use Rattle.graph.specs.Check.{graph_in}
+use Rattle.determine_side_effects.specs.graph_crate.Check.{graph_in}
 use Rattle.include_statement.proofs.bails_out.Statement.{statement}
 use Rattle.include_statement.proofs.bails_out.Tie as tie
 

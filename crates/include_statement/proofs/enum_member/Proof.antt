@@ -1,12 +1,12 @@
-use Rattle.graph_access.specs.Words.{some, module_of}
+use Rattle.determine_side_effects.specs.graph_access_crate.Words.{some, module_of}
 use Rattle.include_statement.proofs.Enums.{named, member_none, member-found, member-other, name-other}
-use Rattle.graph_access.specs.Names.{enum_members}
+use Rattle.determine_side_effects.specs.graph_access_crate.Names.{enum_members}
 use mathlib.Core.Logic.{⊎_elim}
 use Prim.Native.Nat.{◌-◌, ◌<◌, ◌≤◌}
 use mathlib.Core.Path.{◌≡◌, refl}
 use native.Mathlib.Omega.{arith}
 use lib.ListN.{length, drop}
-use Rattle.graph.specs.Check.{graph_in}
+use Rattle.determine_side_effects.specs.graph_crate.Check.{graph_in}
 use Rattle.include_statement.proofs.enum_member.Statement.{statement}
 use Rattle.include_statement.proofs.enum_member.Tie as tie
 

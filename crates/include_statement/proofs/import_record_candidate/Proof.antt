@@ -1,7 +1,7 @@
 use Rattle.include_statement.proofs.Bailing.{record-unresolved, record-bails, record-stays}
 use mathlib.Core.Path.{◌∙◌, sym}
 use native.Mathlib.Omega.{arith}
-use Rattle.graph.specs.Check.{graph_in}
+use Rattle.determine_side_effects.specs.graph_crate.Check.{graph_in}
 use Rattle.keep_rules.proofs.Picks.{gives_good, nothing_good}
 use Rattle.include_statement.proofs.import_record_candidate.Statement.{statement}
 use Rattle.include_statement.proofs.import_record_candidate.Tie as tie

@@ -1,15 +1,15 @@
 use mathlib.Core.List.{[]}
-use Rattle.graph_access.specs.Words.{statement_of}
+use Rattle.determine_side_effects.specs.graph_access_crate.Words.{statement_of}
 use Rattle.include_statement.proofs.Enums.{of_external, written, deeper, its-member}
 use Rattle.include_statement.proofs.Stands.{five-here, object-is, write-is, count_is, first_is, symbol_below}
-use Rattle.graph_access.specs.Names.{references, reference_symbol}
+use Rattle.determine_side_effects.specs.graph_access_crate.Names.{references, reference_symbol}
 use borrow.Author.Tests.{not_true, not-false}
 use Prim.Native.Nat.{◌<◌}
 use mathlib.Core.Path.{◌≡◌, ◌∙◌, sym}
 use native.Mathlib.Omega.{arith}
 use lib.ListN.{get_or}
-use Rattle.graph_tables.specs.Tables.{header_in}
-use Rattle.graph.specs.Check.{graph_in}
+use Rattle.determine_side_effects.specs.graph_tables_crate.Tables.{header_in}
+use Rattle.determine_side_effects.specs.graph_crate.Check.{graph_in}
 use borrow.Author.Rules.{rules}
 use Rattle.include_statement.proofs.is_inlined_enum_member_access.Statement.{statement}
 use Rattle.include_statement.proofs.is_inlined_enum_member_access.Tie as tie

@@ -1,14 +1,14 @@
 use mathlib.Core.List.{[]}
-use Rattle.graph_access.specs.Words.{statement_of}
+use Rattle.determine_side_effects.specs.graph_access_crate.Words.{statement_of}
 use Rattle.include_statement.proofs.Stands.{kind_here, kind_is, symbol-here, symbol_is, symbol_below}
 use Rattle.include_statement.proofs.Places.{no_places, pick_resolved, pick-forward, pick-checked}
-use Rattle.graph_access.specs.Names.{references, reference_symbol}
+use Rattle.determine_side_effects.specs.graph_access_crate.Names.{references, reference_symbol}
 use Prim.Native.Nat.{◌<◌}
 use mathlib.Core.Path.{◌≡◌, ◌∙◌}
 use native.Mathlib.Omega.{arith}
 use lib.ListN.{get_or}
-use Rattle.graph_tables.specs.Tables.{header_in}
-use Rattle.graph.specs.Check.{graph_in}
+use Rattle.determine_side_effects.specs.graph_tables_crate.Tables.{header_in}
+use Rattle.determine_side_effects.specs.graph_crate.Check.{graph_in}
 use Rattle.keep_rules.proofs.Picks.{gives_good}
 use borrow.Author.Rules.{rules}
 use Rattle.include_statement.proofs.reference_candidate.Statement.{statement}

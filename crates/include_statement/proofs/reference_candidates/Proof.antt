@@ -1,14 +1,14 @@
 use mathlib.Core.List.{[]}
-use Rattle.graph_access.specs.Words.{statement_of}
+use Rattle.determine_side_effects.specs.graph_access_crate.Words.{statement_of}
 use Rattle.include_statement.proofs.Stands.{kind_here, kind_is, parts-here, depended_is, symbol-here, symbol_is, symbol_below}
 use Rattle.include_statement.proofs.Places.{no_places, depended_places, inlined_places, plain_places}
-use Rattle.graph_access.specs.Names.{references, reference_symbol}
+use Rattle.determine_side_effects.specs.graph_access_crate.Names.{references, reference_symbol}
 use mathlib.Core.Logic.{inl, inr, ⊎_elim}
 use Prim.Native.Nat.{◌<◌}
 use mathlib.Core.Path.{◌≡◌, ◌∙◌, sym}
 use native.Mathlib.Omega.{arith}
 use lib.ListN.{get_or}
-use Rattle.graph.specs.Check.{graph_in}
+use Rattle.determine_side_effects.specs.graph_crate.Check.{graph_in}
 use borrow.Author.Rules.{rules}
 use Rattle.include_statement.proofs.reference_candidates.Statement.{statement}
 use Rattle.include_statement.proofs.reference_candidates.Tie as tie

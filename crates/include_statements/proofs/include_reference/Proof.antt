@@ -1,14 +1,14 @@
 use Rattle.include_statements.proofs.Segments.{lines_from, segment_start, segment-step, segment-full, segment_done}
 use Rattle.include_statements.proofs.Going.{Going, before_more, below_same, turn_less}
 use Rattle.include_statements.specs.Following.{lines_by}
-use Rattle.index.specs.declared.ModuleIdx.{ModuleIdx}
-use Rattle.index.specs.declared.StmtIdx.{StmtIdx}
-use Rattle.graph_access.specs.Words.{statement_of}
-use Rattle.graph_access.specs.Names.{references}
+use Rattle.determine_side_effects.specs.index_crate.declared.ModuleIdx.{ModuleIdx}
+use Rattle.determine_side_effects.specs.index_crate.declared.StmtIdx.{StmtIdx}
+use Rattle.determine_side_effects.specs.graph_access_crate.Words.{statement_of}
+use Rattle.determine_side_effects.specs.graph_access_crate.Names.{references}
 use Rattle.keep_rules.specs.Rules.{Segment, reference_segment, reason_of}
 use Rattle.keep_record.specs.Lines.{adds}
 use Rattle.keep_record.specs.Held.{lines_of}
-use Rattle.graph.specs.Check.{graph_in}
+use Rattle.determine_side_effects.specs.graph_crate.Check.{graph_in}
 use lib.ListN.{length, get_or}
 use Prim.Native.Nat.{ℕ, ◌-◌}
 use mathlib.Core.Path.{◌≡◌, refl, ◌∙◌}

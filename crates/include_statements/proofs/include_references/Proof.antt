@@ -2,13 +2,13 @@ use Rattle.include_statements.proofs.References.{stands_here, width_inside, stan
 use Rattle.include_statements.proofs.Segments.{segments_start}
 use Rattle.include_statements.proofs.Going.{Going, before_more, turn_less}
 use Rattle.include_statements.specs.Following.{lines_by}
-use Rattle.graph_access.specs.Names.{references}
-use Rattle.graph_access.specs.Words.{statement_of}
-use Rattle.graph_access.specs.References.{ReferencesAt}
+use Rattle.determine_side_effects.specs.graph_access_crate.Names.{references}
+use Rattle.determine_side_effects.specs.graph_access_crate.Words.{statement_of}
+use Rattle.determine_side_effects.specs.graph_access_crate.References.{ReferencesAt}
 use Rattle.keep_rules.specs.Rules.{reference_segment, reason_of}
 use Rattle.keep_record.specs.Lines.{adds}
 use Rattle.keep_record.specs.Held.{lines_of}
-use Rattle.graph.specs.Check.{graph_in}
+use Rattle.determine_side_effects.specs.graph_crate.Check.{graph_in}
 use lib.ListN.{length, drop}
 use Prim.Native.Nat.{◌-◌}
 use mathlib.Core.Path.{◌≡◌, refl, ◌∙◌}

@@ -1,13 +1,13 @@
 use Rattle.include_statements.proofs.Segments.{lines_from, segment_start, segment-step, segment-full, segment_done}
 use Rattle.include_statements.proofs.Going.{Going, before_more, below_same, turn_less}
 use Rattle.include_statements.specs.Following.{lines_by}
-use Rattle.index.specs.declared.ModuleIdx.{ModuleIdx}
-use Rattle.graph_access.specs.Words.{statement_list}
+use Rattle.determine_side_effects.specs.index_crate.declared.ModuleIdx.{ModuleIdx}
+use Rattle.determine_side_effects.specs.graph_access_crate.Words.{statement_list}
 use Rattle.keep_rules.specs.Rules.{Segment, segment, sweep_candidate}
 use Rattle.keep_record.specs.Lines.{adds}
 use Rattle.keep_record.specs.Held.{lines_of}
 use Rattle.determine_side_effects.specs.Effects.{last_verdicts}
-use Rattle.graph.specs.Check.{graph_in}
+use Rattle.determine_side_effects.specs.graph_crate.Check.{graph_in}
 use lib.ListN.{length}
 use Prim.Native.Nat.{ℕ, ◌-◌}
 use mathlib.Core.Path.{◌≡◌, refl, ◌∙◌}

@@ -1,9 +1,9 @@
 use Rattle.include_symbol.proofs.ByName.{no_alias, an_alias}
-use Rattle.graph_access.specs.Names.{alias_namespace, alias_name}
-use Rattle.graph_access.specs.Words.{symbol_of, root_of}
+use Rattle.determine_side_effects.specs.graph_access_crate.Names.{alias_namespace, alias_name}
+use Rattle.determine_side_effects.specs.graph_access_crate.Words.{symbol_of, root_of}
 use mathlib.Core.Path.{◌≡◌, ap, ◌∙◌}
 use native.Mathlib.Omega.{arith}
-use Rattle.graph.specs.Check.{graph_in}
+use Rattle.determine_side_effects.specs.graph_crate.Check.{graph_in}
 use Rattle.keep_rules.proofs.Picks.{nothing_good}
 use Rattle.include_symbol.proofs.alias_candidate.Statement.{statement}
 use Rattle.include_symbol.proofs.alias_candidate.Tie as tie

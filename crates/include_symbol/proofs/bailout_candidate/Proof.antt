@@ -1,6 +1,6 @@
 use Rattle.include_symbol.proofs.Bailouts.{bailout_none, bailout_some}
 use native.Mathlib.Omega.{arith}
-use Rattle.graph.specs.Check.{graph_in}
+use Rattle.determine_side_effects.specs.graph_crate.Check.{graph_in}
 use Rattle.keep_rules.proofs.Picks.{gives_good, nothing_good}
 use Rattle.include_symbol.proofs.bailout_candidate.Statement.{statement}
 use Rattle.include_symbol.proofs.bailout_candidate.Tie as tie

@@ -1,5 +1,5 @@
 use Rattle.include_symbol.proofs.Bailouts.{checked_use, checked-root, checked-namespace, checked-plain, checked-alias}
-use Rattle.graph.specs.Check.{graph_in}
+use Rattle.determine_side_effects.specs.graph_crate.Check.{graph_in}
 use Rattle.keep_rules.proofs.Picks.{gives_good, nothing_good}
 use Rattle.include_symbol.proofs.checked_candidate.Statement.{statement}
 use Rattle.include_symbol.proofs.checked_candidate.Tie as tie

@@ -1,9 +1,9 @@
 use Rattle.include_symbol.proofs.OfTarget.{declared_at, declared_in, declared-one, declared-namespace, declared-owner, declared-plain, of_owner}
-use Rattle.graph_access.specs.Words.{normal}
+use Rattle.determine_side_effects.specs.graph_access_crate.Words.{normal}
 use mathlib.Core.Path.{◌≡◌, ◌∙◌, sym}
 use mathlib.Core.Bool.{true}
 use native.Mathlib.Omega.{arith}
-use Rattle.graph.specs.Check.{graph_in}
+use Rattle.determine_side_effects.specs.graph_crate.Check.{graph_in}
 use Rattle.keep_rules.proofs.Picks.{gives_good, nothing_good}
 use Rattle.include_symbol.proofs.declaration_candidate.Statement.{statement}
 use Rattle.include_symbol.proofs.declaration_candidate.Tie as tie

@@ -1,10 +1,10 @@
 use Rattle.include_symbol.proofs.Demands.{demand_in, demand_gated, demand_free}
-use Rattle.graph_access.specs.Words.{statement_list}
+use Rattle.determine_side_effects.specs.graph_access_crate.Words.{statement_list}
 use Prim.Native.Nat.{◌-◌, ◌<◌}
 use mathlib.Core.Path.{◌∙◌, sym}
 use native.Mathlib.Omega.{arith}
 use lib.ListN.{length}
-use Rattle.graph.specs.Check.{graph_in}
+use Rattle.determine_side_effects.specs.graph_crate.Check.{graph_in}
 use Rattle.keep_rules.proofs.Picks.{gives_good, nothing_good}
 use Rattle.include_symbol.proofs.demand_candidate.Statement.{statement}
 use Rattle.include_symbol.proofs.demand_candidate.Tie as tie

@@ -2,7 +2,7 @@ use borrow.Author.Tests.{not_true, not-false}
 use Rattle.include_symbol.proofs.ByName.{pick_none, pick_external, pick_default, pick_missing, pick_found}
 use mathlib.Core.Path.{◌∙◌, sym}
 use native.Mathlib.Omega.{arith}
-use Rattle.graph.specs.Check.{graph_in}
+use Rattle.determine_side_effects.specs.graph_crate.Check.{graph_in}
 use Rattle.keep_rules.proofs.Picks.{gives_good, nothing_good}
 use Rattle.include_symbol.proofs.export_candidate.Statement.{statement}
 use Rattle.include_symbol.proofs.export_candidate.Tie as tie

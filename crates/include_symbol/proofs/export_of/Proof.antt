@@ -1,11 +1,11 @@
 use Rattle.include_symbol.proofs.ByName.{export_go, export_found, export_none}
-use Rattle.graph_access.specs.Words.{module_of}
-use Rattle.graph_access.specs.Names.{resolved_exports}
+use Rattle.determine_side_effects.specs.graph_access_crate.Words.{module_of}
+use Rattle.determine_side_effects.specs.graph_access_crate.Names.{resolved_exports}
 use Rattle.keep_rules.specs.Rules.{export_of}
 use Prim.Native.Nat.{◌-◌, ◌<◌, ◌≤◌}
 use mathlib.Core.Path.{◌≡◌, refl}
 use lib.ListN.{length, drop}
-use Rattle.graph.specs.Check.{graph_in}
+use Rattle.determine_side_effects.specs.graph_crate.Check.{graph_in}
 use native.Mathlib.Omega.{arith}
 use Rattle.include_symbol.proofs.export_of.Statement.{statement}
 use Rattle.include_symbol.proofs.export_of.Tie as tie

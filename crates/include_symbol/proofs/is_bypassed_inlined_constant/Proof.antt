@@ -1,10 +1,10 @@
 use borrow.Author.Tests.{not_true, not-false}
 use Rattle.include_symbol.proofs.Demands.{unknown, common, entry_export, not_smart, smart}
-use Rattle.graph_access.specs.Words.{symbol_of, root_of}
-use Rattle.graph_access.specs.Names.{constant_bits}
+use Rattle.determine_side_effects.specs.graph_access_crate.Words.{symbol_of, root_of}
+use Rattle.determine_side_effects.specs.graph_access_crate.Names.{constant_bits}
 use mathlib.Core.Path.{◌≡◌, ap, ◌∙◌, sym}
 use native.Mathlib.Omega.{arith}
-use Rattle.graph.specs.Check.{graph_in}
+use Rattle.determine_side_effects.specs.graph_crate.Check.{graph_in}
 use Rattle.include_symbol.proofs.is_bypassed_inlined_constant.Statement.{statement}
 use Rattle.include_symbol.proofs.is_bypassed_inlined_constant.Tie as tie
 

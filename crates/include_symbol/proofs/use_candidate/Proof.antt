@@ -1,7 +1,7 @@
 use Rattle.keep_rules.proofs.Segments.{place_in, picked}
 use Rattle.include_symbol.proofs.InOrder.{alias_any, segment_0, segment_1, segment_2, segment_3, segment_4}
 use mathlib.Core.Path.{◌∙◌}
-use Rattle.graph.specs.Check.{graph_in}
+use Rattle.determine_side_effects.specs.graph_crate.Check.{graph_in}
 use Rattle.include_symbol.proofs.use_candidate.Statement.{statement}
 use Rattle.include_symbol.proofs.use_candidate.Tie as tie
 

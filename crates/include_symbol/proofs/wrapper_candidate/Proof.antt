@@ -1,7 +1,7 @@
 use Rattle.include_symbol.proofs.OfTarget.{wrapper_there, wrapper_rest, wrapper_at, wrapper_first, wrapper_next}
 use Prim.Native.Nat.{◌<◌}
 use native.Mathlib.Omega.{arith}
-use Rattle.graph.specs.Check.{graph_in}
+use Rattle.determine_side_effects.specs.graph_crate.Check.{graph_in}
 use Rattle.keep_rules.proofs.Picks.{gives_good}
 use Rattle.include_symbol.proofs.wrapper_candidate.Statement.{statement}
 use Rattle.include_symbol.proofs.wrapper_candidate.Tie as tie

@@ -1,5 +1,5 @@
 use Rattle.include_symbol.proofs.OfTarget.{writes_one, write_in, of_owner}
-use Rattle.graph.specs.Check.{graph_in}
+use Rattle.determine_side_effects.specs.graph_crate.Check.{graph_in}
 use Rattle.keep_rules.proofs.Picks.{gives_good}
 use Rattle.include_symbol.proofs.write_candidate.Statement.{statement}
 use Rattle.include_symbol.proofs.write_candidate.Tie as tie

@@ -3,7 +3,7 @@ use native.Mathlib.Omega.{arith}
 use borrow.Fn.Kinds.{In}
 use borrow.Fn.PlainCycle.{Measures, is, falls, and}
 use Rattle.graph.proofs.Checking.{bounded}
-use Rattle.tables.proofs.fits.Reads as fits-reads
+use Rattle.graph.proofs.tables_crate.fits.Reads as fits-reads
 use Rattle.judge.proofs.judge_middle.Reads as middle-reads
 use Rattle.judge.proofs.judge_large.Reads as large-reads
 use Rattle.judge.proofs.judge_largest.Reads as largest-reads

@@ -1,5 +1,5 @@
 use mathlib.Core.Path.{◌∙◌, sym}
-use Rattle.rows.proofs.Walks.{at_got}
+use Rattle.graph.proofs.rows_crate.Walks.{at_got}
 use Rattle.graph.specs.Check.{HeaderRead}
 use Rattle.graph.proofs.Checking.{seven, check_stop_header}
 use Rattle.judge_parts.proofs.Readying.{judge_rejected}

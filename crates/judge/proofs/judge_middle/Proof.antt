@@ -1,8 +1,8 @@
 use mathlib.Core.Path.{refl}
 use lib.ListN.{length-replicate}
 use native.Mathlib.Omega.{arith}
-use Rattle.tables.specs.declared.Size.TheVariants.{Middle}
-use Rattle.tables.proofs.Zeros.{tables_long}
+use Rattle.graph.specs.tables_crate.declared.Size.TheVariants.{Middle}
+use Rattle.graph.proofs.tables_crate.Zeros.{tables_long}
 use Rattle.judge.proofs.Tiers.{marks_clear}
 use Prim.Native.Nat.{ℕ}
 use Rattle.judge.proofs.judge_middle.Statement.{statement}

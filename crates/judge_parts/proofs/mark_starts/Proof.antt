@@ -2,7 +2,7 @@ use Rattle.judge_parts.proofs.Starting.{mark_turn, mark_end}
 use Rattle.completeness.proofs.Walks.{start_good}
 use Rattle.fact_marks.specs.Marks.{Marks}
 use Rattle.starts.specs.Starts.{starts_of}
-use Rattle.graph.specs.Check.{graph_in}
+use Rattle.determine_side_effects.specs.graph_crate.Check.{graph_in}
 use lib.ListN.{length, take}
 use Prim.Native.Nat.{◌-◌, ◌≤◌}
 use mathlib.Core.Path.{◌≡◌, refl, ◌∙◌}

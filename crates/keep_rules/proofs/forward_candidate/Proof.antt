@@ -1,6 +1,6 @@
 use Rattle.keep_rules.proofs.Picks.{gives_good}
 use Rattle.keep_rules.proofs.Forwards.{forward_first, forward_in, forward-next}
-use Rattle.graph.specs.Check.{graph_in}
+use Rattle.determine_side_effects.specs.graph_crate.Check.{graph_in}
 use native.Mathlib.Omega.{arith}
 use Rattle.keep_rules.proofs.forward_candidate.Statement.{statement}
 use Rattle.keep_rules.proofs.forward_candidate.Tie as tie

@@ -1,5 +1,5 @@
-use Rattle.graph_access.specs.Words.{option, flag}
-use Rattle.graph.specs.Check.{graph_in}
+use Rattle.determine_side_effects.specs.graph_access_crate.Words.{option, flag}
+use Rattle.determine_side_effects.specs.graph_crate.Check.{graph_in}
 use mathlib.Core.Path.{ap, ◌∙◌}
 use Rattle.keep_rules.proofs.option.Statement.{statement}
 use Rattle.keep_rules.proofs.option.Tie as tie

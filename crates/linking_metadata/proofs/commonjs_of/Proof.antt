@@ -1,8 +1,8 @@
 use mathlib.Core.Path.{ap, ◌∙◌}
 use native.Mathlib.Omega.{arith}
 use lib.ListN.{length, get_or}
-use Rattle.graph.specs.Check.{graph_in}
-use Rattle.tables.proofs.Sections.{inside}
+use Rattle.graph_access.specs.graph_crate.Check.{graph_in}
+use Rattle.graph_access.proofs.tables_crate.Sections.{inside}
 use Rattle.linking_metadata.proofs.FillingUp.{namespaces_fit}
 use Rattle.linking_metadata.proofs.commonjs_of.Statement.{statement}
 use Rattle.linking_metadata.proofs.commonjs_of.Tie as tie

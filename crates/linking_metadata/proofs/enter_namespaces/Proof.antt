@@ -3,13 +3,13 @@ use mathlib.Core.Path.{◌≡◌, refl, ◌∙◌, sym}
 use mathlib.Core.Logic.{⊎_elim}
 use native.Mathlib.Omega.{arith}
 use lib.ListN.{length, get_or, drop}
-use Rattle.tables.specs.Layout.{sizes, start_of, Laid, Kept, namespaces_in, at_namespaces, all_sections}
-use Rattle.tables.proofs.Sections.{word_inside, ends_inside, kept_none, kept_both, laid_kept, laid_less}
-use Rattle.graph_tables.specs.Tables.{header_in}
-use Rattle.graph.specs.Check.{graph_in}
-use Rattle.graph.specs.Loaded.{Loaded}
-use Rattle.graph.proofs.Kept.{loaded_kept}
-use Rattle.graph_access.specs.Names.{owner as ownerIn, common_js_namespaces}
+use Rattle.graph_access.specs.tables_crate.Layout.{sizes, start_of, Laid, Kept, namespaces_in, at_namespaces, all_sections}
+use Rattle.graph_access.proofs.tables_crate.Sections.{word_inside, ends_inside, kept_none, kept_both, laid_kept, laid_less}
+use Rattle.graph_access.specs.graph_tables_crate.Tables.{header_in}
+use Rattle.graph_access.specs.graph_crate.Check.{graph_in}
+use Rattle.graph_access.specs.graph_crate.Loaded.{Loaded}
+use Rattle.graph_access.proofs.graph_crate.Kept.{loaded_kept}
+use Rattle.graph_access.specs.Names.{owner as owner_in, common_js_namespaces}
 use Rattle.graph_access.specs.Words.{module_of, symbol_of}
 use Rattle.linking_metadata.specs.Tabled.{entered}
 use Rattle.linking_metadata.proofs.Entering.{by_rows, by_end, Turn, turn_own, turn_other}
@@ -17,7 +17,7 @@ use Rattle.linking_metadata.proofs.enter_namespaces.Statement.{statement}
 use Rattle.linking_metadata.proofs.enter_namespaces.Tie as tie
 
 abbrev invariant-loop : tie.invariant-loop
-invariant-loop numbers tables₀ m base count k₀ tables k = Kept (start_of (header_in numbers) at_namespaces) tables₀ tables × (k ≤ count) × ((s : ℕ) → s < (header_in numbers).symbols → by_rows (ownerIn (symbol_of (graph_in numbers) s)) m.0 s (drop k (common_js_namespaces (module_of (graph_in numbers) m.0))) (get_or (namespaces_in tables) s 0) ≡ entered (graph_in numbers) m.0 s (get_or (namespaces_in tables₀) s 0))
+invariant-loop numbers tables₀ m base count k₀ tables k = Kept (start_of (header_in numbers) at_namespaces) tables₀ tables × (k ≤ count) × ((s : ℕ) → s < (header_in numbers).symbols → by_rows (owner_in (symbol_of (graph_in numbers) s)) m.0 s (drop k (common_js_namespaces (module_of (graph_in numbers) m.0))) (get_or (namespaces_in tables) s 0) ≡ entered (graph_in numbers) m.0 s (get_or (namespaces_in tables₀) s 0))
 
 abbrev decreases-loop : tie.decreases-loop
 decreases-loop numbers tables₀ m base count k₀ tables k = count - k
@@ -38,7 +38,7 @@ fits : (c : tie.After-commonjs-namespace-symbol invariant-loop decreases-loop) �
 unfolding sizes
 fits c = omega (arith, c.before.before.before.before.before.before.before.before.before.requires.1.0.starts 8 (omega arith), ends_inside (laid c.before.before) 8 (omega arith), c.commonjs-namespace-symbol.ensures.1)
 
-turned : (c : tie.Joined1 invariant-loop decreases-loop) → Turn (λ s. ownerIn (symbol_of (graph_in c.before.before.before.before.before.before.before.before.before.before.before.before.before.before.args.numbers.now) s)) c.before.before.before.before.before.before.before.before.before.before.before.before.before.before.args.m.0 (common_js_namespaces (module_of (graph_in c.before.before.before.before.before.before.before.before.before.before.before.before.before.before.args.numbers.now) c.before.before.before.before.before.before.before.before.before.before.before.before.before.before.args.m.0)) c.before.before.before.before.before.before.before.before.loop.k (header_in c.before.before.before.before.before.before.before.before.before.before.before.before.before.before.args.numbers.now) c.before.before.before.before.before.before.before.before.loop.tables c.if1.tables
+turned : (c : tie.Joined1 invariant-loop decreases-loop) → Turn (λ s. owner_in (symbol_of (graph_in c.before.before.before.before.before.before.before.before.before.before.before.before.before.before.args.numbers.now) s)) c.before.before.before.before.before.before.before.before.before.before.before.before.before.before.args.m.0 (common_js_namespaces (module_of (graph_in c.before.before.before.before.before.before.before.before.before.before.before.before.before.before.args.numbers.now) c.before.before.before.before.before.before.before.before.before.before.before.before.before.before.args.m.0)) c.before.before.before.before.before.before.before.before.loop.k (header_in c.before.before.before.before.before.before.before.before.before.before.before.before.before.before.args.numbers.now) c.before.before.before.before.before.before.before.before.loop.tables c.if1.tables
 turned c =
     let o = c.before.before.before.owner.ensures.0 in
     let y = c.before.before.before.before.before.commonjs-namespace-symbol.ensures in

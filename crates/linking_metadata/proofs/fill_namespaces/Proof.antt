@@ -2,11 +2,11 @@ use Prim.Native.Nat.{ℕ, ◌-◌, ◌<◌, ◌≤◌}
 use mathlib.Core.Path.{◌≡◌, ap}
 use native.Mathlib.Omega.{arith}
 use lib.ListN.{get_or}
-use Rattle.tables.specs.Layout.{sizes, start_of, Laid, Kept, namespaces_in, at_namespaces, all_sections}
-use Rattle.tables.proofs.Sections.{inside, section-length, start_low, kept_none, kept_both, kept_less, laid_kept, laid_less}
-use Rattle.graph_tables.specs.Tables.{header_in}
-use Rattle.graph.specs.Check.{graph_in}
-use Rattle.graph.proofs.Kept.{loaded_kept}
+use Rattle.graph_access.specs.tables_crate.Layout.{sizes, start_of, Laid, Kept, namespaces_in, at_namespaces, all_sections}
+use Rattle.graph_access.proofs.tables_crate.Sections.{inside, section-length, start_low, kept_none, kept_both, kept_less, laid_kept, laid_less}
+use Rattle.graph_access.specs.graph_tables_crate.Tables.{header_in}
+use Rattle.graph_access.specs.graph_crate.Check.{graph_in}
+use Rattle.graph_access.proofs.graph_crate.Kept.{loaded_kept}
 use Rattle.graph_access.proofs.Indexes.{owner_below}
 use Rattle.linking_metadata.proofs.FillingUp.{UpTo, up_start, up_step}
 use Rattle.linking_metadata.proofs.fill_namespaces.Statement.{statement}

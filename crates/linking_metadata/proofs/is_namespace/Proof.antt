@@ -2,7 +2,7 @@ use Prim.Native.Nat.{◌+◌}
 use mathlib.Core.Path.{ap, ◌∙◌}
 use native.Mathlib.Omega.{arith}
 use lib.Dec.{eqb}
-use Rattle.graph.specs.Check.{graph_in}
+use Rattle.graph_access.specs.graph_crate.Check.{graph_in}
 use Rattle.graph_access.specs.Names.{namespace}
 use Rattle.graph_access.specs.Words.{module_of}
 use Rattle.linking_metadata.specs.Namespaces.{is_namespace}

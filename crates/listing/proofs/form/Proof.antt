@@ -1,6 +1,6 @@
 use mathlib.Core.Path.{ap, ◌∙◌}
 use native.Mathlib.Omega.{arith}
-use Rattle.graph_format.specs.declared.Header.{Header}
+use Rattle.graph_access.specs.graph_format_crate.declared.Header.{Header}
 use Rattle.listing.proofs.Pieces.{emits_both, emits_as, emits_all}
 use Rattle.listing.proofs.Whole.{modules_fit, statements_fit, symbols-fit, dead_fit, entries-few, entries_are, listing_is}
 use borrow.Author.Rules.{rules}

@@ -2,7 +2,7 @@ use Prim.Native.Nat.{◌+◌, ◌-◌, ◌*◌, ◌≤◌}
 use native.Mathlib.Omega.{arith}
 use mathlib.Core.Path.{◌≡◌, refl}
 use lib.ListN.{length}
-use Rattle.graph.specs.Check.{graph_in}
+use Rattle.graph_access.specs.graph_crate.Check.{graph_in}
 use Rattle.graph_access.specs.Names.{import_records}
 use Rattle.graph_access.specs.Words.{module_of}
 use Rattle.dynamic_entries.specs.Alive.{records_before}

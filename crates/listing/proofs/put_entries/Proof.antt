@@ -1,5 +1,5 @@
 use Prim.Native.Nat.{◌+◌, ◌-◌, ◌*◌, ◌≤◌}
-use Rattle.graph.specs.Check.{graph_in}
+use Rattle.graph_access.specs.graph_crate.Check.{graph_in}
 use native.Mathlib.Omega.{arith}
 use Rattle.listing.specs.Listing.{entry_text}
 use Rattle.listing.specs.Parts.{of_entries}

@@ -1,6 +1,6 @@
 use Prim.Native.Nat.{◌+◌, ◌-◌, ◌*◌, ◌≤◌}
 use native.Mathlib.Omega.{arith}
-use Rattle.graph.specs.Check.{graph_in}
+use Rattle.graph_access.specs.graph_crate.Check.{graph_in}
 use Rattle.listing.specs.Text.{text_of}
 use Rattle.listing.specs.Listing.{json_text}
 use Rattle.listing.specs.Parts.{of_json}

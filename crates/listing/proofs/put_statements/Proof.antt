@@ -3,7 +3,7 @@ use native.Mathlib.Omega.{arith}
 use mathlib.Core.Path.{◌≡◌, refl}
 use lib.ListN.{length}
 use Rattle.bit_row.proofs.Size.{bytes_at_most}
-use Rattle.graph.specs.Check.{graph_in}
+use Rattle.graph_access.specs.graph_crate.Check.{graph_in}
 use Rattle.graph_access.specs.Words.{statement_list}
 use Rattle.answer_rows.specs.Shown.{bytes_before}
 use Rattle.listing.specs.Text.{text_of}

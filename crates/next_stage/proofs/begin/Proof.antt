@@ -2,9 +2,9 @@ use Prim.Native.Nat.{ℕ, ◌*◌, ◌<◌}
 use mathlib.Core.Path.{◌≡◌, ap, ◌∙◌}
 use mathlib.Core.List.{List}
 use native.Mathlib.Omega.{arith}
-use Rattle.graph_format.specs.declared.Header.{Header}
-use Rattle.graph_tables.specs.Tables.{header_in}
-use Rattle.graph.specs.Loaded.{Loaded}
+use Rattle.facts.specs.graph_format_crate.declared.Header.{Header}
+use Rattle.facts.specs.graph_tables_crate.Tables.{header_in}
+use Rattle.facts.specs.graph_crate.Loaded.{Loaded}
 use Rattle.keep_record.proofs.Rows.{lines-length}
 use Rattle.worklist.specs.Links.{partners_size}
 use Rattle.next_stage.proofs.Forgetting.{modules_are, stage_linked}

@@ -1,5 +1,5 @@
 use Prim.Native.Nat.{◌-◌, ◌<◌}
-use Rattle.graph.specs.Check.{graph_in}
+use Rattle.facts.specs.graph_crate.Check.{graph_in}
 use Rattle.next_stage.proofs.Staying.{Marking, marking_none, marking-set, marking-passed, line_good, marking_done, stage_held}
 use borrow.Author.Rules.{rules}
 use mathlib.Core.Logic.{⊎_elim}

@@ -5,14 +5,14 @@ use mathlib.Core.List.{List}
 use native.Mathlib.Omega.{arith}
 use borrow.Author.Tests.{not_true, not-false}
 use lib.ListN.{length, get_or}
-use Rattle.graph_format.specs.declared.Header.{Header}
-use Rattle.tables.specs.Layout.{sizes, start_of, Laid, Kept, bodies_in, at_bodies, all_sections}
-use Rattle.tables.proofs.Sections.{start_low, inside, section-length, kept_none, kept_both, kept_less, laid_kept, laid_less}
-use Rattle.graph_tables.specs.Tables.{header_in}
-use Rattle.graph.specs.Check.{graph_in}
-use Rattle.graph.specs.Loaded.{Loaded}
-use Rattle.graph.proofs.Kept.{loaded_kept}
-use Rattle.graph_access.specs.Words.{flag as flagOf, option}
+use Rattle.determine_side_effects.specs.graph_format_crate.declared.Header.{Header}
+use Rattle.determine_side_effects.specs.tables_crate.Layout.{sizes, start_of, Laid, Kept, bodies_in, at_bodies, all_sections}
+use Rattle.determine_side_effects.proofs.tables_crate.Sections.{start_low, inside, section-length, kept_none, kept_both, kept_less, laid_kept, laid_less}
+use Rattle.determine_side_effects.specs.graph_tables_crate.Tables.{header_in}
+use Rattle.determine_side_effects.specs.graph_crate.Check.{graph_in}
+use Rattle.determine_side_effects.specs.graph_crate.Loaded.{Loaded}
+use Rattle.determine_side_effects.proofs.graph_crate.Kept.{loaded_kept}
+use Rattle.determine_side_effects.specs.graph_access_crate.Words.{flag as flag_of, option}
 use Rattle.determine_side_effects.specs.Effects.{last_verdicts}
 use Rattle.on_demand.specs.Demand.{claimed}
 use Rattle.on_demand.proofs.Deciding.{body_normal}
@@ -76,7 +76,7 @@ same_length c = (cleared c.before.before.before.before).same_length
 returns : tie.Need-returns invariant-loop decreases-loop
 unfolding option graph_in
 returns c =
-    let o = ap (λ h. flagOf 0 h.options) (sym c.before.before.before.before.before.before.header_of.ensures) ∙ sym c.before.flag.ensures ∙ not_true _ c.if1.true in
+    let o = ap (λ h. flag_of 0 h.options) (sym c.before.before.before.before.before.before.header_of.ensures) ∙ sym c.before.flag.ensures ∙ not_true _ c.if1.true in
     (record { long = long c.before.before.before.before.before.before.before.before.before.requires.1.laid (cleared c.before.before.before.before); has = λ s l. body_none _ _ s _ o (c.before.before.before.before.clear.ensures.1 s) }, cleared c.before.before.before.before)
 
 loop-holds : tie.Need-loop-init invariant-loop decreases-loop
@@ -108,7 +108,7 @@ unfolding option graph_in
 returns-2 c =
     let s = c.before.before.before.before.before.before.before.before.before.before.before.before in
     let i = c.before.before.loop.invariant in
-    let o = ap (λ h. flagOf 0 h.options) (sym c.before.before.before.before.before.before.before.before.before.header_of.ensures) ∙ sym c.before.before.before.before.flag.ensures ∙ not-false _ c.before.before.before.if1.false in
+    let o = ap (λ h. flag_of 0 h.options) (sym c.before.before.before.before.before.before.before.before.before.header_of.ensures) ∙ sym c.before.before.before.before.flag.ensures ∙ not-false _ c.before.before.before.if1.false in
     let z : c.before.before.loop.m ≡ (header_in s.args.numbers.now).modules = omega (arith, i.1, c.if2.false, counted c.before) in
     let g = graph_in s.args.numbers.now in
     (record { long = long s.requires.1.laid (kept c.before.before); has = λ y l. body_all _ _ y _ o (i.2 y l ∙ ap (claimed g (last_verdicts g) y) z) }, kept c.before.before)

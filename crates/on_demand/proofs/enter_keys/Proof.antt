@@ -3,16 +3,16 @@ use mathlib.Core.Path.{◌≡◌, refl, ap, ◌∙◌, sym}
 use mathlib.Core.List.{[]}
 use native.Mathlib.Omega.{arith}
 use lib.ListN.{length, get_or, drop}
-use Rattle.tables.specs.Layout.{sizes, start_of, Kept, bodies_in, at_bodies}
-use Rattle.tables.proofs.Sections.{word_inside, ends_inside, section-length, kept_none, laid_kept, laid_less}
-use Rattle.graph_tables.specs.Tables.{header_in}
-use Rattle.graph.specs.Check.{graph_in}
-use Rattle.graph.specs.Loaded.{Loaded}
-use Rattle.graph.proofs.Kept.{loaded_kept}
-use Rattle.graph_access.specs.Names.{own_exports, only}
-use Rattle.graph_access.specs.Words.{module_of, root_of}
-use Rattle.graph_access.proofs.Indexes.{namespace_of_normal}
-use Rattle.facts.proofs.Folds.{by_some, by_some_end}
+use Rattle.determine_side_effects.specs.tables_crate.Layout.{sizes, start_of, Kept, bodies_in, at_bodies}
+use Rattle.determine_side_effects.proofs.tables_crate.Sections.{word_inside, ends_inside, section-length, kept_none, laid_kept, laid_less}
+use Rattle.determine_side_effects.specs.graph_tables_crate.Tables.{header_in}
+use Rattle.determine_side_effects.specs.graph_crate.Check.{graph_in}
+use Rattle.determine_side_effects.specs.graph_crate.Loaded.{Loaded}
+use Rattle.determine_side_effects.proofs.graph_crate.Kept.{loaded_kept}
+use Rattle.determine_side_effects.specs.graph_access_crate.Names.{own_exports, only}
+use Rattle.determine_side_effects.specs.graph_access_crate.Words.{module_of, root_of}
+use Rattle.determine_side_effects.proofs.graph_access_crate.Indexes.{namespace_of_normal}
+use Rattle.determine_side_effects.proofs.facts_crate.Folds.{by_some, by_some_end}
 use Rattle.determine_side_effects.proofs.InSection.{kept_written, section_written}
 use Rattle.on_demand.proofs.Entering.{rooted, key_step, key_last}
 use Rattle.on_demand.proofs.enter_keys.Statement.{statement}

@@ -2,12 +2,12 @@ use Prim.Native.Nat.{ℕ, ◌+◌, ◌-◌, ◌<◌, ◌≤◌}
 use mathlib.Core.Path.{◌≡◌, ap, ◌∙◌}
 use native.Mathlib.Omega.{arith}
 use lib.ListN.{length, get_or}
-use Rattle.tables.specs.Layout.{sizes, start_of, Laid, Kept, on_demand_in, at_on_demand, all_sections}
-use Rattle.tables.proofs.Sections.{word_inside, section-length, kept_none, kept_both, laid_kept, laid_less}
-use Rattle.graph_tables.specs.Tables.{header_in}
-use Rattle.graph.specs.Check.{graph_in}
-use Rattle.graph.specs.Loaded.{Loaded}
-use Rattle.graph.proofs.Kept.{loaded_kept}
+use Rattle.determine_side_effects.specs.tables_crate.Layout.{sizes, start_of, Laid, Kept, on_demand_in, at_on_demand, all_sections}
+use Rattle.determine_side_effects.proofs.tables_crate.Sections.{word_inside, section-length, kept_none, kept_both, laid_kept, laid_less}
+use Rattle.determine_side_effects.specs.graph_tables_crate.Tables.{header_in}
+use Rattle.determine_side_effects.specs.graph_crate.Check.{graph_in}
+use Rattle.determine_side_effects.specs.graph_crate.Loaded.{Loaded}
+use Rattle.determine_side_effects.proofs.graph_crate.Kept.{loaded_kept}
 use Rattle.determine_side_effects.specs.Effects.{last_verdicts}
 use Rattle.determine_side_effects.specs.Tabled.{Settled}
 use Rattle.determine_side_effects.proofs.InSection.{word_fits, word_read, kept_written, section_written, settled_kept}

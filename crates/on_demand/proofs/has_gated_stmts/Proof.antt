@@ -1,9 +1,9 @@
 use Prim.Native.Nat.{◌-◌, ◌≤◌}
 use mathlib.Core.Path.{◌≡◌, ap, ◌∙◌, sym}
 use native.Mathlib.Omega.{arith}
-use Rattle.graph.specs.Check.{graph_in}
-use Rattle.graph_access.specs.Words.{some, tabulate}
-use Rattle.facts.proofs.Folds.{some-tabulate-here, some_tabulate_next, some-tabulate-none}
+use Rattle.determine_side_effects.specs.graph_crate.Check.{graph_in}
+use Rattle.determine_side_effects.specs.graph_access_crate.Words.{some, tabulate}
+use Rattle.determine_side_effects.proofs.facts_crate.Folds.{some-tabulate-here, some_tabulate_next, some-tabulate-none}
 use Rattle.on_demand.specs.Demand.{gated, has_gated}
 use Rattle.on_demand.proofs.has_gated_stmts.Statement.{statement}
 use Rattle.on_demand.proofs.has_gated_stmts.Tie as tie

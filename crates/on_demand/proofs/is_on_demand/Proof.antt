@@ -2,9 +2,9 @@ use mathlib.Core.Path.{ap, ◌∙◌}
 use native.Mathlib.Omega.{arith}
 use lib.Dec.{eqb}
 use lib.ListN.{length, get_or}
-use Rattle.tables.specs.Layout.{sizes}
-use Rattle.tables.proofs.Sections.{inside, kept_none}
-use Rattle.graph.specs.Check.{graph_in}
+use Rattle.determine_side_effects.specs.tables_crate.Layout.{sizes}
+use Rattle.determine_side_effects.proofs.tables_crate.Sections.{inside, kept_none}
+use Rattle.determine_side_effects.specs.graph_crate.Check.{graph_in}
 use Rattle.determine_side_effects.proofs.InSection.{word_fits}
 use Rattle.on_demand.proofs.Deciding.{one_is}
 use Rattle.on_demand.proofs.is_on_demand.Statement.{statement}

@@ -3,15 +3,15 @@ use mathlib.Core.Path.{◌≡◌, ap, ◌∙◌, sym}
 use mathlib.Core.Logic.{⊎_elim}
 use native.Mathlib.Omega.{arith}
 use lib.ListN.{length, get_or, drop}
-use Rattle.rows.specs.Walk.{no_item}
-use Rattle.tables.specs.Layout.{sizes, start_of, Laid, Kept, on_demand_in, at_on_demand, all_sections}
-use Rattle.tables.proofs.Sections.{start_low, inside, word_inside, kept_none, kept_both, kept_less, laid_kept, laid_less}
-use Rattle.graph_tables.specs.Tables.{header_in}
-use Rattle.graph.specs.Check.{graph_in}
-use Rattle.graph.specs.Loaded.{Loaded}
-use Rattle.graph.proofs.Kept.{loaded_kept}
-use Rattle.graph_access.specs.Words.{entry_of}
-use Rattle.facts.proofs.Folds.{by_some, by_some_end}
+use Rattle.determine_side_effects.specs.rows_crate.Walk.{no_item}
+use Rattle.determine_side_effects.specs.tables_crate.Layout.{sizes, start_of, Laid, Kept, on_demand_in, at_on_demand, all_sections}
+use Rattle.determine_side_effects.proofs.tables_crate.Sections.{start_low, inside, word_inside, kept_none, kept_both, kept_less, laid_kept, laid_less}
+use Rattle.determine_side_effects.specs.graph_tables_crate.Tables.{header_in}
+use Rattle.determine_side_effects.specs.graph_crate.Check.{graph_in}
+use Rattle.determine_side_effects.specs.graph_crate.Loaded.{Loaded}
+use Rattle.determine_side_effects.proofs.graph_crate.Kept.{loaded_kept}
+use Rattle.determine_side_effects.specs.graph_access_crate.Words.{entry_of}
+use Rattle.determine_side_effects.proofs.facts_crate.Folds.{by_some, by_some_end}
 use Rattle.determine_side_effects.proofs.InSection.{word_fits}
 use Rattle.on_demand.specs.Demand.{user_entry}
 use Rattle.on_demand.specs.Tabled.{one}

@@ -1,6 +1,6 @@
 use Rattle.own_starts.proofs.Noting.{notes_then, noted_on}
 use Rattle.tree_shaking.specs.Own.{starts_by_kind}
-use Rattle.graph.specs.Check.{graph_in}
+use Rattle.facts.specs.graph_crate.Check.{graph_in}
 use borrow.Author.Rules.{rules}
 use Rattle.own_starts.proofs.note_all.Statement.{statement}
 use Rattle.own_starts.proofs.note_all.Tie as tie

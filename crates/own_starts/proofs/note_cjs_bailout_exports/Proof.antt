@@ -2,7 +2,7 @@ use Rattle.own_starts.proofs.Noting.{Along, along_start, along_step, along_as, a
 use Rattle.own_starts.proofs.Bailing.{bailouts_over, bailouts-other, bailouts-here, bailout_below}
 use Rattle.passes.specs.Bailouts.{bailouts_starts}
 use Rattle.keep_record.specs.Held.{lines_of}
-use Rattle.graph.specs.Check.{graph_in}
+use Rattle.facts.specs.graph_crate.Check.{graph_in}
 use lib.ListN.{length, drop}
 use Prim.Native.Nat.{◌-◌, ◌≤◌}
 use mathlib.Core.Logic.{⊎_elim}

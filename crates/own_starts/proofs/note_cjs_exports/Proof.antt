@@ -1,9 +1,9 @@
 use Rattle.own_starts.proofs.Noting.{Along, along_start, along_step, along_as, along_same, along_done}
 use Rattle.own_starts.proofs.Bailing.{exports_over, exports-here, exports-other}
 use Rattle.passes.specs.Bailouts.{export_starts}
-use Rattle.graph_access.specs.Names.{resolved_exports}
-use Rattle.graph_access.specs.Words.{module_of}
-use Rattle.graph.specs.Check.{graph_in}
+use Rattle.facts.specs.graph_access_crate.Names.{resolved_exports}
+use Rattle.facts.specs.graph_access_crate.Words.{module_of}
+use Rattle.facts.specs.graph_crate.Check.{graph_in}
 use lib.ListN.{length, drop}
 use Prim.Native.Nat.{◌-◌, ◌≤◌}
 use mathlib.Core.Logic.{⊎_elim}

@@ -1,7 +1,7 @@
 use Rattle.own_starts.proofs.Noting.{Along, along_start, along_step, along_done}
 use Rattle.entry_starts.proofs.Declaring.{declared_from, declared_whole, declared_over, declared-next, declared_good}
 use Rattle.entry_starts.specs.Starts.{declared}
-use Rattle.graph.specs.Check.{graph_in}
+use Rattle.facts.specs.graph_crate.Check.{graph_in}
 use lib.ListN.{length}
 use Prim.Native.Nat.{◌-◌, ◌≤◌}
 use mathlib.Core.Path.{◌≡◌, refl, ◌∙◌}

@@ -1,7 +1,7 @@
 use Rattle.own_starts.proofs.Noting.{Along, along_start, along_step, along_last, notes_none}
 use Rattle.entry_starts.proofs.Referring.{module_none, referred_from, referred_whole, referred_over, referred_next}
 use Rattle.entry_starts.specs.Starts.{module_starts}
-use Rattle.graph.specs.Check.{graph_in}
+use Rattle.facts.specs.graph_crate.Check.{graph_in}
 use borrow.Author.Tests.{not_true, not-false}
 use lib.ListN.{length}
 use Prim.Native.Nat.{◌-◌, ◌≤◌}

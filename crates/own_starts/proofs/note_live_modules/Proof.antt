@@ -2,8 +2,8 @@ use Rattle.own_starts.proofs.Noting.{Along, along_start, along_step, along_as, a
 use Rattle.own_starts.proofs.Live.{lives_from, lives_all, lives-over, lives-here, lives-other, modules_same, entries_same}
 use Rattle.tree_shaking.specs.Own.{live_starts}
 use Rattle.entry_order.specs.Plan.{live_in}
-use Rattle.graph_tables.specs.Tables.{header_in}
-use Rattle.graph.specs.Check.{graph_in}
+use Rattle.facts.specs.graph_tables_crate.Tables.{header_in}
+use Rattle.facts.specs.graph_crate.Check.{graph_in}
 use Prim.Native.Nat.{◌-◌, ◌≤◌}
 use mathlib.Core.Logic.{⊎_elim}
 use mathlib.Core.Path.{◌≡◌, refl, ap, ◌∙◌}

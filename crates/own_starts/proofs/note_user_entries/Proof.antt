@@ -1,7 +1,7 @@
 use Rattle.tree_shaking.proofs.Users.{users_from, users_all, users_next, users_over, user_inside}
 use Rattle.own_starts.proofs.Noting.{Along, along_start, along_step, along_done}
 use Rattle.tree_shaking.specs.Rounds.{users_starts}
-use Rattle.graph.specs.Check.{graph_in}
+use Rattle.facts.specs.graph_crate.Check.{graph_in}
 use Rattle.entry_order.specs.Order.{module_of_entry, user_entries}
 use Prim.Native.Nat.{◌-◌, ◌<◌, ◌≤◌}
 use mathlib.Core.Path.{◌≡◌, refl, ◌∙◌}

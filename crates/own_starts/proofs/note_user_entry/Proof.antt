@@ -1,6 +1,6 @@
 use Rattle.own_starts.proofs.Noting.{notes_none, notes_then, notes_as, noted_on}
 use Rattle.entry_starts.proofs.Referring.{user_none, user_is}
-use Rattle.graph.specs.Check.{graph_in}
+use Rattle.facts.specs.graph_crate.Check.{graph_in}
 use borrow.Author.Tests.{not_true, not-false}
 use mathlib.Core.Path.{◌∙◌, sym}
 use borrow.Author.Rules.{rules}

@@ -3,9 +3,9 @@ use Rattle.passes.proofs.Words.{few_bits, word_room, word_set, word_kept, word_d
 use Rattle.passes.proofs.Accepted.{helpers_few}
 use Rattle.passes.specs.Helpers.{word_of}
 use Rattle.marked.specs.Marked.{marked}
-use Rattle.graph_format.specs.declared.Header.{Header}
-use Rattle.graph_tables.specs.Tables.{header_in}
-use Rattle.graph.specs.Check.{graph_in}
+use Rattle.determine_side_effects.specs.graph_format_crate.declared.Header.{Header}
+use Rattle.determine_side_effects.specs.graph_tables_crate.Tables.{header_in}
+use Rattle.determine_side_effects.specs.graph_crate.Check.{graph_in}
 use Prim.Native.Nat.{◌-◌, ◌≤◌}
 use mathlib.Core.Logic.{⊎_elim}
 use mathlib.Core.Path.{◌≡◌, refl, ap, ◌∙◌, sym}

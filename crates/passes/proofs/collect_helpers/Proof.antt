@@ -3,9 +3,9 @@ use Rattle.passes.proofs.Planning.{Planned, planned_start, planned-step}
 use Rattle.passes.specs.Helpers.{helper_word}
 use Rattle.marked.specs.Marked.{marked}
 use Rattle.entry_order.specs.Plan.{words_at, plan_size}
-use Rattle.graph_format.specs.declared.Header.{Header}
-use Rattle.graph_tables.specs.Tables.{header_in}
-use Rattle.graph.specs.Check.{graph_in}
+use Rattle.determine_side_effects.specs.graph_format_crate.declared.Header.{Header}
+use Rattle.determine_side_effects.specs.graph_tables_crate.Tables.{header_in}
+use Rattle.determine_side_effects.specs.graph_crate.Check.{graph_in}
 use Prim.Native.Nat.{◌-◌, ◌≤◌}
 use mathlib.Core.Path.{◌≡◌, ap, ◌∙◌}
 use borrow.Author.Rules.{rules}

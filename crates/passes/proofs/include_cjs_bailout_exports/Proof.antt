@@ -3,7 +3,7 @@ use Rattle.passes.specs.Bailouts.{bailouts_starts}
 use Rattle.determine_side_effects.specs.Effects.{last_verdicts}
 use Rattle.worklist.specs.Drain.{drained_all}
 use Rattle.keep_record.specs.Held.{lines_of}
-use Rattle.graph.specs.Check.{graph_in}
+use Rattle.determine_side_effects.specs.graph_crate.Check.{graph_in}
 use lib.ListN.{length, drop}
 use Prim.Native.Nat.{◌-◌, ◌≤◌}
 use mathlib.Core.Logic.{⊎_elim}

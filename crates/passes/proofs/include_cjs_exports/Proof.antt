@@ -5,9 +5,9 @@ use Rattle.entry_starts.proofs.Together.{Along}
 use Rattle.determine_side_effects.specs.Effects.{last_verdicts}
 use Rattle.worklist.specs.Drain.{drained_all}
 use Rattle.keep_record.specs.Held.{lines_of}
-use Rattle.graph_access.specs.Names.{resolved_exports}
-use Rattle.graph_access.specs.Words.{module_of}
-use Rattle.graph.specs.Check.{graph_in}
+use Rattle.determine_side_effects.specs.graph_access_crate.Names.{resolved_exports}
+use Rattle.determine_side_effects.specs.graph_access_crate.Words.{module_of}
+use Rattle.determine_side_effects.specs.graph_crate.Check.{graph_in}
 use lib.ListN.{length, drop}
 use Prim.Native.Nat.{◌-◌, ◌≤◌}
 use mathlib.Core.Logic.{⊎_elim}

@@ -5,9 +5,9 @@ use Rattle.entry_starts.proofs.Together.{Along}
 use Rattle.determine_side_effects.specs.Effects.{last_verdicts}
 use Rattle.worklist.specs.Drain.{drained_all}
 use Rattle.keep_record.specs.Held.{lines_of}
-use Rattle.graph_format.specs.declared.Header.{Header}
-use Rattle.graph_tables.specs.Tables.{header_in}
-use Rattle.graph.specs.Check.{graph_in}
+use Rattle.determine_side_effects.specs.graph_format_crate.declared.Header.{Header}
+use Rattle.determine_side_effects.specs.graph_tables_crate.Tables.{header_in}
+use Rattle.determine_side_effects.specs.graph_crate.Check.{graph_in}
 use lib.ListN.{length}
 use Prim.Native.Nat.{◌-◌, ◌≤◌}
 use mathlib.Core.Logic.{⊎_elim}

@@ -1,7 +1,7 @@
 use Rattle.passes.proofs.Using.{runtime_helpers, runtime_none, runtime-itself, no_word}
 use Rattle.passes.proofs.Accepted.{runtime_good}
 use Rattle.entry_starts.proofs.Referring.{started_nothing, started_as}
-use Rattle.graph.specs.Check.{graph_in}
+use Rattle.determine_side_effects.specs.graph_crate.Check.{graph_in}
 use borrow.Author.Tests.{not_true, not-false}
 use native.Mathlib.Omega.{arith}
 use borrow.Author.Rules.{rules}

@@ -2,11 +2,11 @@ use Rattle.passes.proofs.Helping.{module_marked, module_needs, uniting_start, un
 use Rattle.passes.specs.Helpers.{helper_word}
 use Rattle.marked.specs.Marked.{marked}
 use Rattle.entry_order.specs.Plan.{words_at}
-use Rattle.facts.specs.Facts.{module_fact, mark_count}
-use Rattle.graph_access.specs.Words.{flag, some, tabulate}
-use Rattle.graph_format.specs.declared.Header.{Header}
-use Rattle.graph_tables.specs.Tables.{header_in}
-use Rattle.graph.specs.Check.{graph_in}
+use Rattle.determine_side_effects.specs.facts_crate.Facts.{module_fact, mark_count}
+use Rattle.determine_side_effects.specs.graph_access_crate.Words.{flag, some, tabulate}
+use Rattle.determine_side_effects.specs.graph_format_crate.declared.Header.{Header}
+use Rattle.determine_side_effects.specs.graph_tables_crate.Tables.{header_in}
+use Rattle.determine_side_effects.specs.graph_crate.Check.{graph_in}
 use Prim.Native.Nat.{◌-◌, ◌≤◌}
 use mathlib.Core.Bool.{◌&&◌}
 use mathlib.Core.Logic.{⊎_elim}

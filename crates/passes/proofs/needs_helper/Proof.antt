@@ -1,9 +1,9 @@
 use Rattle.passes.proofs.Helping.{row_needs, needing_start, needing-all, needing-kept, needing-not, needing-other, needing-over}
 use Rattle.passes.specs.Helpers.{needs_helper}
 use Rattle.marked.specs.Marked.{marked}
-use Rattle.graph_access.specs.Names.{module_helpers}
-use Rattle.graph_access.specs.Words.{some, module_of}
-use Rattle.graph.specs.Check.{graph_in}
+use Rattle.determine_side_effects.specs.graph_access_crate.Names.{module_helpers}
+use Rattle.determine_side_effects.specs.graph_access_crate.Words.{some, module_of}
+use Rattle.determine_side_effects.specs.graph_crate.Check.{graph_in}
 use lib.ListN.{drop}
 use Prim.Native.Nat.{◌-◌, ◌≤◌}
 use mathlib.Core.Logic.{⊎_elim}

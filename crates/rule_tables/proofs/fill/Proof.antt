@@ -1,5 +1,5 @@
 use native.Mathlib.Omega.{arith}
-use Rattle.tables.proofs.Sections.{laid_less}
+use Rattle.determine_side_effects.proofs.tables_crate.Sections.{laid_less}
 use Rattle.rule_tables.proofs.Filling.{Filled, filled_none, filled_verdicts, filled_demands, filled_keys, filled_namespaces, filled_all}
 use borrow.Author.Rules.{rules}
 use Rattle.rule_tables.proofs.fill.Statement.{statement}

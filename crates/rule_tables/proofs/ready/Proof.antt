@@ -1,5 +1,5 @@
 use mathlib.Core.Path.{◌∙◌, sym}
-use Rattle.graph.proofs.Checking.{once_refused}
+use Rattle.determine_side_effects.proofs.graph_crate.Checking.{once_refused}
 use Rattle.rule_tables.proofs.Readying.{places_fit, all_laid}
 use borrow.Author.Rules.{rules}
 use Rattle.rule_tables.proofs.ready.Statement.{statement}

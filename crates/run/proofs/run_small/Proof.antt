@@ -1,7 +1,7 @@
 use mathlib.Core.Path.{refl}
 use native.Mathlib.Omega.{arith}
-use Rattle.tables.specs.declared.Size.TheVariants.{Small}
-use Rattle.tables.proofs.Zeros.{tables_long}
+use Rattle.graph.specs.tables_crate.declared.Size.TheVariants.{Small}
+use Rattle.graph.proofs.tables_crate.Zeros.{tables_long}
 use Rattle.run_parts.proofs.Tiers.{partners_long, plan_long}
 use Rattle.run.proofs.run_small.Statement.{statement}
 use Rattle.run.proofs.run_small.Tie as tie

@@ -1,7 +1,7 @@
 use mathlib.Core.Path.{ap}
 use native.Mathlib.Omega.{arith}
 use borrow.Author.Tests.{not_true, not-false}
-use Rattle.graph.specs.Check.{graph_in}
+use Rattle.determine_side_effects.specs.graph_crate.Check.{graph_in}
 use Rattle.rule_tables.proofs.Readying.{few_marks}
 use Rattle.run_parts.proofs.Readying.{marks_short, rows_short, dead-short, helpers-short, entries-left}
 use Rattle.run_parts.proofs.are_enough.Statement.{statement}

@@ -1,5 +1,5 @@
 use mathlib.Core.Path.{◌∙◌}
-use Rattle.graph.specs.Check.{graph_in}
+use Rattle.determine_side_effects.specs.graph_crate.Check.{graph_in}
 use Rattle.run_parts.specs.Operation.{rows}
 use Rattle.run_parts.proofs.Showing.{still_fits, shows_held}
 use Rattle.run_parts.proofs.Ending.{partners_fit, scratch_fits, plan_fits}

@@ -1,4 +1,4 @@
-use Rattle.graph.specs.Check.{graph_in}
+use Rattle.determine_side_effects.specs.graph_crate.Check.{graph_in}
 use Rattle.run_parts.proofs.Showing.{still_fits, after_stages, run-shown}
 use borrow.Author.Rules.{rules}
 use Rattle.run_parts.proofs.show_run.Statement.{statement}

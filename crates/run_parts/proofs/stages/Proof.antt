@@ -1,6 +1,6 @@
 use Rattle.run_parts.proofs.Staging.{main_short, main-done, stage-short, stages-done, stages_of}
 use mathlib.Core.Path.{◌∙◌}
-use Rattle.graph.specs.Check.{graph_in}
+use Rattle.determine_side_effects.specs.graph_crate.Check.{graph_in}
 use borrow.Author.Rules.{rules}
 use Rattle.run_parts.proofs.stages.Statement.{statement}
 use Rattle.run_parts.proofs.stages.Tie as tie

@@ -1,5 +1,5 @@
 use mathlib.Core.Path.{◌∙◌}
-use Rattle.graph.specs.Check.{graph_in}
+use Rattle.determine_side_effects.specs.graph_crate.Check.{graph_in}
 use Rattle.run_parts.proofs.Working.{working_start, work_holds, work_short}
 use borrow.Author.Rules.{rules}
 use Rattle.run_parts.proofs.work.Statement.{statement}

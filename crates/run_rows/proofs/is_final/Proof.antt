@@ -1,7 +1,7 @@
 use Prim.Native.Nat.{◌≤◌}
 use native.Mathlib.Omega.{arith}
 use borrow.Author.Tests.{not_true, not-false}
-use Rattle.graph.specs.Check.{graph_in}
+use Rattle.determine_side_effects.specs.graph_crate.Check.{graph_in}
 use Rattle.dead_records.proofs.Numbering.{entries_are}
 use Rattle.run_rows.proofs.Keeping.{final_user, final_off, final_live}
 use Rattle.run_rows.proofs.is_final.Statement.{statement}

@@ -1,12 +1,12 @@
 use Rattle.dead_records.proofs.Numbering.{modules_are, entries_are}
 use Rattle.run_rows.proofs.Writing.{word_at, words_done}
-use Rattle.graph.specs.Check.{graph_in}
-use Rattle.graph_tables.specs.Tables.{header_in}
+use Rattle.determine_side_effects.specs.graph_crate.Check.{graph_in}
+use Rattle.determine_side_effects.specs.graph_tables_crate.Tables.{header_in}
 use Prim.Native.Nat.{◌+◌, ◌-◌, ◌<◌, ◌≤◌}
 use mathlib.Core.Path.{◌≡◌, refl, ◌∙◌}
 use lib.ListN.{length, get_or, drop, length-set}
 use mathlib.Core.List.{◌++◌}
-use Rattle.graph_access.specs.Words.{tabulate}
+use Rattle.determine_side_effects.specs.graph_access_crate.Words.{tabulate}
 use Rattle.entry_order.specs.Plan.{words_at}
 use Rattle.determine_side_effects.proofs.Reading.{fill_start, fill_step}
 use borrow.Author.Rules.{rules}

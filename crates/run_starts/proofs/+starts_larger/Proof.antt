@@ -2,8 +2,8 @@ use Prim.Native.Nat.{ℕ, ◌<◌}
 use native.Mathlib.Omega.{arith}
 use borrow.Fn.Kinds.{In}
 use borrow.Fn.PlainCycle.{Measures, is, falls, and}
-use Rattle.graph.proofs.Checking.{bounded}
-use Rattle.tables.proofs.fits.Reads as fits-reads
+use Rattle.facts.proofs.graph_crate.Checking.{bounded}
+use Rattle.facts.proofs.tables_crate.fits.Reads as fits-reads
 use Rattle.run_starts.proofs.starts_middle.Reads as middle-reads
 use Rattle.run_starts.proofs.starts_large.Reads as large-reads
 use Rattle.run_starts.proofs.starts_largest.Reads as largest-reads

@@ -2,7 +2,7 @@ use mathlib.Core.Path.{◌∙◌}
 use Prim.Native.Nat.{ℕ, ◌*◌, ◌<◌}
 use native.Mathlib.Omega.{arith}
 use lib.ListN.{length, length-replicate}
-use Rattle.graph.specs.Check.{graph_in}
+use Rattle.facts.specs.graph_crate.Check.{graph_in}
 use Rattle.own_starts.proofs.Noting.{noted_few}
 use Rattle.run_starts.proofs.Giving.{cleared_again, noted_start, taken_good, all_noted, few_noted, none_given, all_given}
 use Rattle.run_starts.proofs.give.Statement.{statement}

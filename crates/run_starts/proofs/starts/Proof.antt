@@ -1,7 +1,7 @@
 use mathlib.Core.Path.{◌∙◌, sym}
-use Rattle.rows.proofs.Walks.{at_got}
-use Rattle.graph.specs.Check.{HeaderRead}
-use Rattle.graph.proofs.Checking.{seven, check_stop_header}
+use Rattle.facts.proofs.rows_crate.Walks.{at_got}
+use Rattle.facts.specs.graph_crate.Check.{HeaderRead}
+use Rattle.facts.proofs.graph_crate.Checking.{seven, check_stop_header}
 use Rattle.run_starts.proofs.Ending.{ends_before, outcome_refused}
 use Rattle.run_starts.proofs.starts.Statement.{statement}
 use Rattle.run_starts.proofs.starts.Tie as tie

@@ -2,8 +2,8 @@ use mathlib.Core.Path.{refl}
 use Prim.Native.Nat.{ℕ}
 use native.Mathlib.Omega.{arith}
 use lib.ListN.{length-replicate}
-use Rattle.tables.specs.declared.Size.TheVariants.{Middle}
-use Rattle.tables.proofs.Zeros.{tables_long}
+use Rattle.facts.specs.tables_crate.declared.Size.TheVariants.{Middle}
+use Rattle.facts.proofs.tables_crate.Zeros.{tables_long}
 use Rattle.run_parts.proofs.Tiers.{plan_long}
 use Rattle.run_starts.proofs.Tiers.{partners_long, seen_clear}
 use Rattle.run_starts.proofs.starts_middle.Statement.{statement}

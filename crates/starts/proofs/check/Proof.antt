@@ -2,7 +2,7 @@ use Rattle.starts.proofs.Starting.{starts_begin, fault_read, stop-checked, turn-
 use lib.ListN.{length}
 use Rattle.starts.specs.Starts.{starts_fault}
 use Prim.Native.Nat.{◌+◌, ◌*◌, ◌-◌, ◌<◌, ◌≤◌}
-use Rattle.graph.specs.Check.{graph_in}
+use Rattle.determine_side_effects.specs.graph_crate.Check.{graph_in}
 use mathlib.Core.Path.{◌≡◌}
 use borrow.Author.Rules.{rules}
 use native.Mathlib.Omega.{arith}

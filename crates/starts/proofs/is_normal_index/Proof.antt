@@ -1,4 +1,4 @@
-use Rattle.graph.specs.Check.{graph_in}
+use Rattle.determine_side_effects.specs.graph_crate.Check.{graph_in}
 use Rattle.starts.proofs.Starting.{modules_are, kept_out, kept_in}
 use native.Mathlib.Omega.{arith}
 use borrow.Author.Rules.{rules}

@@ -1,5 +1,5 @@
 use borrow.Author.Tests.{not_true, not-false}
-use Rattle.graph.specs.Check.{graph_in}
+use Rattle.determine_side_effects.specs.graph_crate.Check.{graph_in}
 use Rattle.starts.proofs.Starting.{statement_not, statement_in, statement_out, kept_both}
 use native.Mathlib.Omega.{arith}
 use mathlib.Core.Path.{◌∙◌, sym}

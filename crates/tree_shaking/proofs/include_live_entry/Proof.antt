@@ -1,5 +1,5 @@
 use Rattle.tree_shaking.proofs.Trying.{live_entry}
-use Rattle.graph.specs.Check.{graph_in}
+use Rattle.determine_side_effects.specs.graph_crate.Check.{graph_in}
 use Rattle.entry_order.specs.Order.{module_of_entry}
 use borrow.Author.Rules.{rules}
 use native.Mathlib.Omega.{arith}

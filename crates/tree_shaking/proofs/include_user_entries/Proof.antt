@@ -1,5 +1,5 @@
 use Rattle.tree_shaking.proofs.Users.{Including, users_begin, users-step, users-full, users-done, user_inside}
-use Rattle.graph.specs.Check.{graph_in}
+use Rattle.determine_side_effects.specs.graph_crate.Check.{graph_in}
 use Rattle.entry_order.specs.Order.{module_of_entry}
 use Prim.Native.Nat.{◌-◌, ◌<◌, ◌≤◌}
 use mathlib.Core.Path.{◌≡◌, refl, ◌∙◌}

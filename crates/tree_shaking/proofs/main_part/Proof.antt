@@ -1,6 +1,6 @@
 use Rattle.tree_shaking.proofs.Turning.{main_is, main_full, main_ended}
 use Rattle.entry_starts.proofs.Together.{working_after}
-use Rattle.graph.specs.Check.{graph_in}
+use Rattle.determine_side_effects.specs.graph_crate.Check.{graph_in}
 use mathlib.Core.Path.{refl, ◌∙◌}
 use borrow.Author.Rules.{rules}
 use Rattle.tree_shaking.proofs.main_part.Statement.{statement}

@@ -1,7 +1,7 @@
 use Rattle.tree_shaking.proofs.Turning.{round_is, round_full}
 use Rattle.tree_shaking.proofs.Trying.{progressed_same}
 use Rattle.entry_starts.proofs.Together.{working_after}
-use Rattle.graph.specs.Check.{graph_in}
+use Rattle.determine_side_effects.specs.graph_crate.Check.{graph_in}
 use mathlib.Core.Path.{◌∙◌}
 use borrow.Author.Rules.{rules}
 use Rattle.tree_shaking.proofs.round.Statement.{statement}

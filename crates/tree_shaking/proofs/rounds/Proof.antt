@@ -3,8 +3,8 @@ use Rattle.tree_shaking.specs.Rounds.{goes_on, rounds_from}
 use Rattle.dynamic_entries.specs.Tries.{progress_in}
 use Rattle.keep_record.specs.Held.{lines_of}
 use Rattle.determine_side_effects.specs.Effects.{last_verdicts}
-use Rattle.graph_tables.specs.Tables.{header_in}
-use Rattle.graph.specs.Check.{graph_in}
+use Rattle.determine_side_effects.specs.graph_tables_crate.Tables.{header_in}
+use Rattle.determine_side_effects.specs.graph_crate.Check.{graph_in}
 use Prim.Native.Nat.{◌+◌, ◌*◌, ◌-◌, ◌≤◌}
 use mathlib.Core.Path.{◌≡◌, refl, ◌∙◌, sym}
 use borrow.Author.Tests.{not_true, not-false}

@@ -1,5 +1,5 @@
 use Rattle.tree_shaking.proofs.Stages.{stage_ends}
-use Rattle.graph.specs.Check.{graph_in}
+use Rattle.determine_side_effects.specs.graph_crate.Check.{graph_in}
 use mathlib.Core.Path.{◌∙◌}
 use native.Mathlib.Omega.{arith}
 use Rattle.tree_shaking.proofs.runtime_stage.Statement.{statement}

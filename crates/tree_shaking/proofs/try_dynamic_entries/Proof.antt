@@ -1,6 +1,6 @@
 use Rattle.tree_shaking.proofs.Trying.{Trying, left_at, trying_begin, trying_whole, trying_on, trying_done, turn_planned, turn-working, turn_on, turn-full, progressed_same}
-use Rattle.graph_tables.specs.Tables.{header_in}
-use Rattle.graph.specs.Check.{graph_in}
+use Rattle.determine_side_effects.specs.graph_tables_crate.Tables.{header_in}
+use Rattle.determine_side_effects.specs.graph_crate.Check.{graph_in}
 use Prim.Native.Nat.{◌-◌, ◌<◌}
 use mathlib.Core.Path.{◌≡◌, refl, ◌∙◌, sym}
 use lib.ListN.{length}

@@ -1,9 +1,9 @@
 use Rattle.worklist.proofs.Draining.{Starting, starts_begin, start_is, starts_inside, starts_over, starts_good, starts-full, starts-step, starts_done}
-use Rattle.facts.specs.Facts.{module_fact}
+use Rattle.determine_side_effects.specs.facts_crate.Facts.{module_fact}
 use Rattle.worklist.specs.Drain.{drain_of}
 use Rattle.starts.specs.Starts.{starts_of}
 use Rattle.determine_side_effects.specs.Effects.{last_verdicts}
-use Rattle.graph.specs.Check.{graph_in}
+use Rattle.determine_side_effects.specs.graph_crate.Check.{graph_in}
 use Prim.Native.Nat.{◌/◌}
 use lib.ListN.{length, get_or, take}
 use Prim.Native.Nat.{ℕ, ◌+◌, ◌-◌, ◌*◌, ◌<◌, ◌≤◌}

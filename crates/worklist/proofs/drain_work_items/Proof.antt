@@ -2,9 +2,9 @@ use Rattle.worklist.proofs.Draining.{Draining, drain_start, drain_step, drain_fu
 use Rattle.worklist.specs.Drain.{drained}
 use Rattle.keep_record.proofs.Counting.{held_few, marks_few}
 use Rattle.keep_record.specs.Held.{lines_of}
-use Rattle.facts.specs.Facts.{mark_count}
+use Rattle.determine_side_effects.specs.facts_crate.Facts.{mark_count}
 use Rattle.determine_side_effects.specs.Effects.{last_verdicts}
-use Rattle.graph.specs.Check.{graph_in}
+use Rattle.determine_side_effects.specs.graph_crate.Check.{graph_in}
 use lib.ListN.{length, get_or, take}
 use Prim.Native.Nat.{ℕ, ◌+◌, ◌-◌, ◌*◌, ◌<◌, ◌≤◌}
 use mathlib.Core.Path.{◌≡◌, refl, ap, ◌∙◌, sym}

@@ -1,4 +1,4 @@
-use Rattle.graph.specs.Check.{graph_in}
+use Rattle.determine_side_effects.specs.graph_crate.Check.{graph_in}
 use Rattle.determine_side_effects.specs.Effects.{last_verdicts}
 use Rattle.worklist.proofs.Handled.{handle_full, handle-done, link-ready, still-linked}
 use native.Mathlib.Omega.{arith}

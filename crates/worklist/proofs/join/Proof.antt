@@ -2,7 +2,7 @@ use Rattle.worklist.proofs.Joined.{good_module, good_forward, join_module, join_
 use Rattle.worklist.specs.Drain.{name_of}
 use mathlib.Core.Logic.{⊎_elim}
 use Rattle.keep_record.proofs.Counting.{held_few, marks_few}
-use Rattle.graph.specs.Check.{graph_in}
+use Rattle.determine_side_effects.specs.graph_crate.Check.{graph_in}
 use native.Mathlib.Omega.{arith}
 use lib.ListN.{length, get_or, take}
 use Prim.Native.Nat.{ℕ, ◌+◌, ◌-◌, ◌*◌, ◌<◌, ◌≤◌}

@@ -2,8 +2,8 @@ use Rattle.worklist.proofs.Joining.{Walking, ahead, walk_start, walk-done, walk-
 use Rattle.worklist.specs.Links.{Linked, partners_size}
 use Rattle.keep_record.proofs.Counting.{held_few, marks_few}
 use Rattle.keep_record.specs.Held.{lines_of}
-use Rattle.facts.specs.Facts.{first_part}
-use Rattle.graph.specs.Check.{graph_in}
+use Rattle.determine_side_effects.specs.facts_crate.Facts.{first_part}
+use Rattle.determine_side_effects.specs.graph_crate.Check.{graph_in}
 use lib.ListN.{length, get_or, set}
 use Prim.Native.Nat.{ℕ, ◌+◌, ◌*◌, ◌-◌, ◌<◌, ◌≤◌}
 use mathlib.Core.Path.{◌≡◌, refl, ap, ◌∙◌, sym, subst}

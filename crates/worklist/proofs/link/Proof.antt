@@ -1,7 +1,7 @@
 use Rattle.worklist.proofs.LinkRow.{row_other, row_module, module_low, module_entry}
 use Rattle.worklist.specs.Links.{LinkReady}
-use Rattle.facts.specs.Facts.{kind_of}
-use Rattle.graph.specs.Check.{graph_in}
+use Rattle.determine_side_effects.specs.facts_crate.Facts.{kind_of}
+use Rattle.determine_side_effects.specs.graph_crate.Check.{graph_in}
 use lib.ListN.{length, get_or, set, length-set}
 use native.Mathlib.Omega.{arith}
 use Prim.Native.Nat.{◌+◌, ◌*◌, ◌-◌, ◌<◌, ◌≤◌}

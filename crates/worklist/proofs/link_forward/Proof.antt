@@ -1,12 +1,12 @@
 use Rattle.worklist.proofs.LinkRow.{set_long, last_fits, before-fits, written-first, written_behind}
 use mathlib.Core.Logic.{⊎_elim}
 use lib.ListN.{length-set}
-use Rattle.facts.specs.Facts.{first_part}
+use Rattle.determine_side_effects.specs.facts_crate.Facts.{first_part}
 use Rattle.worklist.proofs.LinkRow.{symbol_low}
-use Rattle.graph_access.specs.Words.{symbol_of}
-use Rattle.graph_access.specs.Names.{owner}
+use Rattle.determine_side_effects.specs.graph_access_crate.Words.{symbol_of}
+use Rattle.determine_side_effects.specs.graph_access_crate.Names.{owner}
 use Rattle.worklist.specs.Links.{partners_size}
-use Rattle.graph.specs.Check.{graph_in}
+use Rattle.determine_side_effects.specs.graph_crate.Check.{graph_in}
 use lib.ListN.{length, get_or, set}
 use native.Mathlib.Omega.{arith}
 use Prim.Native.Nat.{◌+◌, ◌*◌, ◌-◌, ◌<◌, ◌≤◌}

@@ -2,8 +2,8 @@ use Prim.Native.Nat.{◌+◌, ◌<◌}
 use mathlib.Core.Path.{◌∙◌}
 use native.Mathlib.Omega.{arith}
 use lib.ListN.{length, get_or}
-use Rattle.tables.proofs.Sections.{inside}
-use Rattle.graph_tables.specs.Places.{EntryTable}
+use Rattle.graph.proofs.tables_crate.Sections.{inside}
+use Rattle.graph.specs.graph_tables_crate.Places.{EntryTable}
 use Rattle.graph.specs.Check.{graph_in}
 use Rattle.graph_access.specs.Words.{entry_of}
 use Rattle.graph_access.specs.Names.{related}

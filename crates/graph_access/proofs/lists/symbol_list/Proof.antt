@@ -1,7 +1,7 @@
 use Prim.Native.Nat.{◌+◌, ◌-◌}
 use mathlib.Core.Path.{ap, ◌∙◌}
 use native.Mathlib.Omega.{arith}
-use Rattle.graph_tables.proofs.Facts.{symbol-place, symbol_inside}
+use Rattle.graph.proofs.graph_tables_crate.Facts.{symbol-place, symbol_inside}
 use Rattle.graph_access.specs.Lists.{place_of, symbol_widths}
 use Rattle.graph_access.proofs.OfItems.{symbol_lists_inside}
 use borrow.Author.Rules.{rules}

@@ -3,9 +3,9 @@ use mathlib.Core.Path.{◌≡◌, refl, ◌∙◌, sym}
 use mathlib.Core.List.{[]}
 use native.Mathlib.Omega.{arith}
 use lib.ListN.{length, get_or}
-use Rattle.rows.specs.Walk.{no_item}
+use Rattle.graph.specs.rows_crate.Walk.{no_item}
 use Rattle.graph_access.proofs.Fixed.{Stands}
-use Rattle.graph_tables.specs.Tables.{symbols_in}
+use Rattle.graph.specs.graph_tables_crate.Tables.{symbols_in}
 use Rattle.graph_access.specs.Lists.{symbol_widths}
 use Rattle.graph_access.proofs.OfItems.{symbol_stands}
 use native.Mathlib.Nat.{one-mul}

@@ -2,8 +2,8 @@ use Prim.Native.Nat.{◌+◌}
 use mathlib.Core.Path.{◌≡◌, ap}
 use native.Mathlib.Omega.{arith}
 use lib.ListN.{get_or}
-use Rattle.tables.proofs.Sections.{inside}
-use Rattle.graph_tables.specs.Tables.{modules_in, first_of}
+use Rattle.graph.proofs.tables_crate.Sections.{inside}
+use Rattle.graph.specs.graph_tables_crate.Tables.{modules_in, first_of}
 use Rattle.graph.specs.Check.{graph_in}
 use Rattle.graph_access.specs.Words.{statement_list}
 use Rattle.graph_access.proofs.StatementNumbers.{in_first, number-below}

@@ -1,8 +1,8 @@
 use Prim.Native.Nat.{◌+◌, ◌<◌}
 use native.Mathlib.Omega.{arith}
 use lib.ListN.{length, get_or}
-use Rattle.tables.proofs.Sections.{inside}
-use Rattle.graph_tables.specs.Places.{StatementTable}
+use Rattle.graph.proofs.tables_crate.Sections.{inside}
+use Rattle.graph.specs.graph_tables_crate.Places.{StatementTable}
 use Rattle.graph.specs.Check.{graph_in}
 use Rattle.graph_access.specs.Words.{statement_list, statement_of}
 use Rattle.graph_access.proofs.OfStatements.{index-inside, place-there}

@@ -1,5 +1,5 @@
 use native.Mathlib.Omega.{arith}
-use Rattle.tables.proofs.Sections.{inside}
+use Rattle.graph.proofs.tables_crate.Sections.{inside}
 use Rattle.graph.specs.Check.{graph_in}
 use Rattle.graph_access.specs.Words.{symbol_of}
 use Rattle.graph_access.proofs.symbols.list_number.Statement.{statement}
