@@ -184,6 +184,9 @@ def turned_prose(text, rows):
 def turned_file(path, text, rows):
     if path.endswith(".md"):
         return turned_prose(text, rows)
+    if not path.endswith(".antt"):
+        # A function of the source keeps its name, so only what could not be one turns here.
+        rows = {old: new for old, new in rows.items() if not re.fullmatch(r"[a-z0-9_]+", old)}
     mark = "--" if path.endswith(".antt") else "//"
     of_goals = re.search(r"/proofs/[^/]+/[^/]", path) is not None
     made = []

@@ -68,7 +68,7 @@ pub fn kind_of(fact: Fact) -> usize
 }
 
 // A fact's first part.
-pub fn first_part_lem(fact: Fact) -> usize
+pub fn first_part(fact: Fact) -> usize
     ensures { result ≡ first_part fact }
 {
     match fact {

@@ -32,7 +32,7 @@ use Rattle.rust_engine.proofs.Changed.{Counted}
 use Rattle.rust_order.specs.DynamicEntries.{entry_idx}
 use Rattle.rust_run.specs.DynamicEntries.{Unused, alive, unused, is_alive, is_dynamic_entry_alive, passes, ProcessAndRetainDynamicEntry, is_dead, is_external, includes}
 use Rattle.rust_run.specs.Passes.{IncludeCjsBailoutExports}
-use Rattle.rust_run.specs.IncludeStatements.{IncludesUserDefined, Rounding, rounding, insert_if, ProcessesDynamic, no_more, was_included, processes, Round, Rounds, breaks, goes_on_lem}
+use Rattle.rust_run.specs.IncludeStatements.{IncludesUserDefined, Rounding, rounding, insert_if, ProcessesDynamic, no_more, was_included, processes, Round, Rounds, breaks, goes_on}
 use Rattle.rust_run.specs.Agreement.{AsRust}
 use Rattle.rust_run.proofs.Stage.{Prefix, stage_prefix}
 use Rattle.rust_run.proofs.Level.{every_onto, loaded, level-exactly, starts-hold}
@@ -221,7 +221,7 @@ module _ (numbers : List ℕ) (ok : answer_of (check_of numbers) ≡ Accepted) (
             → (modules_left T.facts x.end.context < fuel → Lined (rounds_from g v keeps_module fuel (made + 1) (length p.lines) (round g v k p)).end.lines → AllRounds x.end) → AllRounds r
         go true e more =
             let z = more (omega (arith, u, less e)) (subst (λ (y : Ended). Lined y.end.lines) (goes numbers ok fuel made k p (kept ∙ e)) l) in
-            record { count = suc z.count; end = z.end; done = goes_on_lem z.count r x.end z.end x.done e z.done; follows = (x.follows, z.follows) }
+            record { count = suc z.count; end = z.end; done = goes_on z.count r x.end z.end x.done e z.done; follows = (x.follows, z.follows) }
         go false e more = record { count = 1; end = x.end; done = breaks r x.end x.done e; follows = x.follows }
 
     -- the main part

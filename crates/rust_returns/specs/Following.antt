@@ -76,7 +76,7 @@ module _ (g : Graph) (v : List ℕ) (ch : Choosing g) where
 
   abbrev pub RoundsBy : (cycled sorted : List ℕ) (n : ℕ) (r z : Rounding) → Rounds g v cycled sorted n r z → Type 0
   RoundsBy cycled sorted n r z (Rounds.breaks _ _ x e) = RoundBy cycled sorted r z x
-  RoundsBy cycled sorted n r z (Rounds.goes_on_lem n' _ y _ x e more) = RoundBy cycled sorted r y x × RoundsBy cycled sorted n' y z more
+  RoundsBy cycled sorted n r z (Rounds.goes_on n' _ y _ x e more) = RoundBy cycled sorted r y x × RoundsBy cycled sorted n' y z more
 
   abbrev pub HelpersBy : (hs : List ℕ) (c d : Context) → IncludesHelpers g v hs c d → Type 0
   HelpersBy hs c d (IncludesHelpers.no_more _) = Unit {0}

@@ -15,7 +15,7 @@ use Rattle.run_choices.proofs.Sorted as sorted
 use Rattle.run_choices.proofs.GoodStarts.{users_starts_good}
 use Rattle.settled_runs.proofs.OfRuns.{rounds_without}
 use Rattle.rust_engine.specs.Context.{Context, empty, new_context}
-use Rattle.rust_run.specs.IncludeStatements.{Rounding, rounding, Rounds, breaks, goes_on_lem, IncludesUserDefined}
+use Rattle.rust_run.specs.IncludeStatements.{Rounding, rounding, Rounds, breaks, goes_on, IncludesUserDefined}
 use Rattle.rust_run.specs.Agreement.{AsRust}
 use Rattle.rust_run.proofs.Starting.{users_onward}
 use Rattle.rust_run.proofs.Level.{loaded, level_first, level-onward}
@@ -54,8 +54,8 @@ module _ (numbers : List ℕ) (ok : answer_of (check_of numbers) ≡ Accepted) w
     rounds-beside n r z (breaks _ _ x c) p k made (suc fuel) a h =
         let b = round-on numbers ok cycled cycles sorted_dynamic r z p k a x in
         subst (λ e. RoundsEnd 1 z made e) (sym (stops fuel made k p (changed_is numbers ok cycled cycles sorted_dynamic r z p k a x ∙ c))) (record { rounds_are = refl; taken = b.taken; beside = b.beside })
-    rounds-beside n r z (goes_on_lem n' _ y _ x c more) p k made zero a h = absurd (omega (arith, h))
-    rounds-beside n r z (goes_on_lem n' _ y _ x c more) p k made (suc fuel) a h =
+    rounds-beside n r z (goes_on n' _ y _ x c more) p k made zero a h = absurd (omega (arith, h))
+    rounds-beside n r z (goes_on n' _ y _ x c more) p k made (suc fuel) a h =
         let b = round-on numbers ok cycled cycles sorted_dynamic r y p k a x in
         let m = rounds-beside n' y z more (round g v k p) (length p.lines) (made + 1) fuel b (omega (arith, h)) in
         subst (λ e. RoundsEnd (suc n') z made e) (sym (goes fuel made k p (changed_is numbers ok cycled cycles sorted_dynamic r y p k a x ∙ c)))

@@ -22,7 +22,7 @@ use Rattle.rust_run.specs.Passes.{IncludesExports, IncludesBailouts, collect_dep
 use Rattle.rust_run.specs.Passes.IncludesExports.{no_more as no-export, not_from_commonjs, from_commonjs}
 use Rattle.rust_run.specs.Passes.IncludesBailouts.{no_more as no_bailout, one as one_bailout}
 use Rattle.rust_run.specs.Passes.IncludesHelpers.{no_more as no-more-helpers, one as one-helper}
-use Rattle.rust_run.specs.IncludeStatements.{user_defined_entries, dynamic_entries, IncludesUserDefined, Rounding, rounding, insert_if, ProcessesDynamic, Round, Rounds, breaks, goes_on_lem, live_entries, depended_runtime_helper, Outcome, IncludeStatements, Returns}
+use Rattle.rust_run.specs.IncludeStatements.{user_defined_entries, dynamic_entries, IncludesUserDefined, Rounding, rounding, insert_if, ProcessesDynamic, Round, Rounds, breaks, goes_on, live_entries, depended_runtime_helper, Outcome, IncludeStatements, Returns}
 use Rattle.rust_run.specs.IncludeStatements.IncludesUserDefined.{no_more as no-user, of_external as of-external-entry, of_normal as of-normal-entry}
 use Rattle.rust_run.specs.IncludeStatements.ProcessesDynamic.{no_more as no_dynamic, was_included, processes}
 use Rattle.rust_run.proofs.Executed.{Ended, not_yet, ended, then, settled, drained, references_included, entry_included, users_included, exports_included, bailouts_included, Processed, processed, retained_one, processed_one, processed_all, round_made, Counted, counted, rounds_made, helpers_included, runtime_included, finished, included, executed}
@@ -216,7 +216,7 @@ rounds_return g v fuel cycled same (suc n) r k e =
     whether y made true h q more =
         let t = through (rounds_made g v fuel n y) (λ j. ended (counted (suc j.rounds) j.last)) k q in
         subst (λ j. Rounds g v cycled (sorted_entries g) j.rounds r j.last) (same_end (counted (suc t.middle.rounds) t.middle.last) k t.second)
-        (goes_on_lem t.middle.rounds r y t.middle.last made h (more y t.middle t.first))
+        (goes_on t.middle.rounds r y t.middle.last made h (more y t.middle t.first))
     whether y made false h q more = subst (λ j. Rounds g v cycled (sorted_entries g) j.rounds r j.last) (same_end (counted 1 y) k q) (breaks r y made h)
 
 -- The runtime ----------------------------------------------------------------------------------------------------------------------------

@@ -86,7 +86,7 @@ pub record Round (g : Graph) (v cycled sorted : List ℕ) (r z : Rounding) : Typ
 -- loop { .. if !context.module_inclusion_changed { break; } }, and how many rounds it makes
 pub data Rounds (g : Graph) (v cycled sorted : List ℕ) : ℕ → Rounding → Rounding → Type 0 where
   breaks : (r z : Rounding) → Round g v cycled sorted r z → z.context.changed ≡ false → Rounds g v cycled sorted 1 r z
-  goes_on_lem : (n : ℕ) (r y z : Rounding) → Round g v cycled sorted r y → y.context.changed ≡ true → Rounds g v cycled sorted n y z → Rounds g v cycled sorted (suc n) r z
+  goes_on : (n : ℕ) (r y z : Rounding) → Round g v cycled sorted r y → y.context.changed ≡ true → Rounds g v cycled sorted n y z → Rounds g v cycled sorted (suc n) r z
 
 -- What follows the loop ------------------------------------------------------------------------------------------------------------------
 

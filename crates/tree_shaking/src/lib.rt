@@ -186,7 +186,7 @@ fn live_count(numbers: &[u32], plan: &[usize]) -> usize
     live
 }
 
-// How many modules are live before a round, for `goes_on_lem`. Only a run that settles asks for it, so another does not count.
+// How many modules are live before a round, for `goes_on`. Only a run that settles asks for it, so another does not count.
 fn live_before(numbers: &[u32], plan: &[usize]) -> usize
     requires { (7 ≤ length numbers.now) × (plan_size (header_in numbers.now) ≤ length plan.now) × (length plan.now < 4294967296) }
     ensures { CountsLive (graph_in numbers.now) (live_in (header_in numbers.now) plan.now) result }
@@ -199,7 +199,7 @@ fn live_before(numbers: &[u32], plan: &[usize]) -> usize
 
 // Whether a further round follows one that began with `from` lines and `live` live modules and came to `to` lines. An external entry that comes
 // alive writes no line, so lines alone do not tell that nothing moved.
-fn goes_on_lem(
+fn goes_on(
     numbers: &[u32],
     lines: &[u32],
     plan: &[usize],
