@@ -11,85 +11,83 @@ use borrow.Author.Rules.{rules}
 use Rattle.answer_rows.proofs.fill_first_bytes.Statement.{statement}
 use Rattle.answer_rows.proofs.fill_first_bytes.Tie as tie
 
-abbrev invariant-loop : tie.invariant-loop
-invariant-loop numbers tables₀ h base total₀ m₀ tables total m = Filling numbers tables₀ tables m total
+abbrev invariant-loop-m : tie.invariant-loop-m
+invariant-loop-m numbers tables₀ h base total₀ m₀ tables total m = Filling numbers tables₀ tables m total
 
-abbrev decreases-loop : tie.decreases-loop
-decreases-loop numbers tables₀ h base total₀ m₀ tables total m = h.modules - m
+abbrev decreases-loop-m : tie.decreases-loop-m
+decreases-loop-m numbers tables₀ h base total₀ m₀ tables total m = h.modules - m
 
 -- a module that is left
-below : (c : tie.Then1 invariant-loop decreases-loop) → c.before.before.loop.m < (header_in c.before.before.before.before.before.before.before.args.numbers.now).modules
-below c = omega (arith, c.if1.true, ap (λ (h : Header). h.modules) c.before.before.before.before.header_of.ensures)
+below : (c : tie.In-loop-m invariant-loop-m decreases-loop-m) → c.loop-m.m < (header_in c.args.numbers.now).modules
+below c = omega (arith, c.loop-m-test.true, ap (λ (h : Header). h.modules) c.header_of-h.ensures)
 
 -- its word
-there : (c : tie.Then1 invariant-loop decreases-loop) → get_or c.before.before.before.before.before.before.before.args.tables.now 9 0 + c.before.before.loop.m < length c.before.before.loop.tables
-there c = let s = c.before.before.before.before.before.before.before in word-there _ _ s.requires.0 s.requires.1 _ _ _ c.before.before.loop.invariant (below c)
+there : (c : tie.In-loop-m invariant-loop-m decreases-loop-m) → get_or c.args.tables.now 9 0 + c.loop-m.m < length c.loop-m.tables
+there c = word-there _ _ c.requires.0 c.requires.1 _ _ _ c.loop-m.invariant (below c)
 
-header-of-requires : tie.Need-header-of-requires invariant-loop decreases-loop
-header-of-requires c κs = c.before.before.requires.0.long
+header_of-h-requires : tie.Need-header_of-h-requires invariant-loop-m decreases-loop-m
+header_of-h-requires c κs = c.requires.0.long
 
-slice-read-base : tie.Need-slice-read-base invariant-loop decreases-loop
-slice-read-base c = word_inside c.before.before.before.before.requires.1 9 (omega arith)
+bounds-tables-9 : tie.Need-bounds-tables-9 invariant-loop-m decreases-loop-m
+bounds-tables-9 c = word_inside c.requires.1 9 (omega arith)
 
-loop-holds : tie.Need-loop-init invariant-loop decreases-loop
-loop-holds c = let s = c.before.before.before.before in filling_none _ _ s.requires.0 s.requires.1
+loop-m-init : tie.Need-loop-m-init invariant-loop-m decreases-loop-m
+loop-m-init c = filling_none _ _ c.requires.0 c.requires.1
 
-add-tables : tie.Need-overflow-add-tables invariant-loop decreases-loop
-add-tables c = record { fits = omega (arith, there c, c.before.before.loop.invariant.kept.same_length, c.before.before.before.before.before.before.before.requires.1.few) }
+overflow_add-tables : tie.Need-overflow_add-tables invariant-loop-m decreases-loop-m
+overflow_add-tables c = record { fits = omega (arith, there c, c.loop-m.invariant.kept.same_length, c.requires.1.few) }
 
-mul-tables : tie.Need-overflow-mul-tables invariant-loop decreases-loop
-mul-tables c = record { fits = omega (arith, there c, c.before.before.loop.invariant.kept.same_length, c.before.before.before.before.before.before.before.requires.1.few) }
+offset_bounds-tables-base : tie.Need-offset_bounds-tables-base invariant-loop-m decreases-loop-m
+offset_bounds-tables-base c = record { fits = omega (arith, there c, c.loop-m.invariant.kept.same_length, c.requires.1.few) }
 
-slice-write-tables : tie.Need-slice-write-tables invariant-loop decreases-loop
-slice-write-tables c = there c
+bounds-tables-base : tie.Need-bounds-tables-base invariant-loop-m decreases-loop-m
+bounds-tables-base c = there c
 
-statement-count-requires : tie.Need-statement-count-requires invariant-loop decreases-loop
-statement-count-requires c κs = let s = c.before.before.before.before.before.before.before.before in (still_loaded _ _ s.requires.0 s.requires.1 _ _ _ c.before.before.before.loop.invariant (below c.before), below c.before)
+statement_count-requires : tie.Need-statement_count-requires invariant-loop-m decreases-loop-m
+statement_count-requires c κs = (still_loaded _ _ c.requires.0 c.requires.1 _ _ _ c.loop-m.invariant (below c), below c)
 
-bytes-for-requires : tie.Need-bytes-for-requires invariant-loop decreases-loop
-bytes-for-requires c κs = search rules
+bytes_for-total-requires : tie.Need-bytes_for-total-requires invariant-loop-m decreases-loop-m
+bytes_for-total-requires c κs = search rules
 
-add_total : tie.Need-overflow-add-total invariant-loop decreases-loop
-add_total c =
-    let s = c.before.before.before.before.before.before.before.before.before.before in
-    let few = total_small _ _ s.requires.0 s.requires.1 _ _ _ c.before.before.before.before.before.loop.invariant (below c.before.before.before) in
-    record { fits = omega (arith, few, c.bytes-for.ensures, bytes_at_most c.before.statement-count.result, c.before.statement-count.ensures.1) }
+overflow_add-total : tie.Need-overflow_add-total invariant-loop-m decreases-loop-m
+overflow_add-total c =
+    let few = total_small _ _ c.requires.0 c.requires.1 _ _ _ c.loop-m.invariant (below c.before.before) in
+    record { fits = omega (arith, few, c.bytes_for-total.ensures, bytes_at_most c.statement_count.result, c.statement_count.ensures.1) }
 
-add-m : tie.Need-overflow-add-m invariant-loop decreases-loop
-add-m c = search rules
+overflow_add-m : tie.Need-overflow_add-m invariant-loop-m decreases-loop-m
+overflow_add-m c = search rules
 
-loop-less : tie.Need-loop-smaller invariant-loop decreases-loop
-loop-less c = omega (arith, c.before.before.before.if1.true)
+loop-m-smaller : tie.Need-loop-m-smaller invariant-loop-m decreases-loop-m
+loop-m-smaller c = omega (arith, c.loop-m-test.true)
 
-loop-again : tie.Need-loop-preserved invariant-loop decreases-loop
-loop-again c = let s = c.before.before.before.before.before.before.before.before.before.before in filling-more _ _ s.requires.0 s.requires.1 _ _ _ c.before.before.before.before.before.loop.invariant (below c.before.before.before) _ _ c.before.statement-count.ensures.0 c.bytes-for.ensures
+loop-m-preserved : tie.Need-loop-m-preserved invariant-loop-m decreases-loop-m
+loop-m-preserved c = filling-more _ _ c.requires.0 c.requires.1 _ _ _ c.loop-m.invariant (below c.before.before) _ _ c.statement_count.ensures.0 c.bytes_for-total.ensures
 
-same_length : tie.Need-same-length invariant-loop decreases-loop
-same_length c = c.before.before.loop.invariant.kept.same_length
+shape_of-tables : tie.Need-shape_of-tables invariant-loop-m decreases-loop-m
+shape_of-tables c = c.loop-m.invariant.kept.same_length
 
-returns : tie.Need-returns invariant-loop decreases-loop
+returns : tie.Need-returns invariant-loop-m decreases-loop-m
 returns c =
-    let s = c.before.before.before.before.before.before.before in
-    let f = c.before.before.loop.invariant in
-    (filling-done _ _ s.requires.0 s.requires.1 _ _ _ f (omega (arith, c.if1.false, ap (λ (h : Header). h.modules) c.before.before.before.before.header_of.ensures)), f.kept)
+    let f = c.loop-m.invariant in
+    (filling-done _ _ c.requires.0 c.requires.1 _ _ _ f (omega (arith, c.loop-m-test.false, ap (λ (h : Header). h.modules) c.header_of-h.ensures)), f.kept)
 
-pub fill-first-bytes-spec : {M : Type 1} → statement M
-fill-first-bytes-spec =
+pub fill_first_bytes_spec : {M : Type 1} → statement M
+fill_first_bytes_spec =
     tie.close
     (tie.spec
-    invariant-loop
-    decreases-loop
-    header-of-requires
-    slice-read-base
-    loop-holds
-    add-tables
-    mul-tables
-    slice-write-tables
-    statement-count-requires
-    bytes-for-requires
-    add_total
-    add-m
-    loop-less
-    loop-again
-    same_length
+    invariant-loop-m
+    decreases-loop-m
+    header_of-h-requires
+    bounds-tables-9
+    loop-m-init
+    overflow_add-tables
+    offset_bounds-tables-base
+    bounds-tables-base
+    statement_count-requires
+    bytes_for-total-requires
+    overflow_add-total
+    overflow_add-m
+    loop-m-smaller
+    loop-m-preserved
+    shape_of-tables
     returns)

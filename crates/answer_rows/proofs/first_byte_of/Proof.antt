@@ -7,21 +7,26 @@ use lib.ListN.{length, get_or}
 use Rattle.answer_rows.proofs.first_byte_of.Statement.{statement}
 use Rattle.answer_rows.proofs.first_byte_of.Tie as tie
 
-section-requires : tie.Need-section-requires
-section-requires c κs = inside c.before.before.requires.0.laid 9 (omega arith)
+section-bytes-requires : tie.Need-section-bytes-requires
+section-bytes-requires c κs = inside c.requires.0.laid 9 (omega arith)
 
-mul-result : tie.Need-overflow-mul-result
+offset_bounds-bytes-i : tie.Need-offset_bounds-bytes-i
 unfolding sizes
-mul-result c = let s = c.before.before.before in record { fits = omega (arith, s.requires.1, s.requires.0.laid.few, ends_inside s.requires.0.laid 9 (omega arith)) }
+offset_bounds-bytes-i c = record { fits = omega (arith, c.requires.1, c.requires.0.laid.few, ends_inside c.requires.0.laid 9 (omega arith)) }
 
-shared-slice-read-result : tie.Need-shared-slice-read-result
+bounds-bytes-i : tie.Need-bounds-bytes-i
 unfolding graph_in
-shared-slice-read-result c = let s = c.before.before.before.before in omega (arith, ap length c.before.section.ensures, s.requires.0.of_bytes.long, s.requires.1)
+bounds-bytes-i c = omega (arith, ap length c.section-bytes.ensures, c.requires.0.of_bytes.long, c.requires.1)
 
 returns : tie.Need-returns
 unfolding graph_in
-returns c = let s = c.before.before.before.before in ap (λ xs. get_or xs s.args.m.0 0) c.before.section.ensures ∙ s.requires.0.of_bytes.has _ s.requires.1
+returns c = ap (λ xs. get_or xs c.args.m.0 0) c.section-bytes.ensures ∙ c.requires.0.of_bytes.has _ c.requires.1
 
-pub first-byte-of-spec : {M : Type 1} → statement M
-first-byte-of-spec =
-    tie.close (tie.spec section-requires mul-result shared-slice-read-result returns)
+pub first_byte_of_spec : {M : Type 1} → statement M
+first_byte_of_spec =
+    tie.close
+    (tie.spec
+    section-bytes-requires
+    offset_bounds-bytes-i
+    bounds-bytes-i
+    returns)

@@ -6,99 +6,99 @@ use mathlib.Core.Path.{refl, ◌∙◌, sym}
 use Rattle.answer_rows.proofs.note_namespace_inclusion_reason.Statement.{statement}
 use Rattle.answer_rows.proofs.note_namespace_inclusion_reason.Tie as tie
 
-is-bypassed-inlined-constant-requires : tie.Need-is-bypassed-inlined-constant-requires
-is-bypassed-inlined-constant-requires c κs = (c.before.before.before.requires.0, c.before.before.before.requires.1.0)
+is_bypassed_inlined_constant-requires : tie.Need-is_bypassed_inlined_constant-requires
+is_bypassed_inlined_constant-requires c κs = (c.requires.0, c.requires.1.0)
 
-returns : tie.Need-returns
-returns c = λ j. set-none j _ _ (reason_none _ _ _ (sym c.before.is-bypassed-inlined-constant.ensures ∙ c.if1.true))
+returns-then-is_bypassed_inlined_constant : tie.Need-returns-then-is_bypassed_inlined_constant
+returns-then-is_bypassed_inlined_constant c = λ j. set-none j _ _ (reason_none _ _ _ (sym c.is_bypassed_inlined_constant.ensures ∙ c.if-is_bypassed_inlined_constant.true))
 
-target-of-requires : tie.Need-target-of-requires
-target-of-requires c κs = (c.before.before.before.before.before.requires.0.loaded, c.before.before.before.before.before.requires.1.0)
+target_of-t-requires : tie.Need-target_of-t-requires
+target_of-t-requires c κs = (c.requires.0.loaded, c.requires.1.0)
 
-is-namespace-requires : tie.Need-is-namespace-requires
-is-namespace-requires c κs = (c.before.before.before.before.before.before.requires.0.loaded, c.target-of.ensures.1)
+is_namespace-requires : tie.Need-is_namespace-requires
+is_namespace-requires c κs = (c.requires.0.loaded, c.target_of-t.ensures.1)
 
-returns-2 : tie.Need-returns-2
-returns-2 c = λ j. set-none j _ _ (reason_other _ _ _ _ c.before.before.target-of.ensures.0 (sym c.before.is-namespace.ensures ∙ not_true _ c.if2.true) (sym c.before.before.before.before.is-bypassed-inlined-constant.ensures ∙ c.before.before.before.if1.false))
+returns-then-not-is_namespace : tie.Need-returns-then-not-is_namespace
+returns-then-not-is_namespace c = λ j. set-none j _ _ (reason_other _ _ _ _ c.target_of-t.ensures.0 (sym c.is_namespace.ensures ∙ not_true _ c.if-not-is_namespace.true) (sym c.is_bypassed_inlined_constant.ensures ∙ c.if-is_bypassed_inlined_constant.false))
 
-owner-requires : tie.Need-owner-requires
-owner-requires c κs = (c.before.before.before.before.before.before.before.before.requires.0.loaded, c.before.before.target-of.ensures.1)
+owner-owner-requires : tie.Need-owner-owner-requires
+owner-owner-requires c κs = (c.requires.0.loaded, c.target_of-t.ensures.1)
 
 flag-requires : tie.Need-flag-requires
 flag-requires c κs = omega arith
 
-mul-set : tie.Need-overflow-mul-set
-mul-set c = record { fits = omega (arith, c.before.before.before.before.owner.ensures.1, c.before.before.before.before.before.before.before.before.before.before.before.before.before.requires.0.loaded.few_modules) }
+overflow_mul-owner : tie.Need-overflow_mul-owner
+overflow_mul-owner c = record { fits = omega (arith, c.owner-owner.ensures.1, c.requires.0.loaded.few_modules) }
 
 set-requires : tie.Need-set-requires
-set-requires c κs = omega (arith, c.before.before.before.before.owner.ensures.1, c.before.before.before.before.before.before.before.before.before.before.before.before.before.requires.1.1)
+set-requires c κs = omega (arith, c.owner-owner.ensures.1, c.requires.1.1)
 
-same_length : tie.Need-same-length
-same_length c = c.before.before.set.auto.0
+shape_of-bits-then-flag : tie.Need-shape_of-bits-then-flag
+shape_of-bits-then-flag c = c.set.auto.0
 
-returns-3 : tie.Need-returns-3
-returns-3 c = λ j. set-one j _ _ _ _ _ (reason_first _ _ _ _ _ c.before.before.before.before.before.before.before.before.before.before.target-of.ensures.0 c.before.before.before.before.before.before.before.owner.ensures.0 (sym c.before.before.before.before.before.before.flag.ensures ∙ c.before.before.before.before.before.if3.true) (sym c.before.before.before.before.before.before.before.before.before.is-namespace.ensures ∙ not-false _ c.before.before.before.before.before.before.before.before.if2.false) (sym c.before.before.before.before.before.before.before.before.before.before.before.before.is-bypassed-inlined-constant.ensures ∙ c.before.before.before.before.before.before.before.before.before.before.before.if1.false)) refl (c.before.before.set.ensures j)
+returns-then-flag : tie.Need-returns-then-flag
+returns-then-flag c = λ j. set-one j _ _ _ _ _ (reason_first _ _ _ _ _ c.target_of-t.ensures.0 c.owner-owner.ensures.0 (sym c.flag.ensures ∙ c.if-flag.true) (sym c.is_namespace.ensures ∙ not-false _ c.if-not-is_namespace.false) (sym c.is_bypassed_inlined_constant.ensures ∙ c.if-is_bypassed_inlined_constant.false)) refl (c.set.ensures j)
 
 flag-requires-2 : tie.Need-flag-requires-2
 flag-requires-2 c κs = omega arith
 
-mul-set-2 : tie.Need-overflow-mul-set-2
-mul-set-2 c = record { fits = omega (arith, c.before.before.before.before.before.before.owner.ensures.1, c.before.before.before.before.before.before.before.before.before.before.before.before.before.before.before.requires.0.loaded.few_modules) }
+overflow_mul-owner-then-flag-2 : tie.Need-overflow_mul-owner-then-flag-2
+overflow_mul-owner-then-flag-2 c = record { fits = omega (arith, c.owner-owner.ensures.1, c.requires.0.loaded.few_modules) }
 
-set-requires-2 : tie.Need-set-requires-2
-set-requires-2 c κs = omega (arith, c.before.before.before.before.before.before.owner.ensures.1, c.before.before.before.before.before.before.before.before.before.before.before.before.before.before.before.requires.1.1)
+set-requires-then-flag-2 : tie.Need-set-requires-then-flag-2
+set-requires-then-flag-2 c κs = omega (arith, c.owner-owner.ensures.1, c.requires.1.1)
 
-same-length-2 : tie.Need-same-length-2
-same-length-2 c = c.before.before.set2.auto.0
+shape_of-bits-then-flag-2 : tie.Need-shape_of-bits-then-flag-2
+shape_of-bits-then-flag-2 c = c.set-then-flag-2.auto.0
 
-returns-4 : tie.Need-returns-4
-returns-4 c = λ j. set-one j _ _ _ _ _ (reason_second _ _ _ _ _ c.before.before.before.before.before.before.before.before.before.before.before.before.target-of.ensures.0 c.before.before.before.before.before.before.before.before.before.owner.ensures.0 (sym c.before.before.before.before.before.before.flag2.ensures ∙ c.before.before.before.before.before.if4.true) (sym c.before.before.before.before.before.before.before.before.flag.ensures ∙ c.before.before.before.before.before.before.before.if3.false) (sym c.before.before.before.before.before.before.before.before.before.before.before.is-namespace.ensures ∙ not-false _ c.before.before.before.before.before.before.before.before.before.before.if2.false) (sym c.before.before.before.before.before.before.before.before.before.before.before.before.before.before.is-bypassed-inlined-constant.ensures ∙ c.before.before.before.before.before.before.before.before.before.before.before.before.before.if1.false)) refl (c.before.before.set2.ensures j)
+returns-then-flag-2 : tie.Need-returns-then-flag-2
+returns-then-flag-2 c = λ j. set-one j _ _ _ _ _ (reason_second _ _ _ _ _ c.target_of-t.ensures.0 c.owner-owner.ensures.0 (sym c.flag-2.ensures ∙ c.if-flag-2.true) (sym c.flag.ensures ∙ c.if-flag.false) (sym c.is_namespace.ensures ∙ not-false _ c.if-not-is_namespace.false) (sym c.is_bypassed_inlined_constant.ensures ∙ c.if-is_bypassed_inlined_constant.false)) refl (c.set-then-flag-2.ensures j)
 
 flag-requires-3 : tie.Need-flag-requires-3
 flag-requires-3 c κs = omega arith
 
-mul-set-3 : tie.Need-overflow-mul-set-3
-mul-set-3 c = record { fits = omega (arith, c.before.before.before.before.before.before.before.before.owner.ensures.1, c.before.before.before.before.before.before.before.before.before.before.before.before.before.before.before.before.before.requires.0.loaded.few_modules) }
+overflow_mul-owner-then-flag-3 : tie.Need-overflow_mul-owner-then-flag-3
+overflow_mul-owner-then-flag-3 c = record { fits = omega (arith, c.owner-owner.ensures.1, c.requires.0.loaded.few_modules) }
 
-add-set : tie.Need-overflow-add-set
-add-set c = record { fits = omega (arith, c.before.before.before.before.before.before.before.before.owner.ensures.1, c.before.before.before.before.before.before.before.before.before.before.before.before.before.before.before.before.before.requires.0.loaded.few_modules) }
+overflow_add-owner : tie.Need-overflow_add-owner
+overflow_add-owner c = record { fits = omega (arith, c.owner-owner.ensures.1, c.requires.0.loaded.few_modules) }
 
-set-requires-3 : tie.Need-set-requires-3
-set-requires-3 c κs = omega (arith, c.before.before.before.before.before.before.before.before.owner.ensures.1, c.before.before.before.before.before.before.before.before.before.before.before.before.before.before.before.before.before.requires.1.1)
+set-requires-then-flag-3 : tie.Need-set-requires-then-flag-3
+set-requires-then-flag-3 c κs = omega (arith, c.owner-owner.ensures.1, c.requires.1.1)
 
-same-length-3 : tie.Need-same-length-3
-same-length-3 c = c.before.before.set3.auto.0
+shape_of-bits : tie.Need-shape_of-bits
+shape_of-bits c = c.set-then-flag-3.auto.0
 
-returns-5 : tie.Need-returns-5
-returns-5 c = λ j. set-one j _ _ _ _ _ (reason_third _ _ _ _ _ c.before.before.before.before.before.before.before.before.before.before.before.before.before.before.target-of.ensures.0 c.before.before.before.before.before.before.before.before.before.before.before.owner.ensures.0 (sym c.before.before.before.before.before.before.flag3.ensures ∙ c.before.before.before.before.before.if5.true) (sym c.before.before.before.before.before.before.before.before.flag2.ensures ∙ c.before.before.before.before.before.before.before.if4.false) (sym c.before.before.before.before.before.before.before.before.before.before.flag.ensures ∙ c.before.before.before.before.before.before.before.before.before.if3.false) (sym c.before.before.before.before.before.before.before.before.before.before.before.before.before.is-namespace.ensures ∙ not-false _ c.before.before.before.before.before.before.before.before.before.before.before.before.if2.false) (sym c.before.before.before.before.before.before.before.before.before.before.before.before.before.before.before.before.is-bypassed-inlined-constant.ensures ∙ c.before.before.before.before.before.before.before.before.before.before.before.before.before.before.before.if1.false)) refl (c.before.before.set3.ensures j)
+returns-then-flag-3 : tie.Need-returns-then-flag-3
+returns-then-flag-3 c = λ j. set-one j _ _ _ _ _ (reason_third _ _ _ _ _ c.target_of-t.ensures.0 c.owner-owner.ensures.0 (sym c.flag-3.ensures ∙ c.if-flag-3.true) (sym c.flag-2.ensures ∙ c.if-flag-2.false) (sym c.flag.ensures ∙ c.if-flag.false) (sym c.is_namespace.ensures ∙ not-false _ c.if-not-is_namespace.false) (sym c.is_bypassed_inlined_constant.ensures ∙ c.if-is_bypassed_inlined_constant.false)) refl (c.set-then-flag-3.ensures j)
 
-returns-6 : tie.Need-returns-6
-returns-6 c = λ j. set-none j _ _ (reason_no _ _ _ _ _ c.before.before.before.before.before.before.before.before.before.target-of.ensures.0 c.before.before.before.before.before.before.owner.ensures.0 (sym c.before.flag3.ensures ∙ c.if5.false) (sym c.before.before.before.flag2.ensures ∙ c.before.before.if4.false) (sym c.before.before.before.before.before.flag.ensures ∙ c.before.before.before.before.if3.false) (sym c.before.before.before.before.before.before.before.before.is-namespace.ensures ∙ not-false _ c.before.before.before.before.before.before.before.if2.false) (sym c.before.before.before.before.before.before.before.before.before.before.before.is-bypassed-inlined-constant.ensures ∙ c.before.before.before.before.before.before.before.before.before.before.if1.false))
+returns-else-flag-3 : tie.Need-returns-else-flag-3
+returns-else-flag-3 c = λ j. set-none j _ _ (reason_no _ _ _ _ _ c.target_of-t.ensures.0 c.owner-owner.ensures.0 (sym c.flag-3.ensures ∙ c.if-flag-3.false) (sym c.flag-2.ensures ∙ c.if-flag-2.false) (sym c.flag.ensures ∙ c.if-flag.false) (sym c.is_namespace.ensures ∙ not-false _ c.if-not-is_namespace.false) (sym c.is_bypassed_inlined_constant.ensures ∙ c.if-is_bypassed_inlined_constant.false))
 
-pub note-namespace-inclusion-reason-spec : {M : Type 1} → statement M
-note-namespace-inclusion-reason-spec =
+pub note_namespace_inclusion_reason_spec : {M : Type 1} → statement M
+note_namespace_inclusion_reason_spec =
     tie.close
     (tie.spec
-    is-bypassed-inlined-constant-requires
-    returns
-    target-of-requires
-    is-namespace-requires
-    returns-2
-    owner-requires
+    is_bypassed_inlined_constant-requires
+    returns-then-is_bypassed_inlined_constant
+    target_of-t-requires
+    is_namespace-requires
+    returns-then-not-is_namespace
+    owner-owner-requires
     flag-requires
-    mul-set
+    overflow_mul-owner
     set-requires
-    same_length
-    returns-3
+    shape_of-bits-then-flag
+    returns-then-flag
     flag-requires-2
-    mul-set-2
-    set-requires-2
-    same-length-2
-    returns-4
+    overflow_mul-owner-then-flag-2
+    set-requires-then-flag-2
+    shape_of-bits-then-flag-2
+    returns-then-flag-2
     flag-requires-3
-    mul-set-3
-    add-set
-    set-requires-3
-    same-length-3
-    returns-5
-    returns-6)
+    overflow_mul-owner-then-flag-3
+    overflow_add-owner
+    set-requires-then-flag-3
+    shape_of-bits
+    returns-then-flag-3
+    returns-else-flag-3)

@@ -8,84 +8,84 @@ use borrow.Author.Rules.{rules}
 use Rattle.answer_rows.proofs.row_bytes.Statement.{statement}
 use Rattle.answer_rows.proofs.row_bytes.Tie as tie
 
-header-of-requires : tie.Need-header-of-requires
-header-of-requires c κs = c.before.before.requires.0.long
+header_of-h-requires : tie.Need-header_of-h-requires
+header_of-h-requires c κs = c.requires.0.long
 
-enum_told : tie.Need-enum-told
-enum_told c = search rules
+enum_told-1 : tie.Need-enum_told-1
+enum_told-1 c = search rules
 
-bytes-for-requires : tie.Need-bytes-for-requires
-bytes-for-requires c κs = omega (arith, ap (λ (h : Header). h.modules) c.before.before.header_of.ensures, c.before.before.before.before.before.requires.0.few_modules)
+bytes_for-requires : tie.Need-bytes_for-requires
+bytes_for-requires c κs = omega (arith, ap (λ (h : Header). h.modules) c.header_of-h.ensures, c.requires.0.few_modules)
 
-enum-told-2 : tie.Need-enum-told-2
-enum-told-2 c = search rules
+enum_told-in-Statements : tie.Need-enum_told-in-Statements
+enum_told-in-Statements c = search rules
 
-statement-bytes-requires : tie.Need-statement-bytes-requires
-statement-bytes-requires c κs = c.before.before.before.before.before.requires
+statement_bytes-requires : tie.Need-statement_bytes-requires
+statement_bytes-requires c κs = c.requires
 
-enum-told-3 : tie.Need-enum-told-3
-enum-told-3 c = search rules
+enum_told-in-Used : tie.Need-enum_told-in-Used
+enum_told-in-Used c = search rules
 
-bytes-for-requires-2 : tie.Need-bytes-for-requires-2
-bytes-for-requires-2 c κs = omega (arith, ap (λ (h : Header). h.symbols) c.before.before.header_of.ensures, c.before.before.before.before.before.requires.0.few_symbols)
+bytes_for-requires-in-Used : tie.Need-bytes_for-requires-in-Used
+bytes_for-requires-in-Used c κs = omega (arith, ap (λ (h : Header). h.symbols) c.header_of-h.ensures, c.requires.0.few_symbols)
 
-enum-told-4 : tie.Need-enum-told-4
-enum-told-4 c = search rules
+enum_told-in-External : tie.Need-enum_told-in-External
+enum_told-in-External c = search rules
 
-bytes-for-requires-3 : tie.Need-bytes-for-requires-3
-bytes-for-requires-3 c κs = omega (arith, ap (λ (h : Header). h.symbols) c.before.before.header_of.ensures, c.before.before.before.before.before.requires.0.few_symbols)
+bytes_for-requires-in-External : tie.Need-bytes_for-requires-in-External
+bytes_for-requires-in-External c κs = omega (arith, ap (λ (h : Header). h.symbols) c.header_of-h.ensures, c.requires.0.few_symbols)
 
-enum-told-5 : tie.Need-enum-told-5
-enum-told-5 c = search rules
+enum_told-in-Json : tie.Need-enum_told-in-Json
+enum_told-in-Json c = search rules
 
-bytes-for-requires-4 : tie.Need-bytes-for-requires-4
-bytes-for-requires-4 c κs = omega (arith, ap (λ (h : Header). h.symbols) c.before.before.header_of.ensures, c.before.before.before.before.before.requires.0.few_symbols)
+bytes_for-requires-in-Json : tie.Need-bytes_for-requires-in-Json
+bytes_for-requires-in-Json c κs = omega (arith, ap (λ (h : Header). h.symbols) c.header_of-h.ensures, c.requires.0.few_symbols)
 
-enum-told-6 : tie.Need-enum-told-6
-enum-told-6 c = search rules
+enum_told-in-NamespaceReason : tie.Need-enum_told-in-NamespaceReason
+enum_told-in-NamespaceReason c = search rules
 
-returns : tie.Need-returns
+returns-in-Modules : tie.Need-returns-in-Modules
 unfolding graph_in
-returns c = c.bytes-for.ensures ∙ ap (λ (h : Header). bytes_for h.modules) c.before.before.before.header_of.ensures ∙ sym (modules_bytes _ _ c.before.enum_told.given.1)
+returns-in-Modules c = c.bytes_for.ensures ∙ ap (λ (h : Header). bytes_for h.modules) c.header_of-h.ensures ∙ sym (modules_bytes _ _ c.in-Modules.is)
 
-returns-2 : tie.Need-returns-2
-returns-2 c = c.statement_bytes.ensures ∙ sym (statements_bytes _ _ c.before.enum-told2.given.1)
+returns-in-Statements : tie.Need-returns-in-Statements
+returns-in-Statements c = c.statement_bytes.ensures ∙ sym (statements_bytes _ _ c.in-Statements.is)
 
-returns-3 : tie.Need-returns-3
+returns-in-Used : tie.Need-returns-in-Used
 unfolding graph_in
-returns-3 c = c.bytes-for2.ensures ∙ ap (λ (h : Header). bytes_for h.symbols) c.before.before.before.header_of.ensures ∙ sym (used_bytes _ _ c.before.enum-told3.given.1)
+returns-in-Used c = c.bytes_for-in-Used.ensures ∙ ap (λ (h : Header). bytes_for h.symbols) c.header_of-h.ensures ∙ sym (used_bytes _ _ c.in-Used.is)
 
-returns-4 : tie.Need-returns-4
+returns-in-External : tie.Need-returns-in-External
 unfolding graph_in
-returns-4 c = c.bytes-for3.ensures ∙ ap (λ (h : Header). bytes_for h.symbols) c.before.before.before.header_of.ensures ∙ sym (external_bytes _ _ c.before.enum-told4.given.1)
+returns-in-External c = c.bytes_for-in-External.ensures ∙ ap (λ (h : Header). bytes_for h.symbols) c.header_of-h.ensures ∙ sym (external_bytes _ _ c.in-External.is)
 
-returns-5 : tie.Need-returns-5
+returns-in-Json : tie.Need-returns-in-Json
 unfolding graph_in
-returns-5 c = c.bytes-for4.ensures ∙ ap (λ (h : Header). bytes_for h.symbols) c.before.before.before.header_of.ensures ∙ sym (json_bytes _ _ c.before.enum-told5.given.1)
+returns-in-Json c = c.bytes_for-in-Json.ensures ∙ ap (λ (h : Header). bytes_for h.symbols) c.header_of-h.ensures ∙ sym (json_bytes _ _ c.in-Json.is)
 
-returns-6 : tie.Need-returns-6
+returns-in-NamespaceReason : tie.Need-returns-in-NamespaceReason
 unfolding graph_in
-returns-6 c = ap (λ (h : Header). h.modules) c.before.before.header_of.ensures ∙ sym (reasons_bytes _ _ c.enum-told6.given.1)
+returns-in-NamespaceReason c = ap (λ (h : Header). h.modules) c.header_of-h.ensures ∙ sym (reasons_bytes _ _ c.in-NamespaceReason.is)
 
-pub row-bytes-spec : {M : Type 1} → statement M
-row-bytes-spec =
+pub row_bytes_spec : {M : Type 1} → statement M
+row_bytes_spec =
     tie.close
     (tie.spec
-    header-of-requires
-    enum_told
-    bytes-for-requires
-    enum-told-2
-    statement-bytes-requires
-    enum-told-3
-    bytes-for-requires-2
-    enum-told-4
-    bytes-for-requires-3
-    enum-told-5
-    bytes-for-requires-4
-    enum-told-6
-    returns
-    returns-2
-    returns-3
-    returns-4
-    returns-5
-    returns-6)
+    header_of-h-requires
+    enum_told-1
+    bytes_for-requires
+    enum_told-in-Statements
+    statement_bytes-requires
+    enum_told-in-Used
+    bytes_for-requires-in-Used
+    enum_told-in-External
+    bytes_for-requires-in-External
+    enum_told-in-Json
+    bytes_for-requires-in-Json
+    enum_told-in-NamespaceReason
+    returns-in-Modules
+    returns-in-Statements
+    returns-in-Used
+    returns-in-External
+    returns-in-Json
+    returns-in-NamespaceReason)

@@ -6,45 +6,43 @@ use Rattle.answer_rows.proofs.show_all.Statement.{statement}
 use Rattle.answer_rows.proofs.show_all.Tie as tie
 
 -- the places after the three calls
-abbrev second : tie.After-slice-known24 → tie.After-show-lines2
+abbrev second : tie.After-slice_known-24-1 → tie.After-show_lines-2
 second c = c.before.before.before.before.before.before.before.before.before.before.before.before
 
-abbrev first : tie.After-slice-known24 → tie.After-show-lines
+abbrev first : tie.After-slice_known-24-1 → tie.After-show_lines
 first c = (second c).before.before.before.before.before.before.before.before.before.before.before.before.before.before.before.before.before.before.before
 
-abbrev clear : tie.After-slice-known24 → tie.After-clear-rows
+abbrev clear : tie.After-slice_known-24-1 → tie.After-clear_rows
 clear c = (first c).before.before.before.before.before.before.before.before.before.before.before.before.before.before.before.before.before.before.before
 
-clear-rows-requires : tie.Need-clear-rows-requires
-clear-rows-requires c κs = let s = c.before.before.before.before.before.before.before.before.before.before.before.before.before.before.before in ((s.requires.0.0.loaded, s.requires.0.1), s.requires.1.0)
+clear_rows-requires : tie.Need-clear_rows-requires
+clear_rows-requires c κs = ((c.requires.0.0.loaded, c.requires.0.1), c.requires.1.0)
 
-show-lines-requires : tie.Need-show-lines-requires
-show-lines-requires c κs =
-    let s = c.before.before.before.before.before.before.before.before.before.before.before.before.before.before.before.before.before.before.before.before.before.before.before.before.before.before.before.before.before.before.before.before.before.before in
-    (s.requires.0, (still_enough _ _ _ (same_lengths _ _ c.before.before.before.before.before.before.before.before.before.before.before.before.before.before.before.before.before.before.clear-rows.auto.1.1) s.requires.1.0, (omega arith, omega (arith, s.requires.1.1.0, s.requires.1.1.1), λ k l. s.requires.1.1.2 k (omega (arith, l, s.requires.1.1.0)))))
+show_lines-requires : tie.Need-show_lines-requires
+show_lines-requires c κs =
+    (c.requires.0, (still_enough _ _ _ (same_lengths _ _ c.clear_rows.auto.1.1) c.requires.1.0, (omega arith, omega (arith, c.requires.1.1.0, c.requires.1.1.1), λ k l. c.requires.1.1.2 k (omega (arith, l, c.requires.1.1.0)))))
 
-show-lines-requires-2 : tie.Need-show-lines-requires-2
-show-lines-requires-2 c κs =
-    let s = c.before.before.before.before.before.before.before.before.before.before.before.before.before.before.before.before.before.before.before.before.before.before.before.before.before.before.before.before.before.before.before.before.before.before.before.before.before.before.before.before.before.before.before.before.before.before.before.before.before.before.before.before.before in
-    (s.requires.0, (still_enough _ _ _ (same_lengths _ _ c.before.before.before.before.before.before.before.before.before.before.before.before.before.before.before.before.before.before.show-lines.auto.1.1.1.1.1.1 ∙ same_lengths _ _ c.before.before.before.before.before.before.before.before.before.before.before.before.before.before.before.before.before.before.before.before.before.before.before.before.before.before.before.before.before.before.before.before.before.before.before.before.before.clear-rows.auto.1.1) s.requires.1.0, s.requires.1.1))
+show_lines-requires-2 : tie.Need-show_lines-requires-2
+show_lines-requires-2 c κs =
+    (c.requires.0, (still_enough _ _ _ (same_lengths _ _ c.show_lines.auto.1.1.1.1.1.1 ∙ same_lengths _ _ c.clear_rows.auto.1.1) c.requires.1.0, c.requires.1.1))
 
-same_length : tie.Need-same-length
-same_length c = (second c).show-lines2.auto.1.1.1.1.1.1.0 ∙ (first c).show-lines.auto.1.1.1.1.1.1.0 ∙ (clear c).clear-rows.auto.1.1.0
+shape_of-modules_row : tie.Need-shape_of-modules_row
+shape_of-modules_row c = (second c).show-lines2.auto.1.1.1.1.1.1.0 ∙ (first c).show-lines.auto.1.1.1.1.1.1.0 ∙ (clear c).clear-rows.auto.1.1.0
 
-same-length-2 : tie.Need-same-length-2
-same-length-2 c = (second c).show-lines2.auto.1.1.1.1.1.1.1.0 ∙ (first c).show-lines.auto.1.1.1.1.1.1.1.0 ∙ (clear c).clear-rows.auto.1.1.1.0
+shape_of-statements_row : tie.Need-shape_of-statements_row
+shape_of-statements_row c = (second c).show-lines2.auto.1.1.1.1.1.1.1.0 ∙ (first c).show-lines.auto.1.1.1.1.1.1.1.0 ∙ (clear c).clear-rows.auto.1.1.1.0
 
-same-length-3 : tie.Need-same-length-3
-same-length-3 c = (second c).show-lines2.auto.1.1.1.1.1.1.1.1.0 ∙ (first c).show-lines.auto.1.1.1.1.1.1.1.1.0 ∙ (clear c).clear-rows.auto.1.1.1.1.0
+shape_of-used : tie.Need-shape_of-used
+shape_of-used c = (second c).show-lines2.auto.1.1.1.1.1.1.1.1.0 ∙ (first c).show-lines.auto.1.1.1.1.1.1.1.1.0 ∙ (clear c).clear-rows.auto.1.1.1.1.0
 
-same-length-4 : tie.Need-same-length-4
-same-length-4 c = (second c).show-lines2.auto.1.1.1.1.1.1.1.1.1.0 ∙ (first c).show-lines.auto.1.1.1.1.1.1.1.1.1.0 ∙ (clear c).clear-rows.auto.1.1.1.1.1.0
+shape_of-external : tie.Need-shape_of-external
+shape_of-external c = (second c).show-lines2.auto.1.1.1.1.1.1.1.1.1.0 ∙ (first c).show-lines.auto.1.1.1.1.1.1.1.1.1.0 ∙ (clear c).clear-rows.auto.1.1.1.1.1.0
 
-same-length-5 : tie.Need-same-length-5
-same-length-5 c = (second c).show-lines2.auto.1.1.1.1.1.1.1.1.1.1.0 ∙ (first c).show-lines.auto.1.1.1.1.1.1.1.1.1.1.0 ∙ (clear c).clear-rows.auto.1.1.1.1.1.1.0
+shape_of-json : tie.Need-shape_of-json
+shape_of-json c = (second c).show-lines2.auto.1.1.1.1.1.1.1.1.1.1.0 ∙ (first c).show-lines.auto.1.1.1.1.1.1.1.1.1.1.0 ∙ (clear c).clear-rows.auto.1.1.1.1.1.1.0
 
-same-length-6 : tie.Need-same-length-6
-same-length-6 c = (second c).show-lines2.auto.1.1.1.1.1.1.1.1.1.1.1.0 ∙ (first c).show-lines.auto.1.1.1.1.1.1.1.1.1.1.1.0 ∙ (clear c).clear-rows.auto.1.1.1.1.1.1.1.0
+shape_of-reason : tie.Need-shape_of-reason
+shape_of-reason c = (second c).show-lines2.auto.1.1.1.1.1.1.1.1.1.1.1.0 ∙ (first c).show-lines.auto.1.1.1.1.1.1.1.1.1.1.1.0 ∙ (clear c).clear-rows.auto.1.1.1.1.1.1.1.0
 
 returns : tie.Need-returns
 returns c =
@@ -53,12 +51,12 @@ returns c =
     rows_shown s.pre.0.0.loaded _ _ _ _ _ _ _ s.pre.1.1.0 s.pre.1.1.2 (fits _ _ s.pre.1.0)
     (same_lengths _ _ (second c).show-lines2.auto.1.1.1.1.1.1 ∙ same_lengths _ _ (first c).show-lines.auto.1.1.1.1.1.1 ∙ same_lengths _ _ (clear c).clear-rows.auto.1.1)
     (record {
-      modules_small = λ n. (c.before.before.before.before.before.before.before.before.before.before.slice-known19.given n).fits;
-      statements_small = λ n. (c.before.before.before.before.before.before.before.before.slice-known20.given n).fits;
-      used_small = λ n. (c.before.before.before.before.before.before.slice-known21.given n).fits;
-      external_small = λ n. (c.before.before.before.before.slice-known22.given n).fits;
-      json_small = λ n. (c.before.before.slice-known23.given n).fits;
-      reason_small = λ n. (c.slice-known24.given n).fits;
+      modules_small = λ n. (c.slice_known-19-1.given n).fits;
+      statements_small = λ n. (c.slice_known-20-1.given n).fits;
+      used_small = λ n. (c.slice_known-21-1.given n).fits;
+      external_small = λ n. (c.slice_known-22-1.given n).fits;
+      json_small = λ n. (c.slice_known-23-1.given n).fits;
+      reason_small = λ n. (c.slice_known-24-1.given n).fits;
     })
     (record {
       modules_small = λ n. (lent.before.before.before.before.before.slice-known.given n).fits;
@@ -70,17 +68,17 @@ returns c =
     })
     (clear c).clear-rows.ensures (first c).show-lines.ensures (second c).show-lines2.ensures
 
-pub show-all-spec : {M : Type 1} → statement M
-show-all-spec =
+pub show_all_spec : {M : Type 1} → statement M
+show_all_spec =
     tie.close
     (tie.spec
-    clear-rows-requires
-    show-lines-requires
-    show-lines-requires-2
-    same_length
-    same-length-2
-    same-length-3
-    same-length-4
-    same-length-5
-    same-length-6
+    clear_rows-requires
+    show_lines-requires
+    show_lines-requires-2
+    shape_of-modules_row
+    shape_of-statements_row
+    shape_of-used
+    shape_of-external
+    shape_of-json
+    shape_of-reason
     returns)

@@ -5,35 +5,35 @@ use mathlib.Core.Path.{◌∙◌, sym}
 use Rattle.answer_rows.proofs.show_external.Statement.{statement}
 use Rattle.answer_rows.proofs.show_external.Tie as tie
 
-is-bypassed-inlined-constant-requires : tie.Need-is-bypassed-inlined-constant-requires
-is-bypassed-inlined-constant-requires c κs = (c.before.before.before.requires.0, c.before.before.before.requires.1.0)
+is_bypassed_inlined_constant-requires : tie.Need-is_bypassed_inlined_constant-requires
+is_bypassed_inlined_constant-requires c κs = (c.requires.0, c.requires.1.0)
+
+returns-then-is_bypassed_inlined_constant : tie.Need-returns-then-is_bypassed_inlined_constant
+returns-then-is_bypassed_inlined_constant c = λ j. set-none j _ _ (external_none _ _ _ (sym c.is_bypassed_inlined_constant.ensures ∙ c.if-is_bypassed_inlined_constant.true))
+
+target_of-requires : tie.Need-target_of-requires
+target_of-requires c κs = (c.requires.0.loaded, c.requires.1.0)
+
+show_if_external-requires : tie.Need-show_if_external-requires
+show_if_external-requires c κs = (c.requires.0, (c.target_of.ensures.1, c.requires.1.1))
+
+show_if_external-requires-2 : tie.Need-show_if_external-requires-2
+show_if_external-requires-2 c κs = (c.requires.0, (c.requires.1.0, omega (arith, c.requires.1.1, c.show_if_external.auto.1.1.1.0)))
+
+shape_of-bits : tie.Need-shape_of-bits
+shape_of-bits c = c.show_if_external-2.auto.1.1.1.0 ∙ c.show_if_external.auto.1.1.1.0
 
 returns : tie.Need-returns
-returns c = λ j. set-none j _ _ (external_none _ _ _ (sym c.before.is-bypassed-inlined-constant.ensures ∙ c.if1.true))
+returns c = λ j. set_both j _ _ _ _ _ _ (external_these _ _ _ _ c.target_of.ensures.0 (sym c.is_bypassed_inlined_constant.ensures ∙ c.if-is_bypassed_inlined_constant.false)) (c.show_if_external.ensures j) (c.show_if_external-2.ensures j)
 
-target-of-requires : tie.Need-target-of-requires
-target-of-requires c κs = (c.before.before.before.before.before.requires.0.loaded, c.before.before.before.before.before.requires.1.0)
-
-show-if-external-requires : tie.Need-show-if-external-requires
-show-if-external-requires c κs = (c.before.before.before.before.before.before.before.requires.0, (c.before.target-of.ensures.1, c.before.before.before.before.before.before.before.requires.1.1))
-
-show-if-external-requires-2 : tie.Need-show-if-external-requires-2
-show-if-external-requires-2 c κs = (c.before.before.before.before.before.before.before.before.before.before.before.requires.0, (c.before.before.before.before.before.before.before.before.before.before.before.requires.1.0, omega (arith, c.before.before.before.before.before.before.before.before.before.before.before.requires.1.1, c.before.before.before.show-if-external.auto.1.1.1.0)))
-
-same_length : tie.Need-same-length
-same_length c = c.before.before.show-if-external2.auto.1.1.1.0 ∙ c.before.before.before.before.before.before.show-if-external.auto.1.1.1.0
-
-returns-2 : tie.Need-returns-2
-returns-2 c = λ j. set_both j _ _ _ _ _ _ (external_these _ _ _ _ c.before.before.before.before.before.before.before.before.target-of.ensures.0 (sym c.before.before.before.before.before.before.before.before.before.before.is-bypassed-inlined-constant.ensures ∙ c.before.before.before.before.before.before.before.before.before.if1.false)) (c.before.before.before.before.before.before.show-if-external.ensures j) (c.before.before.show-if-external2.ensures j)
-
-pub show-external-spec : {M : Type 1} → statement M
-show-external-spec =
+pub show_external_spec : {M : Type 1} → statement M
+show_external_spec =
     tie.close
     (tie.spec
-    is-bypassed-inlined-constant-requires
-    returns
-    target-of-requires
-    show-if-external-requires
-    show-if-external-requires-2
-    same_length
-    returns-2)
+    is_bypassed_inlined_constant-requires
+    returns-then-is_bypassed_inlined_constant
+    target_of-requires
+    show_if_external-requires
+    show_if_external-requires-2
+    shape_of-bits
+    returns)

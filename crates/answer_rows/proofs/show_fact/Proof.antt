@@ -10,108 +10,107 @@ use borrow.Author.Rules.{rules}
 use Rattle.answer_rows.proofs.show_fact.Statement.{statement}
 use Rattle.answer_rows.proofs.show_fact.Tie as tie
 
-enum-known-fact : tie.Need-enum-known-fact
-enum-known-fact c = search rules
+enum_known-fact : tie.Need-enum_known-fact
+enum_known-fact c = search rules
 
-show-module-requires : tie.Need-show-module-requires
+show_module-requires : tie.Need-show_module-requires
 unfolding graph_in
-show-module-requires c κs = let s = c.before.before.before.before.before.before.before.before.before.before.before.before.before in let w = wide _ _ s.requires.1.1 in (s.requires.0.0, ((good_module _ _ _ c.before.before.before.fact.given.1 s.requires.1.0).0, w.modules_wide, w.reason_wide))
+show_module-requires c κs = let w = wide _ _ c.requires.1.1 in (c.requires.0.0, ((good_module _ _ _ c.in-Module.is c.requires.1.0).0, w.modules_wide, w.reason_wide))
 
-enum-known-fact-2 : tie.Need-enum-known-fact-2
-enum-known-fact-2 c = search rules
+enum_known-fact-in-Statement-1 : tie.Need-enum_known-fact-in-Statement-1
+enum_known-fact-in-Statement-1 c = search rules
 
-first-byte-of-requires : tie.Need-first-byte-of-requires
+first_byte_of-requires : tie.Need-first_byte_of-requires
 unfolding graph_in
-first-byte-of-requires c κs = let s = c.before.before.before.before.before.before.before.before.before.before.before.before in (s.requires.0.1, (good_statement _ _ _ _ c.before.before.fact2.given.1 s.requires.1.0).0)
+first_byte_of-requires c κs = (c.requires.0.1, (good_statement _ _ _ _ c.in-Statement.is c.requires.1.0).0)
 
-set-in-part-requires : tie.Need-set-in-part-requires
+set_in_part-requires : tie.Need-set_in_part-requires
 unfolding graph_in statement_list
-set-in-part-requires c κs =
-    let s = c.before.before.before.before.before.before.before.before.before.before.before.before.before in
-    let w = (wide _ _ s.requires.1.1).statements_wide in
-    let h = good_statement _ _ _ _ c.before.before.before.fact2.given.1 s.requires.1.0 in
-    let i = statement_inside (graph_in s.args.numbers.now).statements _ (header_in s.args.numbers.now).modules _ h.0 h.1 in
-    (omega (arith, w, i, c.first-byte-of.ensures), omega (arith, w, i, c.first-byte-of.ensures))
+set_in_part-requires c κs =
+    let w = (wide _ _ c.requires.1.1).statements_wide in
+    let h = good_statement _ _ _ _ c.in-Statement.is c.requires.1.0 in
+    let i = statement_inside (graph_in c.args.numbers.now).statements _ (header_in c.args.numbers.now).modules _ h.0 h.1 in
+    (omega (arith, w, i, c.first_byte_of.ensures), omega (arith, w, i, c.first_byte_of.ensures))
 
-enum-known-fact-3 : tie.Need-enum-known-fact-3
-enum-known-fact-3 c = search rules
+enum_known-fact-in-Use-1 : tie.Need-enum_known-fact-in-Use-1
+enum_known-fact-in-Use-1 c = search rules
 
-show-use-requires : tie.Need-show-use-requires
+show_use-requires : tie.Need-show_use-requires
 unfolding graph_in
-show-use-requires c κs = let s = c.before.before.before.before.before.before.before.before.before.before.before.before.before.before.before in let w = wide _ _ s.requires.1.1 in (s.requires.0.0, ((good_use _ _ _ _ c.before.before.before.before.before.fact3.given.1 s.requires.1.0).0, (w.used_wide, w.external_wide, w.json_wide, w.reason_wide)))
+show_use-requires c κs = let w = wide _ _ c.requires.1.1 in (c.requires.0.0, ((good_use _ _ _ _ c.in-Use.is c.requires.1.0).0, (w.used_wide, w.external_wide, w.json_wide, w.reason_wide)))
 
-enum_told : tie.Need-enum-told
-enum_told c = search rules
+enum_told-1 : tie.Need-enum_told-1
+enum_told-1 c = search rules
 
-enum-told-2 : tie.Need-enum-told-2
-enum-told-2 c = search rules
+enum_told-in-Forward : tie.Need-enum_told-in-Forward
+enum_told-in-Forward c = search rules
 
-enum-told-3 : tie.Need-enum-told-3
-enum-told-3 c = search rules
+enum_told-in-Bailout : tie.Need-enum_told-in-Bailout
+enum_told-in-Bailout c = search rules
 
-same_length : tie.Need-same-length
-same_length c = c.before.before.before.before.show-module.auto.1.1.1.1.0
+shape_of-modules_row : tie.Need-shape_of-modules_row
+shape_of-modules_row c = c.show_module.auto.1.1.1.1.0
 
-same-length-2 : tie.Need-same-length-2
-same-length-2 c = c.before.before.before.before.show-module.auto.1.1.1.1.1.0
+shape_of-reason-in-Module : tie.Need-shape_of-reason-in-Module
+shape_of-reason-in-Module c = c.show_module.auto.1.1.1.1.1.0
 
-returns : tie.Need-returns
-returns c = fact_module _ _ _ _ _ _ _ c.before.before.before.before.before.before.before.before.fact.given.1 c.before.before.before.before.show-module.ensures
+returns-in-Module : tie.Need-returns-in-Module
+returns-in-Module c = fact_module _ _ _ _ _ _ _ c.in-Module.is c.show_module.ensures
 
-same-length-3 : tie.Need-same-length-3
-same-length-3 c = c.before.before.set-in-part.auto.0
+shape_of-statements_row : tie.Need-shape_of-statements_row
+shape_of-statements_row c = c.set_in_part.auto.0
 
-returns-2 : tie.Need-returns-2
-returns-2 c = fact_statement _ _ _ _ _ _ _ _ c.before.before.before.before.before.before.fact2.given.1 c.before.before.before.first-byte-of.ensures c.before.before.set-in-part.ensures
+returns-in-Statement : tie.Need-returns-in-Statement
+returns-in-Statement c = fact_statement _ _ _ _ _ _ _ _ c.in-Statement.is c.first_byte_of.ensures c.set_in_part.ensures
 
-same-length-4 : tie.Need-same-length-4
-same-length-4 c = c.before.before.before.before.before.before.before.before.show-use.auto.1.1.1.1.1.0
+shape_of-used : tie.Need-shape_of-used
+shape_of-used c = c.show_use.auto.1.1.1.1.1.0
 
-same-length-5 : tie.Need-same-length-5
-same-length-5 c = c.before.before.before.before.before.before.before.before.show-use.auto.1.1.1.1.1.1.0
+shape_of-external : tie.Need-shape_of-external
+shape_of-external c = c.show_use.auto.1.1.1.1.1.1.0
 
-same-length-6 : tie.Need-same-length-6
-same-length-6 c = c.before.before.before.before.before.before.before.before.show-use.auto.1.1.1.1.1.1.1.0
+shape_of-json : tie.Need-shape_of-json
+shape_of-json c = c.show_use.auto.1.1.1.1.1.1.1.0
 
-same-length-7 : tie.Need-same-length-7
-same-length-7 c = c.before.before.before.before.before.before.before.before.show-use.auto.1.1.1.1.1.1.1.1.0
+shape_of-reason-in-Use : tie.Need-shape_of-reason-in-Use
+shape_of-reason-in-Use c = c.show_use.auto.1.1.1.1.1.1.1.1.0
 
-returns-3 : tie.Need-returns-3
-returns-3 c = fact_use _ _ _ _ _ _ _ _ _ _ c.before.before.before.before.before.before.before.before.before.before.before.before.before.before.fact3.given.1 c.before.before.before.before.before.before.before.before.show-use.ensures
+returns-in-Use : tie.Need-returns-in-Use
+returns-in-Use c = fact_use _ _ _ _ _ _ _ _ _ _ c.in-Use.is c.show_use.ensures
 
-returns-4 : tie.Need-returns-4
-returns-4 c = fact_none _ _ _ _ _ c.enum_told.given.1 (λ row. checked_none _ row _ _)
+returns-in-CheckedUse : tie.Need-returns-in-CheckedUse
+returns-in-CheckedUse c = fact_none _ _ _ _ _ c.in-CheckedUse.is (λ row. checked_none _ row _ _)
 
-returns-5 : tie.Need-returns-5
-returns-5 c = fact_none _ _ _ _ _ c.enum-told2.given.1 (λ row. forward_none _ row _)
+returns-in-Forward : tie.Need-returns-in-Forward
+returns-in-Forward c = fact_none _ _ _ _ _ c.in-Forward.is (λ row. forward_none _ row _)
 
-returns-6 : tie.Need-returns-6
-returns-6 c = fact_none _ _ _ _ _ c.enum-told3.given.1 (λ row. bailout_none _ row _)
+returns-in-Bailout : tie.Need-returns-in-Bailout
+returns-in-Bailout c = fact_none _ _ _ _ _ c.in-Bailout.is (λ row. bailout_none _ row _)
 
-pub show-fact-spec : {M : Type 1} → statement M
-show-fact-spec =
+pub show_fact_spec : {M : Type 1} → statement M
+show_fact_spec =
     tie.close
     (tie.spec
-    enum-known-fact
-    show-module-requires
-    enum-known-fact-2
-    first-byte-of-requires
-    set-in-part-requires
-    enum-known-fact-3
-    show-use-requires
-    enum_told
-    enum-told-2
-    enum-told-3
-    same_length
-    same-length-2
-    returns
-    same-length-3
-    returns-2
-    same-length-4
-    same-length-5
-    same-length-6
-    same-length-7
-    returns-3
-    returns-4
-    returns-5
-    returns-6)
+    enum_known-fact
+    show_module-requires
+    enum_known-fact-in-Statement-1
+    first_byte_of-requires
+    set_in_part-requires
+    enum_known-fact-in-Use-1
+    show_use-requires
+    enum_told-1
+    enum_told-in-Forward
+    enum_told-in-Bailout
+    shape_of-modules_row
+    shape_of-reason-in-Module
+    returns-in-Module
+    shape_of-statements_row
+    returns-in-Statement
+    shape_of-used
+    shape_of-external
+    shape_of-json
+    shape_of-reason-in-Use
+    returns-in-Use
+    returns-in-CheckedUse
+    returns-in-Forward
+    returns-in-Bailout)

@@ -10,74 +10,72 @@ use native.Mathlib.Omega.{arith}
 use Rattle.answer_rows.proofs.show_lines.Statement.{statement}
 use Rattle.answer_rows.proofs.show_lines.Tie as tie
 
-abbrev invariant-loop : tie.invariant-loop
-invariant-loop numbers tables lines from to main modules-row₀ statements-row₀ used₀ external₀ json₀ reason₀ k₀ modules-row statements-row used external json reason k =
+abbrev invariant-loop-k : tie.invariant-loop-k
+invariant-loop-k numbers tables lines from to main modules-row₀ statements-row₀ used₀ external₀ json₀ reason₀ k₀ modules-row statements-row used external json reason k =
     Going (graph_in numbers) main lines from to (six_rows modules-row₀ statements-row₀ used₀ external₀ json₀ reason₀) (six_rows modules-row statements-row used external json reason) k
 
-abbrev decreases-loop : tie.decreases-loop
-decreases-loop numbers tables lines from to main modules-row₀ statements-row₀ used₀ external₀ json₀ reason₀ k₀ modules-row statements-row used external json reason k =
+abbrev decreases-loop-k : tie.decreases-loop-k
+decreases-loop-k numbers tables lines from to main modules-row₀ statements-row₀ used₀ external₀ json₀ reason₀ k₀ modules-row statements-row used external json reason k =
     to - k
 
-loop-holds : tie.Need-loop-init invariant-loop decreases-loop
-loop-holds c = going_start _ _ _ _ _ _ c.before.before.before.before.before.before.before.before.before.requires.1.1.0
+loop-k-init : tie.Need-loop-k-init invariant-loop-k decreases-loop-k
+loop-k-init c = going_start _ _ _ _ _ _ c.requires.1.1.0
 
-fact-at-requires : tie.Need-fact-at-requires invariant-loop decreases-loop
-fact-at-requires c κs = omega (arith, c.loop-test.true, c.before.before.before.before.before.before.before.before.before.before.before.requires.1.1.1)
+fact_at-requires : tie.Need-fact_at-requires invariant-loop-k decreases-loop-k
+fact_at-requires c κs = omega (arith, c.loop-k-test.true, c.requires.1.1.1)
 
-show-fact-requires : tie.Need-show-fact-requires invariant-loop decreases-loop
-show-fact-requires c κs =
-    let s = c.before.before.before.before.before.before.before.before.before.before.before.before.before.before.before.before.before.before in
-    let l = c.before.before.before.before.before.before.before.before in
-    (s.requires.0, (good_same _ _ _ c.before.before.before.before.before.before.fact_at.ensures (s.requires.1.1.2 l.loop.k (omega (arith, c.before.before.before.before.before.before.before.loop-test.true))), still_enough _ _ _ l.loop.invariant.same s.requires.1.0))
+show_fact-requires : tie.Need-show_fact-requires invariant-loop-k decreases-loop-k
+show_fact-requires c κs =
+    (c.requires.0, (good_same _ _ _ c.fact_at.ensures (c.requires.1.1.2 c.loop-k.k (omega (arith, c.loop-k-test.true))), still_enough _ _ _ c.loop-k.invariant.same c.requires.1.0))
 
-add-k : tie.Need-overflow-add-k invariant-loop decreases-loop
-add-k c = record { fits = omega (arith, c.before.before.before.before.before.before.before.before.before.before.before.before.before.before.before.before.before.before.before.before.loop-test.true) }
+overflow_add-k : tie.Need-overflow_add-k invariant-loop-k decreases-loop-k
+overflow_add-k c = record { fits = omega (arith, c.loop-k-test.true) }
 
-loop-less : tie.Need-loop-smaller invariant-loop decreases-loop
-loop-less c = omega (arith, c.before.before.before.before.before.before.before.before.before.before.before.before.before.before.before.before.before.before.before.before.loop-test.true)
+loop-k-smaller : tie.Need-loop-k-smaller invariant-loop-k decreases-loop-k
+loop-k-smaller c = omega (arith, c.loop-k-test.true)
 
-loop-again : tie.Need-loop-preserved invariant-loop decreases-loop
-loop-again c =
-    let below : c.before.before.before.before.before.before.before.before.before.before.before.before.before.before.before.before.before.before.before.before.before.loop.k < c.before.before.before.before.before.before.before.before.before.before.before.before.before.before.before.before.before.before.before.before.before.before.before.before.before.before.before.before.before.before.before.args.to = omega (arith, c.before.before.before.before.before.before.before.before.before.before.before.before.before.before.before.before.before.before.before.before.loop-test.true) in
-    going_step _ _ _ _ _ _ _ _ c.before.before.before.before.before.before.before.before.before.before.before.before.before.before.before.before.before.before.before.before.before.loop.invariant _ _ below c.before.before.before.before.before.before.before.before.before.before.before.before.before.before.before.before.before.before.before.fact_at.ensures (same_lengths _ _ c.before.before.before.before.before.before.before.before.before.before.before.before.show-fact.auto.1.1.1.1) c.before.before.before.before.before.before.before.before.before.before.before.before.show-fact.ensures
+loop-k-preserved : tie.Need-loop-k-preserved invariant-loop-k decreases-loop-k
+loop-k-preserved c =
+    let below : c.loop-k.k < c.args.to = omega (arith, c.loop-k-test.true) in
+    going_step _ _ _ _ _ _ _ _ c.loop-k.invariant _ _ below c.fact_at.ensures (same_lengths _ _ c.show_fact.auto.1.1.1.1) c.show_fact.ensures
 
-same_length : tie.Need-same-length invariant-loop decreases-loop
-same_length c = ap (λ (l : Lengths). l.modules) c.before.loop.invariant.same
+shape_of-modules_row : tie.Need-shape_of-modules_row invariant-loop-k decreases-loop-k
+shape_of-modules_row c = ap (λ (l : Lengths). l.modules) c.loop-k.invariant.same
 
-same-length-2 : tie.Need-same-length-2 invariant-loop decreases-loop
-same-length-2 c = ap (λ (l : Lengths). l.statements) c.before.loop.invariant.same
+shape_of-statements_row : tie.Need-shape_of-statements_row invariant-loop-k decreases-loop-k
+shape_of-statements_row c = ap (λ (l : Lengths). l.statements) c.loop-k.invariant.same
 
-same-length-3 : tie.Need-same-length-3 invariant-loop decreases-loop
-same-length-3 c = ap (λ (l : Lengths). l.used) c.before.loop.invariant.same
+shape_of-used : tie.Need-shape_of-used invariant-loop-k decreases-loop-k
+shape_of-used c = ap (λ (l : Lengths). l.used) c.loop-k.invariant.same
 
-same-length-4 : tie.Need-same-length-4 invariant-loop decreases-loop
-same-length-4 c = ap (λ (l : Lengths). l.external) c.before.loop.invariant.same
+shape_of-external : tie.Need-shape_of-external invariant-loop-k decreases-loop-k
+shape_of-external c = ap (λ (l : Lengths). l.external) c.loop-k.invariant.same
 
-same-length-5 : tie.Need-same-length-5 invariant-loop decreases-loop
-same-length-5 c = ap (λ (l : Lengths). l.json) c.before.loop.invariant.same
+shape_of-json : tie.Need-shape_of-json invariant-loop-k decreases-loop-k
+shape_of-json c = ap (λ (l : Lengths). l.json) c.loop-k.invariant.same
 
-same-length-6 : tie.Need-same-length-6 invariant-loop decreases-loop
-same-length-6 c = ap (λ (l : Lengths). l.reason) c.before.loop.invariant.same
+shape_of-reason : tie.Need-shape_of-reason invariant-loop-k decreases-loop-k
+shape_of-reason c = ap (λ (l : Lengths). l.reason) c.loop-k.invariant.same
 
-returns : tie.Need-returns invariant-loop decreases-loop
-returns c = let over : c.before.before.before.before.before.before.before.before.before.before.before.args.to ≤ c.before.loop.k = omega (arith, c.loop-test.false) in going_end _ _ _ _ _ _ _ _ c.before.loop.invariant over
+returns : tie.Need-returns invariant-loop-k decreases-loop-k
+returns c = let over : c.args.to ≤ c.loop-k.k = omega (arith, c.loop-k-test.false) in going_end _ _ _ _ _ _ _ _ c.loop-k.invariant over
 
-pub show-lines-spec : {M : Type 1} → statement M
-show-lines-spec =
+pub show_lines_spec : {M : Type 1} → statement M
+show_lines_spec =
     tie.close
     (tie.spec
-    invariant-loop
-    decreases-loop
-    loop-holds
-    fact-at-requires
-    show-fact-requires
-    add-k
-    loop-less
-    loop-again
-    same_length
-    same-length-2
-    same-length-3
-    same-length-4
-    same-length-5
-    same-length-6
+    invariant-loop-k
+    decreases-loop-k
+    loop-k-init
+    fact_at-requires
+    show_fact-requires
+    overflow_add-k
+    loop-k-smaller
+    loop-k-preserved
+    shape_of-modules_row
+    shape_of-statements_row
+    shape_of-used
+    shape_of-external
+    shape_of-json
+    shape_of-reason
     returns)

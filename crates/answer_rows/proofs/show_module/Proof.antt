@@ -7,53 +7,53 @@ use Rattle.answer_rows.proofs.show_module.Statement.{statement}
 use Rattle.answer_rows.proofs.show_module.Tie as tie
 
 set-requires : tie.Need-set-requires
-set-requires c κs = omega (arith, c.before.before.before.before.before.requires.1.0, c.before.before.before.before.before.requires.1.1)
+set-requires c κs = omega (arith, c.requires.1.0, c.requires.1.1)
 
-dev-namespace-requires : tie.Need-dev-namespace-requires
-dev-namespace-requires c κs = (c.before.before.before.before.before.before.before.before.before.requires.0, c.before.before.before.before.before.before.before.before.before.requires.1.0)
+dev_namespace-requires : tie.Need-dev_namespace-requires
+dev_namespace-requires c κs = (c.requires.0, c.requires.1.0)
 
-mul-set : tie.Need-overflow-mul-set
-mul-set c = record { fits = omega (arith, c.before.before.before.before.before.before.before.before.before.before.before.before.before.requires.1.0, c.before.before.before.before.before.before.before.before.before.before.before.before.before.requires.0.loaded.few_modules) }
+overflow_mul-m : tie.Need-overflow_mul-m
+overflow_mul-m c = record { fits = omega (arith, c.requires.1.0, c.requires.0.loaded.few_modules) }
 
-set-requires-2 : tie.Need-set-requires-2
-set-requires-2 c κs = omega (arith, c.before.before.before.before.before.before.before.before.before.before.before.before.before.requires.1.0, c.before.before.before.before.before.before.before.before.before.before.before.before.before.requires.1.2)
+set-requires-then-dev_namespace : tie.Need-set-requires-then-dev_namespace
+set-requires-then-dev_namespace c κs = omega (arith, c.requires.1.0, c.requires.1.2)
 
-same_length : tie.Need-same-length
-same_length c = c.before.before.before.before.before.before.before.before.before.before.set.auto.0
+shape_of-modules_row-then-dev_namespace : tie.Need-shape_of-modules_row-then-dev_namespace
+shape_of-modules_row-then-dev_namespace c = c.set.auto.0
 
-same-length-2 : tie.Need-same-length-2
-same-length-2 c = c.before.before.set2.auto.0
+shape_of-reason : tie.Need-shape_of-reason
+shape_of-reason c = c.set-then-dev_namespace.auto.0
 
-returns : tie.Need-returns
+returns-then-dev_namespace : tie.Need-returns-then-dev_namespace
 unfolding shows
-returns c = (shows-one _ _ _ _ _ _ _ refl refl c.before.before.before.before.before.before.before.before.before.before.set.ensures, shows-if _ _ _ _ _ _ c.before.before.before.before.before.before.before.if1.true (shows-one _ _ _ _ _ _ _ (only_this _ _ (sym c.before.before.before.before.before.before.dev-namespace.ensures ∙ c.before.before.before.before.before.if2.true)) refl c.before.before.set2.ensures))
+returns-then-dev_namespace c = (shows-one _ _ _ _ _ _ _ refl refl c.set.ensures, shows-if _ _ _ _ _ _ c.if-main.true (shows-one _ _ _ _ _ _ _ (only_this _ _ (sym c.dev_namespace.ensures ∙ c.if-dev_namespace.true)) refl c.set-then-dev_namespace.ensures))
 
-same-length-3 : tie.Need-same-length-3
-same-length-3 c = c.before.before.before.before.before.set.auto.0
+shape_of-modules_row-else-dev_namespace : tie.Need-shape_of-modules_row-else-dev_namespace
+shape_of-modules_row-else-dev_namespace c = c.set.auto.0
 
-returns-2 : tie.Need-returns-2
+returns-else-dev_namespace : tie.Need-returns-else-dev_namespace
 unfolding shows
-returns-2 c = (shows-one _ _ _ _ _ _ _ refl refl c.before.before.before.before.before.set.ensures, shows_none _ _ _ _ _ (only_none _ _ (sym c.before.dev-namespace.ensures ∙ c.if2.false)))
+returns-else-dev_namespace c = (shows-one _ _ _ _ _ _ _ refl refl c.set.ensures, shows_none _ _ _ _ _ (only_none _ _ (sym c.dev_namespace.ensures ∙ c.if-dev_namespace.false)))
 
-same-length-4 : tie.Need-same-length-4
-same-length-4 c = c.before.before.before.set.auto.0
+shape_of-modules_row-else-main : tie.Need-shape_of-modules_row-else-main
+shape_of-modules_row-else-main c = c.set.auto.0
 
-returns-3 : tie.Need-returns-3
+returns-else-main : tie.Need-returns-else-main
 unfolding shows
-returns-3 c = (shows-one _ _ _ _ _ _ _ refl refl c.before.before.before.set.ensures, shows_not _ _ _ _ _ c.if1.false)
+returns-else-main c = (shows-one _ _ _ _ _ _ _ refl refl c.set.ensures, shows_not _ _ _ _ _ c.if-main.false)
 
-pub show-module-spec : {M : Type 1} → statement M
-show-module-spec =
+pub show_module_spec : {M : Type 1} → statement M
+show_module_spec =
     tie.close
     (tie.spec
     set-requires
-    dev-namespace-requires
-    mul-set
-    set-requires-2
-    same_length
-    same-length-2
-    returns
-    same-length-3
-    returns-2
-    same-length-4
-    returns-3)
+    dev_namespace-requires
+    overflow_mul-m
+    set-requires-then-dev_namespace
+    shape_of-modules_row-then-dev_namespace
+    shape_of-reason
+    returns-then-dev_namespace
+    shape_of-modules_row-else-dev_namespace
+    returns-else-dev_namespace
+    shape_of-modules_row-else-main
+    returns-else-main)

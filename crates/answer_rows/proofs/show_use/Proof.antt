@@ -4,59 +4,59 @@ use mathlib.Core.Path.{refl}
 use Rattle.answer_rows.proofs.show_use.Statement.{statement}
 use Rattle.answer_rows.proofs.show_use.Tie as tie
 
-show-used-requires : tie.Need-show-used-requires
-show-used-requires c κs = let s = c.before.before.before.before.before.before.before in (s.requires.0, (s.requires.1.0, s.requires.1.1.0))
+show_used-requires : tie.Need-show_used-requires
+show_used-requires c κs = (c.requires.0, (c.requires.1.0, c.requires.1.1.0))
 
-show-external-requires : tie.Need-show-external-requires
-show-external-requires c κs = let s = c.before.before.before.before.before.before.before.before.before.before.before in (s.requires.0, (s.requires.1.0, s.requires.1.1.1))
+show_external-requires : tie.Need-show_external-requires
+show_external-requires c κs = (c.requires.0, (c.requires.1.0, c.requires.1.1.1))
 
-note-json-self-reference-requires : tie.Need-note-json-self-reference-requires
-note-json-self-reference-requires c κs = let s = c.before.before.before.before.before.before.before.before.before.before.before.before.before.before.before.before in (s.requires.0, (s.requires.1.0, s.requires.1.1.2))
+note_json_self_reference-requires : tie.Need-note_json_self_reference-requires
+note_json_self_reference-requires c κs = (c.requires.0, (c.requires.1.0, c.requires.1.1.2))
 
-note-namespace-inclusion-reason-requires : tie.Need-note-namespace-inclusion-reason-requires
-note-namespace-inclusion-reason-requires c κs = let s = c.before.before.before.before.before.before.before.before.before.before.before.before.before.before.before.before.before.before.before.before in (s.requires.0, (s.requires.1.0, s.requires.1.1.3))
+note_namespace_inclusion_reason-requires : tie.Need-note_namespace_inclusion_reason-requires
+note_namespace_inclusion_reason-requires c κs = (c.requires.0, (c.requires.1.0, c.requires.1.1.3))
 
-same_length : tie.Need-same-length
-same_length c = c.before.before.before.before.before.before.before.before.before.before.before.before.before.before.before.show-used.auto.1.1.1.1.0
+shape_of-used-then-main : tie.Need-shape_of-used-then-main
+shape_of-used-then-main c = c.show_used.auto.1.1.1.1.0
 
-same-length-2 : tie.Need-same-length-2
-same-length-2 c = c.before.before.before.before.before.before.before.before.before.before.before.show-external.auto.1.1.1.1.0
+shape_of-external-then-main : tie.Need-shape_of-external-then-main
+shape_of-external-then-main c = c.show_external.auto.1.1.1.1.0
 
-same-length-3 : tie.Need-same-length-3
-same-length-3 c = c.before.before.before.before.before.before.note-json-self-reference.auto.1.1.1.1.0
+shape_of-json : tie.Need-shape_of-json
+shape_of-json c = c.note_json_self_reference.auto.1.1.1.1.0
 
-same-length-4 : tie.Need-same-length-4
-same-length-4 c = c.before.before.note-namespace-inclusion-reason.auto.1.1.1.1.0
+shape_of-reason : tie.Need-shape_of-reason
+shape_of-reason c = c.note_namespace_inclusion_reason.auto.1.1.1.1.0
 
-returns : tie.Need-returns
+returns-then-main : tie.Need-returns-then-main
 unfolding shows
-returns c =
-    let t = c.before.before.before.before.before.before.before.before.if1.true in
-    (shows-list _ _ _ _ _ _ refl c.before.before.before.before.before.before.before.before.before.before.before.before.before.before.before.show-used.ensures, shows-list _ _ _ _ _ _ refl c.before.before.before.before.before.before.before.before.before.before.before.show-external.ensures, shows-if _ _ _ _ _ _ t (shows-list _ _ _ _ _ _ refl c.before.before.before.before.before.before.note-json-self-reference.ensures), shows-if _ _ _ _ _ _ t (shows-list _ _ _ _ _ _ refl c.before.before.note-namespace-inclusion-reason.ensures))
+returns-then-main c =
+    let t = c.if-main.true in
+    (shows-list _ _ _ _ _ _ refl c.show_used.ensures, shows-list _ _ _ _ _ _ refl c.show_external.ensures, shows-if _ _ _ _ _ _ t (shows-list _ _ _ _ _ _ refl c.note_json_self_reference.ensures), shows-if _ _ _ _ _ _ t (shows-list _ _ _ _ _ _ refl c.note_namespace_inclusion_reason.ensures))
 
-same-length-5 : tie.Need-same-length-5
-same-length-5 c = c.before.before.before.before.before.before.before.show-used.auto.1.1.1.1.0
+shape_of-used-else-main : tie.Need-shape_of-used-else-main
+shape_of-used-else-main c = c.show_used.auto.1.1.1.1.0
 
-same-length-6 : tie.Need-same-length-6
-same-length-6 c = c.before.before.before.show-external.auto.1.1.1.1.0
+shape_of-external-else-main : tie.Need-shape_of-external-else-main
+shape_of-external-else-main c = c.show_external.auto.1.1.1.1.0
 
-returns-2 : tie.Need-returns-2
+returns-else-main : tie.Need-returns-else-main
 unfolding shows
-returns-2 c = (shows-list _ _ _ _ _ _ refl c.before.before.before.before.before.before.before.show-used.ensures, shows-list _ _ _ _ _ _ refl c.before.before.before.show-external.ensures, shows_not _ _ _ _ _ c.if1.false, shows_not _ _ _ _ _ c.if1.false)
+returns-else-main c = (shows-list _ _ _ _ _ _ refl c.show_used.ensures, shows-list _ _ _ _ _ _ refl c.show_external.ensures, shows_not _ _ _ _ _ c.if-main.false, shows_not _ _ _ _ _ c.if-main.false)
 
-pub show-use-spec : {M : Type 1} → statement M
-show-use-spec =
+pub show_use_spec : {M : Type 1} → statement M
+show_use_spec =
     tie.close
     (tie.spec
-    show-used-requires
-    show-external-requires
-    note-json-self-reference-requires
-    note-namespace-inclusion-reason-requires
-    same_length
-    same-length-2
-    same-length-3
-    same-length-4
-    returns
-    same-length-5
-    same-length-6
-    returns-2)
+    show_used-requires
+    show_external-requires
+    note_json_self_reference-requires
+    note_namespace_inclusion_reason-requires
+    shape_of-used-then-main
+    shape_of-external-then-main
+    shape_of-json
+    shape_of-reason
+    returns-then-main
+    shape_of-used-else-main
+    shape_of-external-else-main
+    returns-else-main)

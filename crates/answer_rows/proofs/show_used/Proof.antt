@@ -5,35 +5,35 @@ use mathlib.Core.Path.{refl, ◌∙◌, sym}
 use Rattle.answer_rows.proofs.show_used.Statement.{statement}
 use Rattle.answer_rows.proofs.show_used.Tie as tie
 
-is-bypassed-inlined-constant-requires : tie.Need-is-bypassed-inlined-constant-requires
-is-bypassed-inlined-constant-requires c κs = (c.before.before.before.requires.0, c.before.before.before.requires.1.0)
+is_bypassed_inlined_constant-requires : tie.Need-is_bypassed_inlined_constant-requires
+is_bypassed_inlined_constant-requires c κs = (c.requires.0, c.requires.1.0)
 
-returns : tie.Need-returns
-returns c = λ j. set-none j _ _ (used_none _ _ _ (sym c.before.is-bypassed-inlined-constant.ensures ∙ c.if1.true))
+returns-then-is_bypassed_inlined_constant : tie.Need-returns-then-is_bypassed_inlined_constant
+returns-then-is_bypassed_inlined_constant c = λ j. set-none j _ _ (used_none _ _ _ (sym c.is_bypassed_inlined_constant.ensures ∙ c.if-is_bypassed_inlined_constant.true))
 
-target-of-requires : tie.Need-target-of-requires
-target-of-requires c κs = (c.before.before.before.before.before.requires.0.loaded, c.before.before.before.before.before.requires.1.0)
+target_of-t-requires : tie.Need-target_of-t-requires
+target_of-t-requires c κs = (c.requires.0.loaded, c.requires.1.0)
 
 set-requires : tie.Need-set-requires
-set-requires c κs = omega (arith, c.before.target-of.ensures.1, c.before.before.before.before.before.before.before.requires.1.1)
+set-requires c κs = omega (arith, c.target_of-t.ensures.1, c.requires.1.1)
 
 set-requires-2 : tie.Need-set-requires-2
-set-requires-2 c κs = omega (arith, c.before.before.before.before.before.before.before.before.before.before.before.requires.1.0, c.before.before.before.before.before.before.before.before.before.before.before.requires.1.1, c.before.before.before.set.auto.0)
+set-requires-2 c κs = omega (arith, c.requires.1.0, c.requires.1.1, c.set.auto.0)
 
-same_length : tie.Need-same-length
-same_length c = c.before.before.set2.auto.0 ∙ c.before.before.before.before.before.before.set.auto.0
+shape_of-bits : tie.Need-shape_of-bits
+shape_of-bits c = c.set-2.auto.0 ∙ c.set.auto.0
 
-returns-2 : tie.Need-returns-2
-returns-2 c = λ j. set_both j _ _ _ _ _ _ (used_these _ _ _ _ c.before.before.before.before.before.before.before.before.target-of.ensures.0 (sym c.before.before.before.before.before.before.before.before.before.before.is-bypassed-inlined-constant.ensures ∙ c.before.before.before.before.before.before.before.before.before.if1.false)) (set-one j _ _ _ _ _ refl refl (c.before.before.before.before.before.before.set.ensures j)) (set-one j _ _ _ _ _ refl refl (c.before.before.set2.ensures j))
+returns : tie.Need-returns
+returns c = λ j. set_both j _ _ _ _ _ _ (used_these _ _ _ _ c.target_of-t.ensures.0 (sym c.is_bypassed_inlined_constant.ensures ∙ c.if-is_bypassed_inlined_constant.false)) (set-one j _ _ _ _ _ refl refl (c.set.ensures j)) (set-one j _ _ _ _ _ refl refl (c.set-2.ensures j))
 
-pub show-used-spec : {M : Type 1} → statement M
-show-used-spec =
+pub show_used_spec : {M : Type 1} → statement M
+show_used_spec =
     tie.close
     (tie.spec
-    is-bypassed-inlined-constant-requires
-    returns
-    target-of-requires
+    is_bypassed_inlined_constant-requires
+    returns-then-is_bypassed_inlined_constant
+    target_of-t-requires
     set-requires
     set-requires-2
-    same_length
-    returns-2)
+    shape_of-bits
+    returns)

@@ -8,39 +8,38 @@ use borrow.Author.Rules.{rules}
 use Rattle.answer_rows.proofs.statement_bytes.Statement.{statement}
 use Rattle.answer_rows.proofs.statement_bytes.Tie as tie
 
-header-of-requires : tie.Need-header-of-requires
-header-of-requires c κs = c.before.before.requires.0.long
+header_of-h-requires : tie.Need-header_of-h-requires
+header_of-h-requires c κs = c.requires.0.long
 
-sub-result : tie.Need-overflow-sub-result
-sub-result c = omega (arith, some_modules c.before.before.before.before.requires.0, ap (λ (h : Header). h.modules) c.before.header_of.ensures)
+overflow_sub-last : tie.Need-overflow_sub-last
+overflow_sub-last c = omega (arith, some_modules c.requires.0, ap (λ (h : Header). h.modules) c.header_of-h.ensures)
 
-first-byte-of-requires : tie.Need-first-byte-of-requires
-first-byte-of-requires c κs = let s = c.before.before.before.before in (s.requires.1, last_module s.requires.0 _ c.before.header_of.ensures)
+first_byte_of-requires : tie.Need-first_byte_of-requires
+first_byte_of-requires c κs = (c.requires.1, last_module c.requires.0 _ c.header_of-h.ensures)
 
-statement-count-requires : tie.Need-statement-count-requires
-statement-count-requires c κs = let s = c.before.before.before.before.before in (s.requires.0, last_module s.requires.0 _ c.before.before.header_of.ensures)
+statement_count-requires : tie.Need-statement_count-requires
+statement_count-requires c κs = (c.requires.0, last_module c.requires.0 _ c.header_of-h.ensures)
 
-bytes-for-requires : tie.Need-bytes-for-requires
-bytes-for-requires c κs = search rules
+bytes_for-requires : tie.Need-bytes_for-requires
+bytes_for-requires c κs = search rules
 
-add-result : tie.Need-overflow-add-result
-add-result c =
-    let s = c.before.before.before.before.before.before.before in
-    let l = last_module s.requires.0 _ c.before.before.before.before.header_of.ensures in
-    let few = before_few s.requires.0 (c.before.before.before.before.header_of.result.modules - 1) (omega (arith, l)) in
-    record { fits = omega (arith, few, l, s.requires.0.few_modules, c.before.before.first-byte-of.ensures, c.bytes-for.ensures, bytes_at_most c.before.statement-count.result, c.before.statement-count.ensures.1) }
+overflow_add-result : tie.Need-overflow_add-result
+overflow_add-result c =
+    let l = last_module c.requires.0 _ c.header_of-h.ensures in
+    let few = before_few c.requires.0 (c.header_of-h.result.modules - 1) (omega (arith, l)) in
+    record { fits = omega (arith, few, l, c.requires.0.few_modules, c.first_byte_of.ensures, c.bytes_for.ensures, bytes_at_most c.statement_count.result, c.statement_count.ensures.1) }
 
 returns : tie.Need-returns
-returns c = last_bytes c.before.before.before.before.before.before.before.requires.0 _ c.before.before.before.before.header_of.ensures _ _ _ c.before.before.first-byte-of.ensures c.before.statement-count.ensures.0 c.bytes-for.ensures
+returns c = last_bytes c.requires.0 _ c.header_of-h.ensures _ _ _ c.first_byte_of.ensures c.statement_count.ensures.0 c.bytes_for.ensures
 
-pub statement-bytes-spec : {M : Type 1} → statement M
-statement-bytes-spec =
+pub statement_bytes_spec : {M : Type 1} → statement M
+statement_bytes_spec =
     tie.close
     (tie.spec
-    header-of-requires
-    sub-result
-    first-byte-of-requires
-    statement-count-requires
-    bytes-for-requires
-    add-result
+    header_of-h-requires
+    overflow_sub-last
+    first_byte_of-requires
+    statement_count-requires
+    bytes_for-requires
+    overflow_add-result
     returns)

@@ -14,82 +14,82 @@ use Rattle.answer_text.proofs.checked.Statement.{statement}
 use Rattle.answer_text.proofs.checked.Tie as tie
 
 -- the header that was read
-begun : (c : tie.After-header-of) → HeaderRead c.before.before.before.before.before.before.args.numbers.now c.header_of.result
-begun c = record { end = c.before.enum_told.given.0.0; read = sym c.before.before.before.header.ensures ∙ c.before.enum_told.given.1; is = c.header_of.ensures }
+begun : (c : tie.After-header_of-h) → HeaderRead c.args.numbers.now c.header_of-h.result
+begun c = record { end = c.in-At.field-0; read = sym c.header.ensures ∙ c.in-At.is; is = c.header_of-h.ensures }
 
 header-requires : tie.Need-header-requires
 header-requires c κs = search rules
 
-enum-known-n : tie.Need-enum-known-n
-enum-known-n c = search rules
+enum_known-n : tie.Need-enum_known-n
+enum_known-n c = search rules
 
 refuse-requires : tie.Need-refuse-requires
 refuse-requires c κs = search rules
 
-enum_told : tie.Need-enum-told
-enum_told c = search rules
+enum_told-1 : tie.Need-enum_told-1
+enum_told-1 c = search rules
 
-header-of-requires : tie.Need-header-of-requires
-header-of-requires c κs = seven _ (at_got _ _ (sym c.before.before.header.ensures ∙ c.enum_told.given.1)).1
+header_of-h-requires : tie.Need-header_of-h-requires
+header_of-h-requires c κs = seven _ (at_got _ _ (sym c.header.ensures ∙ c.in-At.is)).1
 
-slice-aggregate-load : tie.Need-slice-aggregate-load
-slice-aggregate-load c = search rules
+slice_bounds-load-end : tie.Need-slice_bounds-load-end
+slice_bounds-load-end c = search rules
 
 load-requires : tie.Need-load-requires
 load-requires c κs = (begun c.before, rw (length-replicate {A = ℕ} 35851 0) (fits_places _ Largest (bounded _ _ (begun c.before)), omega arith))
 
-enum-known-n-2 : tie.Need-enum-known-n-2
-enum-known-n-2 c = search rules
+enum_known-n-in-Refused-1 : tie.Need-enum_known-n-in-Refused-1
+enum_known-n-in-Refused-1 c = search rules
 
-refuse-requires-2 : tie.Need-refuse-requires-2
-refuse-requires-2 c κs = search rules
+refuse-requires-in-Refused : tie.Need-refuse-requires-in-Refused
+refuse-requires-in-Refused c κs = search rules
 
-enum-told-2 : tie.Need-enum-told-2
-enum-told-2 c = search rules
+enum_told-in-Accepted : tie.Need-enum_told-in-Accepted
+enum_told-in-Accepted c = search rules
 
-slice-aggregate-ran : tie.Need-slice-aggregate-ran
-slice-aggregate-ran c = search rules
+slice_bounds-ran-end : tie.Need-slice_bounds-ran-end
+slice_bounds-ran-end c = search rules
 
 ran-requires : tie.Need-ran-requires
-ran-requires c κs = c.before.before.before.before.before.load.ensures.1.known c.before.before.enum-told2.given.1
+ran-requires c κs = c.load.ensures.1.known c.in-Accepted.is
 
-same_length : tie.Need-same-length
-same_length c = search rules
+shape_of-out-in-Fault : tie.Need-shape_of-out-in-Fault
+shape_of-out-in-Fault c = search rules
 
-returns : tie.Need-returns
-returns c = told_as _ _ (text_rejected _ _ (check_stop_header _ (sym c.before.before.before.before.before.before.before.header.ensures ∙ c.before.before.before.before.before.n.given.1))) c.before.before.refuse.ensures
+returns-in-Fault : tie.Need-returns-in-Fault
+returns-in-Fault c = told_as _ _ (text_rejected _ _ (check_stop_header _ (sym c.header.ensures ∙ c.in-Fault.is))) c.refuse.ensures
 
-same-length-2 : tie.Need-same-length-2
-same-length-2 c = search rules
+shape_of-out-in-Refused : tie.Need-shape_of-out-in-Refused
+shape_of-out-in-Refused c = search rules
 
-returns-2 : tie.Need-returns-2
-returns-2 c = told_as _ _ (text_rejected _ _ (sym c.before.before.before.before.before.before.before.before.load.ensures.0 ∙ c.before.before.before.before.before.n2.given.1)) c.before.before.refuse2.ensures
+returns-in-Refused : tie.Need-returns-in-Refused
+returns-in-Refused c = told_as _ _ (text_rejected _ _ (sym c.load.ensures.0 ∙ c.in-Refused.is)) c.refuse-in-Refused.ensures
 
-same-length-3 : tie.Need-same-length-3
-same-length-3 c = search rules
+shape_of-out-in-Accepted : tie.Need-shape_of-out-in-Accepted
+shape_of-out-in-Accepted c = search rules
 
-returns-3 : tie.Need-returns-3
-returns-3 c = search rules
+returns-in-Accepted : tie.Need-returns-in-Accepted
+returns-in-Accepted c = search rules
 
-pub checked-spec : {M : Type 1} → statement M
-checked-spec =
+pub checked_spec : {M : Type 1} → statement M
+checked_spec =
     tie.close
     (tie.spec
     header-requires
-    enum-known-n
+    enum_known-n
     refuse-requires
-    enum_told
-    header-of-requires
-    slice-aggregate-load
+    enum_told-1
+    header_of-h-requires
+    slice_bounds-load-end
     load-requires
-    enum-known-n-2
-    refuse-requires-2
-    enum-told-2
-    slice-aggregate-ran
+    enum_known-n-in-Refused-1
+    refuse-requires-in-Refused
+    enum_told-in-Accepted
+    slice_bounds-ran-end
     ran-requires
-    same_length
-    returns
-    same-length-2
-    returns-2
-    same-length-3
-    returns-3)
+    shape_of-out-in-Fault
+    returns-in-Fault
+    shape_of-out-in-Refused
+    returns-in-Refused
+    shape_of-out-in-Accepted
+    returns-in-Accepted)

@@ -5,55 +5,55 @@ use borrow.Author.Rules.{rules}
 use Rattle.answer_text.proofs.decoded.Statement.{statement}
 use Rattle.answer_text.proofs.decoded.Tie as tie
 
-slice-aggregate-read : tie.Need-slice-aggregate-read
-slice-aggregate-read c = search rules
+slice_bounds-read-end : tie.Need-slice_bounds-read-end
+slice_bounds-read-end c = search rules
 
 read-requires : tie.Need-read-requires
 read-requires c κs = search rules
 
-enum-known-n : tie.Need-enum-known-n
-enum-known-n c = search rules
+enum_known-n : tie.Need-enum_known-n
+enum_known-n c = search rules
 
 refuse-requires : tie.Need-refuse-requires
 refuse-requires c κs = search rules
 
-enum-known-count : tie.Need-enum-known-count
-enum-known-count c = search rules
+enum_known-count : tie.Need-enum_known-count
+enum_known-count c = search rules
 
-array-share-prefix-numbers : tie.Need-array-share-prefix-numbers
-array-share-prefix-numbers c = (decoded_read _ (sym c.before.count.given.1 ∙ c.before.before.before.before.read.ensures.answers) _ _ c.before.before.before.before.read.ensures.leaves).0
+slice_bounds-numbers-end : tie.Need-slice_bounds-numbers-end
+slice_bounds-numbers-end c = (decoded_read _ (sym c.in-Numbers.is ∙ c.read.ensures.answers) _ _ c.read.ensures.leaves).0
 
-slice-aggregate-checked : tie.Need-slice-aggregate-checked
-slice-aggregate-checked c = sym (length-take-le _ _ (decoded_read _ (sym c.before.before.count.given.1 ∙ c.before.before.before.before.before.read.ensures.answers) _ _ c.before.before.before.before.before.read.ensures.leaves).0)
+slice_bounds-checked-end : tie.Need-slice_bounds-checked-end
+slice_bounds-checked-end c = sym (length-take-le _ _ (decoded_read _ (sym c.in-Numbers.is ∙ c.read.ensures.answers) _ _ c.read.ensures.leaves).0)
 
 checked-requires : tie.Need-checked-requires
 checked-requires c κs = search rules
 
-same_length : tie.Need-same-length
-same_length c = search rules
+shape_of-out-in-Refused : tie.Need-shape_of-out-in-Refused
+shape_of-out-in-Refused c = search rules
 
-returns : tie.Need-returns
-returns c = told_as _ _ (decoded_refused _ (sym c.before.before.before.before.before.n.given.1 ∙ c.before.before.before.before.before.before.before.before.read.ensures.answers) ∙ room_is _) c.before.before.refuse.ensures
+returns-in-Refused : tie.Need-returns-in-Refused
+returns-in-Refused c = told_as _ _ (decoded_refused _ (sym c.in-Refused.is ∙ c.read.ensures.answers) ∙ room_is _) c.refuse.ensures
 
-same-length-2 : tie.Need-same-length-2
-same-length-2 c = search rules
+shape_of-out-in-Numbers : tie.Need-shape_of-out-in-Numbers
+shape_of-out-in-Numbers c = search rules
 
-returns-2 : tie.Need-returns-2
-returns-2 c = told_as _ _ ((decoded_read _ (sym c.before.before.before.before.before.before.count.given.1 ∙ c.before.before.before.before.before.before.before.before.before.read.ensures.answers) _ _ c.before.before.before.before.before.before.before.before.before.read.ensures.leaves).1 ∙ room_is _) c.before.before.checked.ensures
+returns-in-Numbers : tie.Need-returns-in-Numbers
+returns-in-Numbers c = told_as _ _ ((decoded_read _ (sym c.in-Numbers.is ∙ c.read.ensures.answers) _ _ c.read.ensures.leaves).1 ∙ room_is _) c.checked.ensures
 
-pub decoded-spec : {M : Type 1} → statement M
-decoded-spec =
+pub decoded_spec : {M : Type 1} → statement M
+decoded_spec =
     tie.close
     (tie.spec
-    slice-aggregate-read
+    slice_bounds-read-end
     read-requires
-    enum-known-n
+    enum_known-n
     refuse-requires
-    enum-known-count
-    array-share-prefix-numbers
-    slice-aggregate-checked
+    enum_known-count
+    slice_bounds-numbers-end
+    slice_bounds-checked-end
     checked-requires
-    same_length
-    returns
-    same-length-2
-    returns-2)
+    shape_of-out-in-Refused
+    returns-in-Refused
+    shape_of-out-in-Numbers
+    returns-in-Numbers)

@@ -8,46 +8,46 @@ use borrow.Author.Rules.{rules}
 use Rattle.answer_text.proofs.listed.Statement.{statement}
 use Rattle.answer_text.proofs.listed.Tie as tie
 
-slice-aggregate-effects : tie.Need-slice-aggregate-effects
-slice-aggregate-effects c = search rules
+slice_bounds-effects-end : tie.Need-slice_bounds-effects-end
+slice_bounds-effects-end c = search rules
 
 effects-requires : tie.Need-effects-requires
 effects-requires c κs = search rules
 
-header-of-requires : tie.Need-header-of-requires
-header-of-requires c κs = search rules
+header_of-h-requires : tie.Need-header_of-h-requires
+header_of-h-requires c κs = search rules
 
-array-share-prefix-verdicts : tie.Need-array-share-prefix-verdicts
-array-share-prefix-verdicts c =
-    let few = modules_few c.before.before.before.before.before.before.before.before.before.before.before.before.before.before.before.before.requires.0 _ c.header_of.ensures in
-    omega (arith, few, c.before.before.effects.auto.1.0, length-replicate {A = ℕ} 1024 0)
+slice_bounds-verdicts-end : tie.Need-slice_bounds-verdicts-end
+slice_bounds-verdicts-end c =
+    let few = modules_few c.requires.0 _ c.header_of-h.ensures in
+    omega (arith, few, c.effects.auto.1.0, length-replicate {A = ℕ} 1024 0)
 
-slice-aggregate-form : tie.Need-slice-aggregate-form
-slice-aggregate-form c =
-    let few = modules_few c.before.before.before.before.before.before.before.before.before.before.before.before.before.before.before.before.before.requires.0 _ c.before.header_of.ensures in
-    sym (length-take-le _ _ (omega (arith, few, c.before.before.before.effects.auto.1.0, length-replicate {A = ℕ} 1024 0)))
+slice_bounds-form-end : tie.Need-slice_bounds-form-end
+slice_bounds-form-end c =
+    let few = modules_few c.requires.0 _ c.header_of-h.ensures in
+    sym (length-take-le _ _ (omega (arith, few, c.effects.auto.1.0, length-replicate {A = ℕ} 1024 0)))
 
 form-requires : tie.Need-form-requires
 form-requires c κs =
-    let s = c.before.before.before.before.before.before.before.before.before.before.before.before.before.before.before.before.before.before.requires in
-    (s.0, fits_as _ _ _ _ _ _ _ _ _ _ _ _ _ _ (verdicts_are s.0 _ c.before.before.header_of.ensures _ _ (omega arith) c.before.before.before.before.effects.ensures.1) s.1)
+    let s = c.requires in
+    (s.0, fits_as _ _ _ _ _ _ _ _ _ _ _ _ _ _ (verdicts_are s.0 _ c.header_of-h.ensures _ _ (omega arith) c.effects.ensures.1) s.1)
 
-same_length : tie.Need-same-length
-same_length c = search rules
+shape_of-out : tie.Need-shape_of-out
+shape_of-out c = search rules
 
 returns : tie.Need-returns
 returns c =
-    told_as _ _ (listing_as _ _ _ _ _ _ _ _ _ _ _ _ _ _ (verdicts_are c.before.before.before.before.before.before.before.before.before.before.before.before.before.before.before.before.before.before.before.before.before.requires.0 _ c.before.before.before.before.before.header_of.ensures _ _ (omega arith) c.before.before.before.before.before.before.before.effects.ensures.1)) c.before.before.form.ensures
+    told_as _ _ (listing_as _ _ _ _ _ _ _ _ _ _ _ _ _ _ (verdicts_are c.requires.0 _ c.header_of-h.ensures _ _ (omega arith) c.effects.ensures.1)) c.form.ensures
 
-pub listed-spec : {M : Type 1} → statement M
-listed-spec =
+pub listed_spec : {M : Type 1} → statement M
+listed_spec =
     tie.close
     (tie.spec
-    slice-aggregate-effects
+    slice_bounds-effects-end
     effects-requires
-    header-of-requires
-    array-share-prefix-verdicts
-    slice-aggregate-form
+    header_of-h-requires
+    slice_bounds-verdicts-end
+    slice_bounds-form-end
     form-requires
-    same_length
+    shape_of-out
     returns)

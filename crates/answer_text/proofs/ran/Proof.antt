@@ -5,126 +5,126 @@ use borrow.Author.Rules.{rules}
 use Rattle.answer_text.proofs.ran.Statement.{statement}
 use Rattle.answer_text.proofs.ran.Tie as tie
 
-slice-aggregate-run : tie.Need-slice-aggregate-run
-slice-aggregate-run c = refl
+slice_bounds-run-end : tie.Need-slice_bounds-run-end
+slice_bounds-run-end c = refl
 
-slice-aggregate-run-2 : tie.Need-slice-aggregate-run-2
-slice-aggregate-run-2 c = refl
+slice_bounds-run-end-2 : tie.Need-slice_bounds-run-end-2
+slice_bounds-run-end-2 c = refl
 
-slice-aggregate-run-3 : tie.Need-slice-aggregate-run-3
-slice-aggregate-run-3 c = refl
+slice_bounds-run-end-3 : tie.Need-slice_bounds-run-end-3
+slice_bounds-run-end-3 c = refl
 
-slice-aggregate-run-4 : tie.Need-slice-aggregate-run-4
-slice-aggregate-run-4 c = refl
+slice_bounds-run-end-4 : tie.Need-slice_bounds-run-end-4
+slice_bounds-run-end-4 c = refl
 
-slice-aggregate-run-5 : tie.Need-slice-aggregate-run-5
-slice-aggregate-run-5 c = refl
+slice_bounds-run-end-5 : tie.Need-slice_bounds-run-end-5
+slice_bounds-run-end-5 c = refl
 
-slice-aggregate-run-6 : tie.Need-slice-aggregate-run-6
-slice-aggregate-run-6 c = refl
+slice_bounds-run-end-6 : tie.Need-slice_bounds-run-end-6
+slice_bounds-run-end-6 c = refl
 
-slice-aggregate-run-7 : tie.Need-slice-aggregate-run-7
-slice-aggregate-run-7 c = refl
+slice_bounds-run-end-7 : tie.Need-slice_bounds-run-end-7
+slice_bounds-run-end-7 c = refl
 
-slice-aggregate-run-8 : tie.Need-slice-aggregate-run-8
-slice-aggregate-run-8 c = refl
+slice_bounds-run-end-8 : tie.Need-slice_bounds-run-end-8
+slice_bounds-run-end-8 c = refl
 
-slice-aggregate-run-9 : tie.Need-slice-aggregate-run-9
-slice-aggregate-run-9 c = refl
+slice_bounds-run-end-9 : tie.Need-slice_bounds-run-end-9
+slice_bounds-run-end-9 c = refl
 
-slice-aggregate-run-10 : tie.Need-slice-aggregate-run-10
-slice-aggregate-run-10 c = refl
+slice_bounds-run-end-10 : tie.Need-slice_bounds-run-end-10
+slice_bounds-run-end-10 c = refl
 
-slice-aggregate-run-11 : tie.Need-slice-aggregate-run-11
-slice-aggregate-run-11 c = refl
+slice_bounds-run-end-11 : tie.Need-slice_bounds-run-end-11
+slice_bounds-run-end-11 c = refl
 
 run-requires : tie.Need-run-requires
 run-requires c κs = search rules
 
-enum-known-n : tie.Need-enum-known-n
-enum-known-n c = search rules
+enum_known-n : tie.Need-enum_known-n
+enum_known-n c = search rules
 
 refuse-requires : tie.Need-refuse-requires
 refuse-requires c κs = search rules
 
-enum-known-t : tie.Need-enum-known-t
-enum-known-t c = search rules
+enum_known-t : tie.Need-enum_known-t
+enum_known-t c = search rules
 
-slice-aggregate-listed : tie.Need-slice-aggregate-listed
-slice-aggregate-listed c = sym c.before.before.before.before.before.before.before.before.before.before.before.before.before.before.before.run.auto.1.1.1.1.1.1.1.1.1.1.1.0
+slice_bounds-listed-end : tie.Need-slice_bounds-listed-end
+slice_bounds-listed-end c = sym c.run.auto.1.1.1.1.1.1.1.1.1.1.1.0
 
-slice-aggregate-listed-2 : tie.Need-slice-aggregate-listed-2
-slice-aggregate-listed-2 c = sym c.before.before.before.before.before.before.before.before.before.before.before.before.before.before.before.before.run.auto.1.1.1.0
+slice_bounds-listed-end-in-Done : tie.Need-slice_bounds-listed-end-in-Done
+slice_bounds-listed-end-in-Done c = sym c.run.auto.1.1.1.0
 
-slice-aggregate-listed-3 : tie.Need-slice-aggregate-listed-3
-slice-aggregate-listed-3 c = sym c.before.before.before.before.before.before.before.before.before.before.before.before.before.before.before.before.before.run.auto.1.1.1.1.0
+slice_bounds-listed-end-in-Done-2 : tie.Need-slice_bounds-listed-end-in-Done-2
+slice_bounds-listed-end-in-Done-2 c = sym c.run.auto.1.1.1.1.0
 
-slice-aggregate-listed-4 : tie.Need-slice-aggregate-listed-4
-slice-aggregate-listed-4 c = sym c.before.before.before.before.before.before.before.before.before.before.before.before.before.before.before.before.before.before.run.auto.1.1.1.1.1.0
+slice_bounds-listed-end-in-Done-3 : tie.Need-slice_bounds-listed-end-in-Done-3
+slice_bounds-listed-end-in-Done-3 c = sym c.run.auto.1.1.1.1.1.0
 
-slice-aggregate-listed-5 : tie.Need-slice-aggregate-listed-5
-slice-aggregate-listed-5 c = sym c.before.before.before.before.before.before.before.before.before.before.before.before.before.before.before.before.before.before.before.run.auto.1.1.1.1.1.1.0
+slice_bounds-listed-end-in-Done-4 : tie.Need-slice_bounds-listed-end-in-Done-4
+slice_bounds-listed-end-in-Done-4 c = sym c.run.auto.1.1.1.1.1.1.0
 
-slice-aggregate-listed-6 : tie.Need-slice-aggregate-listed-6
-slice-aggregate-listed-6 c = sym c.before.before.before.before.before.before.before.before.before.before.before.before.before.before.before.before.before.before.before.before.run.auto.1.1.1.1.1.1.1.0
+slice_bounds-listed-end-in-Done-5 : tie.Need-slice_bounds-listed-end-in-Done-5
+slice_bounds-listed-end-in-Done-5 c = sym c.run.auto.1.1.1.1.1.1.1.0
 
-slice-aggregate-listed-7 : tie.Need-slice-aggregate-listed-7
-slice-aggregate-listed-7 c = sym c.before.before.before.before.before.before.before.before.before.before.before.before.before.before.before.before.before.before.before.before.before.run.auto.1.1.1.1.1.1.1.1.0
+slice_bounds-listed-end-in-Done-6 : tie.Need-slice_bounds-listed-end-in-Done-6
+slice_bounds-listed-end-in-Done-6 c = sym c.run.auto.1.1.1.1.1.1.1.1.0
 
-slice-aggregate-listed-8 : tie.Need-slice-aggregate-listed-8
-slice-aggregate-listed-8 c = sym c.before.before.before.before.before.before.before.before.before.before.before.before.before.before.before.before.before.before.before.before.before.before.run.auto.1.1.1.1.1.1.1.1.1.0
+slice_bounds-listed-end-in-Done-7 : tie.Need-slice_bounds-listed-end-in-Done-7
+slice_bounds-listed-end-in-Done-7 c = sym c.run.auto.1.1.1.1.1.1.1.1.1.0
 
-slice-aggregate-listed-9 : tie.Need-slice-aggregate-listed-9
-slice-aggregate-listed-9 c = sym c.before.before.before.before.before.before.before.before.before.before.before.before.before.before.before.before.before.before.before.before.before.before.before.run.auto.1.1.1.1.1.1.1.1.1.1.0
+slice_bounds-listed-end-in-Done-8 : tie.Need-slice_bounds-listed-end-in-Done-8
+slice_bounds-listed-end-in-Done-8 c = sym c.run.auto.1.1.1.1.1.1.1.1.1.1.0
 
 listed-requires : tie.Need-listed-requires
 listed-requires c κs =
-    let s = c.before.before.before.before.before.before.before.before.before.before.before.before.before.before.before.before.before.before.before.before.before.before.before.before.before.before.before.before.before.before.before.before.before.before.before.before.before.before.before.requires in
-    let r = c.before.before.before.before.before.before.before.before.before.before.before.before.before.before.before.before.before.before.before.before.before.before.before.before.run in
-    (s, ran_fits s c.before.before.before.before.before.before.before.before.before.before.before.t.given.1 _ r.ensures r.auto.1.1.1.0 r.auto.1.1.1.1.0 r.auto.1.1.1.1.1.0 r.auto.1.1.1.1.1.1.0 r.auto.1.1.1.1.1.1.1.0 r.auto.1.1.1.1.1.1.1.1.0 r.auto.1.1.1.1.1.1.1.1.1.0 r.auto.1.1.1.1.1.1.1.1.1.1.0)
+    let s = c.requires in
+    let r = c.run in
+    (s, ran_fits s c.in-Done.is _ r.ensures r.auto.1.1.1.0 r.auto.1.1.1.1.0 r.auto.1.1.1.1.1.0 r.auto.1.1.1.1.1.1.0 r.auto.1.1.1.1.1.1.1.0 r.auto.1.1.1.1.1.1.1.1.0 r.auto.1.1.1.1.1.1.1.1.1.0 r.auto.1.1.1.1.1.1.1.1.1.1.0)
 
-same_length : tie.Need-same-length
-same_length c = search rules
+shape_of-out-in-Refused : tie.Need-shape_of-out-in-Refused
+shape_of-out-in-Refused c = search rules
 
-returns : tie.Need-returns
-returns c = told_as _ _ (refused_text_lem _ c.before.before.before.before.before.n.given.1 c.before.before.before.before.before.before.before.before.before.before.before.before.before.before.before.before.before.before.run.ensures.answer) c.before.before.refuse.ensures
+returns-in-Refused : tie.Need-returns-in-Refused
+returns-in-Refused c = told_as _ _ (refused_text_lem _ c.in-Refused.is c.run.ensures.answer) c.refuse.ensures
 
-same-length-2 : tie.Need-same-length-2
-same-length-2 c = search rules
+shape_of-out-in-Done : tie.Need-shape_of-out-in-Done
+shape_of-out-in-Done c = search rules
 
-returns-2 : tie.Need-returns-2
-returns-2 c = told_as _ _ (ran_text c.before.before.before.before.before.before.before.before.before.before.before.before.before.before.before.before.before.before.before.before.before.before.before.before.before.before.before.before.before.before.before.before.before.before.before.before.before.before.before.before.before.before.requires c.before.before.before.before.before.before.before.before.before.before.before.before.before.before.t.given.1 _ c.before.before.before.before.before.before.before.before.before.before.before.before.before.before.before.before.before.before.before.before.before.before.before.before.before.before.before.run.ensures) c.before.before.listed.ensures
+returns-in-Done : tie.Need-returns-in-Done
+returns-in-Done c = told_as _ _ (ran_text c.requires c.in-Done.is _ c.run.ensures) c.listed.ensures
 
-pub ran-spec : {M : Type 1} → statement M
-ran-spec =
+pub ran_spec : {M : Type 1} → statement M
+ran_spec =
     tie.close
     (tie.spec
-    slice-aggregate-run
-    slice-aggregate-run-2
-    slice-aggregate-run-3
-    slice-aggregate-run-4
-    slice-aggregate-run-5
-    slice-aggregate-run-6
-    slice-aggregate-run-7
-    slice-aggregate-run-8
-    slice-aggregate-run-9
-    slice-aggregate-run-10
-    slice-aggregate-run-11
+    slice_bounds-run-end
+    slice_bounds-run-end-2
+    slice_bounds-run-end-3
+    slice_bounds-run-end-4
+    slice_bounds-run-end-5
+    slice_bounds-run-end-6
+    slice_bounds-run-end-7
+    slice_bounds-run-end-8
+    slice_bounds-run-end-9
+    slice_bounds-run-end-10
+    slice_bounds-run-end-11
     run-requires
-    enum-known-n
+    enum_known-n
     refuse-requires
-    enum-known-t
-    slice-aggregate-listed
-    slice-aggregate-listed-2
-    slice-aggregate-listed-3
-    slice-aggregate-listed-4
-    slice-aggregate-listed-5
-    slice-aggregate-listed-6
-    slice-aggregate-listed-7
-    slice-aggregate-listed-8
-    slice-aggregate-listed-9
+    enum_known-t
+    slice_bounds-listed-end
+    slice_bounds-listed-end-in-Done
+    slice_bounds-listed-end-in-Done-2
+    slice_bounds-listed-end-in-Done-3
+    slice_bounds-listed-end-in-Done-4
+    slice_bounds-listed-end-in-Done-5
+    slice_bounds-listed-end-in-Done-6
+    slice_bounds-listed-end-in-Done-7
+    slice_bounds-listed-end-in-Done-8
     listed-requires
-    same_length
-    returns
-    same-length-2
-    returns-2)
+    shape_of-out-in-Refused
+    returns-in-Refused
+    shape_of-out-in-Done
+    returns-in-Done)

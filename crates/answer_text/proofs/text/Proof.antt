@@ -6,33 +6,42 @@ use Rattle.answer_text.proofs.text.Tie as tie
 refuse-requires : tie.Need-refuse-requires
 refuse-requires c κs = search rules
 
-same_length : tie.Need-same-length
-same_length c = search rules
+shape_of-out-then-behind-gt0 : tie.Need-shape_of-out-then-behind-gt0
+shape_of-out-then-behind-gt0 c = search rules
 
-returns : tie.Need-returns
-returns c = told_as _ _ (text_behind _ _ c.before.before.before.before.if1.true) c.before.before.refuse.ensures
+returns-then-behind-gt0 : tie.Need-returns-then-behind-gt0
+returns-then-behind-gt0 c = told_as _ _ (text_behind _ _ c.if-behind-gt0.true) c.refuse.ensures
 
-refuse-requires-2 : tie.Need-refuse-requires-2
-refuse-requires-2 c κs = search rules
+refuse-requires-then-front-gt8192 : tie.Need-refuse-requires-then-front-gt8192
+refuse-requires-then-front-gt8192 c κs = search rules
 
-same-length-2 : tie.Need-same-length-2
-same-length-2 c = search rules
+shape_of-out-then-front-gt8192 : tie.Need-shape_of-out-then-front-gt8192
+shape_of-out-then-front-gt8192 c = search rules
 
-returns-2 : tie.Need-returns-2
-returns-2 c =
-    told_as _ _ (text_over _ _ c.before.before.before.before.before.if1.false c.before.before.before.before.if2.true) c.before.before.refuse2.ensures
+returns-then-front-gt8192 : tie.Need-returns-then-front-gt8192
+returns-then-front-gt8192 c =
+    told_as _ _ (text_over _ _ c.if-behind-gt0.false c.if-front-gt8192.true) c.refuse-then-front-gt8192.ensures
 
 decoded-requires : tie.Need-decoded-requires
 decoded-requires c κs = search rules
 
-same-length-3 : tie.Need-same-length-3
-same-length-3 c = search rules
+shape_of-out : tie.Need-shape_of-out
+shape_of-out c = search rules
 
-returns-3 : tie.Need-returns-3
-returns-3 c =
-    told_as _ _ (text_whole _ _ c.before.before.before.before.before.if1.false c.before.before.before.before.if2.false) c.before.before.decoded.ensures
+returns : tie.Need-returns
+returns c =
+    told_as _ _ (text_whole _ _ c.if-behind-gt0.false c.if-front-gt8192.false) c.decoded.ensures
 
-pub text-spec : {M : Type 1} → statement M
-text-spec =
+pub text_spec : {M : Type 1} → statement M
+text_spec =
     tie.close
-    (tie.spec refuse-requires same_length returns refuse-requires-2 same-length-2 returns-2 decoded-requires same-length-3 returns-3)
+    (tie.spec
+    refuse-requires
+    shape_of-out-then-behind-gt0
+    returns-then-behind-gt0
+    refuse-requires-then-front-gt8192
+    shape_of-out-then-front-gt8192
+    returns-then-front-gt8192
+    decoded-requires
+    shape_of-out
+    returns)

@@ -3,19 +3,25 @@ use Rattle.answers.specs.Answers.{drain_answer_of}
 use Rattle.answers.proofs.drain_answer.Statement.{statement}
 use Rattle.answers.proofs.drain_answer.Tie as tie
 
-enum-known-r : tie.Need-enum-known-r
-enum-known-r c = search rules
+enum_known-r : tie.Need-enum_known-r
+enum_known-r c = search rules
 
-enum-known-r-2 : tie.Need-enum-known-r-2
-enum-known-r-2 c = search rules
+enum_known-r-in-Refused-1 : tie.Need-enum_known-r-in-Refused-1
+enum_known-r-in-Refused-1 c = search rules
 
-returns : tie.Need-returns
+returns-in-Lines : tie.Need-returns-in-Lines
 unfolding drain_answer_of
-returns c = rw c.before.r.given.1
+returns-in-Lines c = rw c.in-Lines.is
 
-returns-2 : tie.Need-returns-2
+returns-in-Refused : tie.Need-returns-in-Refused
 unfolding drain_answer_of
-returns-2 c = rw c.before.r2.given.1
+returns-in-Refused c = rw c.in-Refused.is
 
-pub drain-answer-spec : {M : Type 1} → statement M
-drain-answer-spec = tie.close (tie.spec enum-known-r enum-known-r-2 returns returns-2)
+pub drain_answer_spec : {M : Type 1} → statement M
+drain_answer_spec =
+    tie.close
+    (tie.spec
+    enum_known-r
+    enum_known-r-in-Refused-1
+    returns-in-Lines
+    returns-in-Refused)

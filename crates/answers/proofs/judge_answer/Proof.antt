@@ -3,19 +3,25 @@ use Rattle.answers.specs.Answers.{judge_answer_of}
 use Rattle.answers.proofs.judge_answer.Statement.{statement}
 use Rattle.answers.proofs.judge_answer.Tie as tie
 
-enum_told : tie.Need-enum-told
-enum_told c = search rules
+enum_told-1 : tie.Need-enum_told-1
+enum_told-1 c = search rules
 
-enum-known-r : tie.Need-enum-known-r
-enum-known-r c = search rules
+enum_known-r : tie.Need-enum_known-r
+enum_known-r c = search rules
 
-returns : tie.Need-returns
+returns-in-Passed : tie.Need-returns-in-Passed
 unfolding judge_answer_of
-returns c = rw c.enum_told.given.1
+returns-in-Passed c = rw c.in-Passed.is
 
-returns-2 : tie.Need-returns-2
+returns-in-Refused : tie.Need-returns-in-Refused
 unfolding judge_answer_of
-returns-2 c = rw c.before.r.given.1
+returns-in-Refused c = rw c.in-Refused.is
 
-pub judge-answer-spec : {M : Type 1} → statement M
-judge-answer-spec = tie.close (tie.spec enum_told enum-known-r returns returns-2)
+pub judge_answer_spec : {M : Type 1} → statement M
+judge_answer_spec =
+    tie.close
+    (tie.spec
+    enum_told-1
+    enum_known-r
+    returns-in-Passed
+    returns-in-Refused)

@@ -3,19 +3,25 @@ use Rattle.answers.specs.Answers.{run_answer_of}
 use Rattle.answers.proofs.run_answer.Statement.{statement}
 use Rattle.answers.proofs.run_answer.Tie as tie
 
-enum-known-r : tie.Need-enum-known-r
-enum-known-r c = search rules
+enum_known-r : tie.Need-enum_known-r
+enum_known-r c = search rules
 
-enum-known-r-2 : tie.Need-enum-known-r-2
-enum-known-r-2 c = search rules
+enum_known-r-in-Refused-1 : tie.Need-enum_known-r-in-Refused-1
+enum_known-r-in-Refused-1 c = search rules
 
-returns : tie.Need-returns
+returns-in-Done : tie.Need-returns-in-Done
 unfolding run_answer_of
-returns c = rw c.before.r.given.1
+returns-in-Done c = rw c.in-Done.is
 
-returns-2 : tie.Need-returns-2
+returns-in-Refused : tie.Need-returns-in-Refused
 unfolding run_answer_of
-returns-2 c = rw c.before.r2.given.1
+returns-in-Refused c = rw c.in-Refused.is
 
-pub run-answer-spec : {M : Type 1} → statement M
-run-answer-spec = tie.close (tie.spec enum-known-r enum-known-r-2 returns returns-2)
+pub run_answer_spec : {M : Type 1} → statement M
+run_answer_spec =
+    tie.close
+    (tie.spec
+    enum_known-r
+    enum_known-r-in-Refused-1
+    returns-in-Done
+    returns-in-Refused)

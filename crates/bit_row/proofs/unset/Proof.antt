@@ -12,49 +12,48 @@ use Rattle.bit_row.proofs.unset.Tie as tie
 test-requires : tie.Need-test-requires
 test-requires c κs = search rules
 
-same_length : tie.Need-same-length
-same_length c = search rules
+shape_of-row-then-not-test : tie.Need-shape_of-row-then-not-test
+shape_of-row-then-not-test c = search rules
 
-returns : tie.Need-returns
-returns c = λ j. clear_before _ _ j (sym c.before.test.ensures ∙ not_true _ c.if1.true)
+returns-then-not-test : tie.Need-returns-then-not-test
+returns-then-not-test c = λ j. clear_before _ _ j (sym c.test.ensures ∙ not_true _ c.if-not-test.true)
 
-slice-read-row : tie.Need-slice-read-row
-slice-read-row c = search rules
+bounds-row-at : tie.Need-bounds-row-at
+bounds-row-at c = search rules
 
-cast-row : tie.Need-overflow-cast-row
-cast-row c = search rules
+overflow_cast-row : tie.Need-overflow_cast-row
+overflow_cast-row c = search rules
 
-shl-row : tie.Need-overflow-shl-row
-shl-row c = search rules
+overflow_shl-row : tie.Need-overflow_shl-row
+overflow_shl-row c = search rules
 
-sub_row : tie.Need-overflow-sub-row
-sub_row c =
-    let room = set-fits _ _ (sym c.before.before.test.ensures ∙ not-false _ c.before.if1.false) in
+overflow_sub-row : tie.Need-overflow_sub-row
+overflow_sub-row c =
+    let room = set-fits _ _ (sym c.test.ensures ∙ not-false _ c.if-not-test.false) in
     omega (arith, room)
 
-slice-write-row : tie.Need-slice-write-row
-slice-write-row c = search rules
+bounds-row-at-2 : tie.Need-bounds-row-at-2
+bounds-row-at-2 c = search rules
 
-same-length-2 : tie.Need-same-length-2
-same-length-2 c = search rules
+shape_of-row : tie.Need-shape_of-row
+shape_of-row c = search rules
 
-returns-2 : tie.Need-returns-2
-returns-2 c =
-    let start = c.before.before.before.before.before in
-    let old = sym c.before.before.test.ensures ∙ not-false _ c.before.if1.false in
-    λ j. clear_now _ _ j _ start.requires old (rw (one-mul, one_shifted start.args.i))
+returns : tie.Need-returns
+returns c =
+    let old = sym c.test.ensures ∙ not-false _ c.if-not-test.false in
+    λ j. clear_now _ _ j _ c.requires old (rw (one-mul, one_shifted c.args.i))
 
-pub unset-spec : {M : Type 1} → statement M
-unset-spec =
+pub unset_spec : {M : Type 1} → statement M
+unset_spec =
     tie.close
     (tie.spec
     test-requires
-    same_length
-    returns
-    slice-read-row
-    cast-row
-    shl-row
-    sub_row
-    slice-write-row
-    same-length-2
-    returns-2)
+    shape_of-row-then-not-test
+    returns-then-not-test
+    bounds-row-at
+    overflow_cast-row
+    overflow_shl-row
+    overflow_sub-row
+    bounds-row-at-2
+    shape_of-row
+    returns)

@@ -14,73 +14,73 @@ use native.Mathlib.Omega.{arith}
 use Rattle.completeness.proofs.are_declared.Statement.{statement}
 use Rattle.completeness.proofs.are_declared.Tie as tie
 
-abbrev invariant-loop : tie.invariant-loop
-invariant-loop numbers tables marks s owner count i₀ i = (i ≤ count) × (all (statement_kept (graph_in numbers) (marked (graph_in numbers) marks) s.0) (drop i (declaring_statements (symbol_of (graph_in numbers) s.0))) ≡ are_declared (graph_in numbers) (marked (graph_in numbers) marks) s.0)
+abbrev invariant-loop-i : tie.invariant-loop-i
+invariant-loop-i numbers tables marks s owner count i₀ i = (i ≤ count) × (all (statement_kept (graph_in numbers) (marked (graph_in numbers) marks) s.0) (drop i (declaring_statements (symbol_of (graph_in numbers) s.0))) ≡ are_declared (graph_in numbers) (marked (graph_in numbers) marks) s.0)
 
-abbrev decreases-loop : tie.decreases-loop
-decreases-loop numbers tables marks s owner count i₀ i = count - i
+abbrev decreases-loop-i : tie.decreases-loop-i
+decreases-loop-i numbers tables marks s owner count i₀ i = count - i
 
-owner-requires : tie.Need-owner-requires invariant-loop decreases-loop
-owner-requires c κs = let s = c.before.before.before in (s.requires.0.loaded, s.requires.1.0)
+owner-owner-requires : tie.Need-owner-owner-requires invariant-loop-i decreases-loop-i
+owner-owner-requires c κs = (c.requires.0.loaded, c.requires.1.0)
 
-is-normal-requires : tie.Need-is-normal-requires invariant-loop decreases-loop
-is-normal-requires c κs = (c.before.before.before.before.requires.0.loaded, c.owner.ensures.1)
+is_normal-requires : tie.Need-is_normal-requires invariant-loop-i decreases-loop-i
+is_normal-requires c κs = (c.requires.0.loaded, c.owner-owner.ensures.1)
 
-returns : tie.Need-returns invariant-loop decreases-loop
-returns c = owner-external _ _ _ _ c.before.before.owner.ensures.0 _ c.before.is_normal.ensures (not_true _ c.if1.true)
+returns-then-not-is_normal : tie.Need-returns-then-not-is_normal invariant-loop-i decreases-loop-i
+returns-then-not-is_normal c = owner-external _ _ _ _ c.owner-owner.ensures.0 _ c.is_normal.ensures (not_true _ c.if-not-is_normal.true)
 
-is-marked-requires : tie.Need-is-marked-requires invariant-loop decreases-loop
+is_marked-requires : tie.Need-is_marked-requires invariant-loop-i decreases-loop-i
 unfolding graph_in
-is-marked-requires c κs = let s = c.before.before.before.before.before.before in (s.requires.0.loaded, ((c.before.before.owner.ensures.1, sym c.before.is_normal.ensures ∙ not-false _ c.if1.false), s.requires.1.1))
+is_marked-requires c κs = (c.requires.0.loaded, ((c.owner-owner.ensures.1, sym c.is_normal.ensures ∙ not-false _ c.if-not-is_normal.false), c.requires.1.1))
 
-returns-2 : tie.Need-returns-2 invariant-loop decreases-loop
-returns-2 c = owner-absent _ _ _ _ c.before.before.before.before.owner.ensures.0 _ c.before.before.before.is_normal.ensures (not-false _ c.before.before.if1.false) _ c.before.is-marked.ensures (not_true _ c.if2.true)
+returns-then-not-is_marked : tie.Need-returns-then-not-is_marked invariant-loop-i decreases-loop-i
+returns-then-not-is_marked c = owner-absent _ _ _ _ c.owner-owner.ensures.0 _ c.is_normal.ensures (not-false _ c.if-not-is_normal.false) _ c.is_marked.ensures (not_true _ c.if-not-is_marked.true)
 
-declaring-count-requires : tie.Need-declaring-count-requires invariant-loop decreases-loop
-declaring-count-requires c κs = let s = c.before.before.before.before.before.before.before.before in (s.requires.0.loaded, s.requires.1.0)
+declaring_count-count-requires : tie.Need-declaring_count-count-requires invariant-loop-i decreases-loop-i
+declaring_count-count-requires c κs = (c.requires.0.loaded, c.requires.1.0)
 
-loop-holds : tie.Need-loop-init invariant-loop decreases-loop
-loop-holds c = (omega arith, owner-kept _ _ _ _ c.before.before.before.before.before.owner.ensures.0 _ c.before.before.before.before.is_normal.ensures (not-false _ c.before.before.before.if1.false) _ c.before.before.is-marked.ensures (not-false _ c.before.if2.false))
+loop-i-init : tie.Need-loop-i-init invariant-loop-i decreases-loop-i
+loop-i-init c = (omega arith, owner-kept _ _ _ _ c.owner-owner.ensures.0 _ c.is_normal.ensures (not-false _ c.if-not-is_normal.false) _ c.is_marked.ensures (not-false _ c.if-not-is_marked.false))
 
-declaring-requires : tie.Need-declaring-requires invariant-loop decreases-loop
-declaring-requires c κs = let s = c.before.before.before.before.before.before.before.before.before.before.before in (s.requires.0.loaded, (s.requires.1.0, omega (arith, c.loop-test.true, c.before.before.declaring-count.ensures.0)))
+declaring-statement-requires : tie.Need-declaring-statement-requires invariant-loop-i decreases-loop-i
+declaring-statement-requires c κs = (c.requires.0.loaded, (c.requires.1.0, omega (arith, c.loop-i-test.true, c.declaring_count-count.ensures.0)))
 
-is-marked-requires-2 : tie.Need-is-marked-requires-2 invariant-loop decreases-loop
+is_marked-requires-in-loop-i : tie.Need-is_marked-requires-in-loop-i invariant-loop-i decreases-loop-i
 unfolding graph_in
-is-marked-requires-2 c κs = let s = c.before.before.before.before.before.before.before.before.before.before.before.before in (s.requires.0.loaded, (declaring_good _ (λ f. true) _ _ c.before.before.before.before.before.before.before.before.owner.ensures.0 c.before.before.before.before.before.before.before.before.owner.ensures.1 _ c.declaring.ensures.1, s.requires.1.1))
+is_marked-requires-in-loop-i c κs = (c.requires.0.loaded, (declaring_good _ (λ f. true) _ _ c.owner-owner.ensures.0 c.owner-owner.ensures.1 _ c.declaring-statement.ensures.1, c.requires.1.1))
 
-returns-3 : tie.Need-returns-3 invariant-loop decreases-loop
-returns-3 c = all_stop _ _ _ c.before.before.before.before.before.declaring-count.ensures.0 _ _ c.before.before.before.before.loop.invariant.1 c.before.before.before.loop-test.true [] _ (declaring_kept _ _ _ _ c.before.before.before.before.before.before.before.before.before.before.owner.ensures.0 _ _ c.before.before.declaring.ensures.0 _ c.before.is-marked2.ensures) (not_true _ c.if3.true)
+returns-then-not-is_marked-2 : tie.Need-returns-then-not-is_marked-2 invariant-loop-i decreases-loop-i
+returns-then-not-is_marked-2 c = all_stop _ _ _ c.declaring_count-count.ensures.0 _ _ c.loop-i.invariant.1 c.loop-i-test.true [] _ (declaring_kept _ _ _ _ c.owner-owner.ensures.0 _ _ c.declaring-statement.ensures.0 _ c.is_marked-in-loop-i.ensures) (not_true _ c.if-not-is_marked-2.true)
 
-add-i : tie.Need-overflow-add-i invariant-loop decreases-loop
-add-i c = record { fits = omega (arith, c.before.before.before.loop-test.true, c.before.before.before.before.before.declaring-count.ensures.1) }
+overflow_add-i : tie.Need-overflow_add-i invariant-loop-i decreases-loop-i
+overflow_add-i c = record { fits = omega (arith, c.loop-i-test.true, c.declaring_count-count.ensures.1) }
 
-loop-less : tie.Need-loop-smaller invariant-loop decreases-loop
-loop-less c = omega (arith, c.before.before.before.loop-test.true)
+loop-i-smaller : tie.Need-loop-i-smaller invariant-loop-i decreases-loop-i
+loop-i-smaller c = omega (arith, c.loop-i-test.true)
 
-loop-again : tie.Need-loop-preserved invariant-loop decreases-loop
-loop-again c = (omega (arith, c.before.before.before.loop-test.true), all-next _ _ _ c.before.before.before.before.before.declaring-count.ensures.0 _ _ c.before.before.before.before.loop.invariant.1 c.before.before.before.loop-test.true [] _ (declaring_kept _ _ _ _ c.before.before.before.before.before.before.before.before.before.before.owner.ensures.0 _ _ c.before.before.declaring.ensures.0 _ c.before.is-marked2.ensures) (not-false _ c.if3.false))
+loop-i-preserved : tie.Need-loop-i-preserved invariant-loop-i decreases-loop-i
+loop-i-preserved c = (omega (arith, c.loop-i-test.true), all-next _ _ _ c.declaring_count-count.ensures.0 _ _ c.loop-i.invariant.1 c.loop-i-test.true [] _ (declaring_kept _ _ _ _ c.owner-owner.ensures.0 _ _ c.declaring-statement.ensures.0 _ c.is_marked-in-loop-i.ensures) (not-false _ c.if-not-is_marked-2.false))
 
-returns-4 : tie.Need-returns-4 invariant-loop decreases-loop
-returns-4 c = all_end _ _ _ c.before.before.declaring-count.ensures.0 _ _ c.before.loop.invariant.1 c.loop-test.false
+returns : tie.Need-returns invariant-loop-i decreases-loop-i
+returns c = all_end _ _ _ c.declaring_count-count.ensures.0 _ _ c.loop-i.invariant.1 c.loop-i-test.false
 
-pub are-declared-spec : {M : Type 1} → statement M
-are-declared-spec =
+pub are_declared_spec : {M : Type 1} → statement M
+are_declared_spec =
     tie.close
     (tie.spec
-    invariant-loop
-    decreases-loop
-    owner-requires
-    is-normal-requires
-    returns
-    is-marked-requires
-    returns-2
-    declaring-count-requires
-    loop-holds
-    declaring-requires
-    is-marked-requires-2
-    returns-3
-    add-i
-    loop-less
-    loop-again
-    returns-4)
+    invariant-loop-i
+    decreases-loop-i
+    owner-owner-requires
+    is_normal-requires
+    returns-then-not-is_normal
+    is_marked-requires
+    returns-then-not-is_marked
+    declaring_count-count-requires
+    loop-i-init
+    declaring-statement-requires
+    is_marked-requires-in-loop-i
+    returns-then-not-is_marked-2
+    overflow_add-i
+    loop-i-smaller
+    loop-i-preserved
+    returns)

@@ -11,47 +11,47 @@ use native.Mathlib.Omega.{arith}
 use Rattle.completeness.proofs.are_marked.Statement.{statement}
 use Rattle.completeness.proofs.are_marked.Tie as tie
 
-abbrev invariant-loop : tie.invariant-loop
-invariant-loop numbers tables starts marks count i₀ i = (i ≤ count) × (all (marked (graph_in numbers) marks) (drop i (starts_of starts)) ≡ all (marked (graph_in numbers) marks) (starts_of starts))
+abbrev invariant-loop-i : tie.invariant-loop-i
+invariant-loop-i numbers tables starts marks count i₀ i = (i ≤ count) × (all (marked (graph_in numbers) marks) (drop i (starts_of starts)) ≡ all (marked (graph_in numbers) marks) (starts_of starts))
 
-abbrev decreases-loop : tie.decreases-loop
-decreases-loop numbers tables starts marks count i₀ i = count - i
+abbrev decreases-loop-i : tie.decreases-loop-i
+decreases-loop-i numbers tables starts marks count i₀ i = count - i
 
-loop-holds : tie.Need-loop-init invariant-loop decreases-loop
-loop-holds c = (omega arith, refl)
+loop-i-init : tie.Need-loop-i-init invariant-loop-i decreases-loop-i
+loop-i-init c = (omega arith, refl)
 
-start-at-requires : tie.Need-start-at-requires invariant-loop decreases-loop
-start-at-requires c κs = omega (arith, c.loop-test.true)
+start_at-requires : tie.Need-start_at-requires invariant-loop-i decreases-loop-i
+start_at-requires c κs = omega (arith, c.loop-i-test.true)
 
-is-marked-requires : tie.Need-is-marked-requires invariant-loop decreases-loop
-is-marked-requires c κs = let s = c.before.before.before.before.before.before.before in (s.requires.0.loaded, (start_good _ _ c.before.loop-test.true _ c.start-at.ensures _ s.requires.1.0, s.requires.1.1))
+is_marked-requires : tie.Need-is_marked-requires invariant-loop-i decreases-loop-i
+is_marked-requires c κs = (c.requires.0.loaded, (start_good _ _ c.loop-i-test.true _ c.start_at.ensures _ c.requires.1.0, c.requires.1.1))
 
-returns : tie.Need-returns invariant-loop decreases-loop
-returns c = all_stop _ _ _ (sym (starts-length _)) _ _ c.before.before.before.before.loop.invariant.1 c.before.before.before.loop-test.true _ _ (c.before.is-marked.ensures ∙ ap (λ f. marked (graph_in c.before.before.before.before.before.before.before.before.before.args.numbers.now) c.before.before.before.before.before.before.before.before.before.args.marks.now f) (start_is _ _ c.before.before.before.loop-test.true _ c.before.before.start-at.ensures)) (not_true _ c.if1.true)
+returns-then-not-is_marked : tie.Need-returns-then-not-is_marked invariant-loop-i decreases-loop-i
+returns-then-not-is_marked c = all_stop _ _ _ (sym (starts-length _)) _ _ c.loop-i.invariant.1 c.loop-i-test.true _ _ (c.is_marked.ensures ∙ ap (λ f. marked (graph_in c.args.numbers.now) c.args.marks.now f) (start_is _ _ c.loop-i-test.true _ c.start_at.ensures)) (not_true _ c.if-not-is_marked.true)
 
-add-i : tie.Need-overflow-add-i invariant-loop decreases-loop
-add-i c = record { fits = omega (arith, c.before.before.before.loop-test.true) }
+overflow_add-i : tie.Need-overflow_add-i invariant-loop-i decreases-loop-i
+overflow_add-i c = record { fits = omega (arith, c.loop-i-test.true) }
 
-loop-less : tie.Need-loop-smaller invariant-loop decreases-loop
-loop-less c = omega (arith, c.before.before.before.loop-test.true)
+loop-i-smaller : tie.Need-loop-i-smaller invariant-loop-i decreases-loop-i
+loop-i-smaller c = omega (arith, c.loop-i-test.true)
 
-loop-again : tie.Need-loop-preserved invariant-loop decreases-loop
-loop-again c = (omega (arith, c.before.before.before.loop-test.true), all-next _ _ _ (sym (starts-length _)) _ _ c.before.before.before.before.loop.invariant.1 c.before.before.before.loop-test.true _ _ (c.before.is-marked.ensures ∙ ap (λ f. marked (graph_in c.before.before.before.before.before.before.before.before.before.args.numbers.now) c.before.before.before.before.before.before.before.before.before.args.marks.now f) (start_is _ _ c.before.before.before.loop-test.true _ c.before.before.start-at.ensures)) (not-false _ c.if1.false))
+loop-i-preserved : tie.Need-loop-i-preserved invariant-loop-i decreases-loop-i
+loop-i-preserved c = (omega (arith, c.loop-i-test.true), all-next _ _ _ (sym (starts-length _)) _ _ c.loop-i.invariant.1 c.loop-i-test.true _ _ (c.is_marked.ensures ∙ ap (λ f. marked (graph_in c.args.numbers.now) c.args.marks.now f) (start_is _ _ c.loop-i-test.true _ c.start_at.ensures)) (not-false _ c.if-not-is_marked.false))
 
-returns-2 : tie.Need-returns-2 invariant-loop decreases-loop
-returns-2 c = all_end _ _ _ (sym (starts-length _)) _ _ c.before.loop.invariant.1 c.loop-test.false
+returns : tie.Need-returns invariant-loop-i decreases-loop-i
+returns c = all_end _ _ _ (sym (starts-length _)) _ _ c.loop-i.invariant.1 c.loop-i-test.false
 
-pub are-marked-spec : {M : Type 1} → statement M
-are-marked-spec =
+pub are_marked_spec : {M : Type 1} → statement M
+are_marked_spec =
     tie.close
     (tie.spec
-    invariant-loop
-    decreases-loop
-    loop-holds
-    start-at-requires
-    is-marked-requires
-    returns
-    add-i
-    loop-less
-    loop-again
-    returns-2)
+    invariant-loop-i
+    decreases-loop-i
+    loop-i-init
+    start_at-requires
+    is_marked-requires
+    returns-then-not-is_marked
+    overflow_add-i
+    loop-i-smaller
+    loop-i-preserved
+    returns)

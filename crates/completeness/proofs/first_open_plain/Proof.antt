@@ -13,47 +13,47 @@ use native.Mathlib.Omega.{arith}
 use Rattle.completeness.proofs.first_open_plain.Statement.{statement}
 use Rattle.completeness.proofs.first_open_plain.Tie as tie
 
-abbrev invariant-loop : tie.invariant-loop
-invariant-loop numbers tables lines marks count k₀ k = (k ≤ count) × (all (fact_closed (graph_in numbers) (last_verdicts (graph_in numbers)) (marked (graph_in numbers) marks)) (drop k (lines_of (length lines / 6) lines)) ≡ are_closed (graph_in numbers) (last_verdicts (graph_in numbers)) (marked (graph_in numbers) marks) (lines_of (length lines / 6) lines))
+abbrev invariant-loop-k : tie.invariant-loop-k
+invariant-loop-k numbers tables lines marks count k₀ k = (k ≤ count) × (all (fact_closed (graph_in numbers) (last_verdicts (graph_in numbers)) (marked (graph_in numbers) marks)) (drop k (lines_of (length lines / 6) lines)) ≡ are_closed (graph_in numbers) (last_verdicts (graph_in numbers)) (marked (graph_in numbers) marks) (lines_of (length lines / 6) lines))
 
-abbrev decreases-loop : tie.decreases-loop
-decreases-loop numbers tables lines marks count k₀ k = count - k
+abbrev decreases-loop-k : tie.decreases-loop-k
+decreases-loop-k numbers tables lines marks count k₀ k = count - k
 
-loop-holds : tie.Need-loop-init invariant-loop decreases-loop
-loop-holds c = (omega arith, lines_start _ _ _ _ _)
+loop-k-init : tie.Need-loop-k-init invariant-loop-k decreases-loop-k
+loop-k-init c = (omega arith, lines_start _ _ _ _ _)
 
-fact-at-requires : tie.Need-fact-at-requires invariant-loop decreases-loop
-fact-at-requires c κs = omega (arith, c.loop-test.true)
+fact_at-requires : tie.Need-fact_at-requires invariant-loop-k decreases-loop-k
+fact_at-requires c κs = omega (arith, c.loop-k-test.true)
 
-is-closed-fact-requires : tie.Need-is-closed-fact-requires invariant-loop decreases-loop
-is-closed-fact-requires c κs = let s = c.before.before.before.before.before.before.before in (s.requires.0, (line_good _ _ _ s.requires.1 _ c.before.loop-test.true _ c.fact_at.ensures, s.requires.2))
+is_closed_fact-requires : tie.Need-is_closed_fact-requires invariant-loop-k decreases-loop-k
+is_closed_fact-requires c κs = (c.requires.0, (line_good _ _ _ c.requires.1 _ c.loop-k-test.true _ c.fact_at.ensures, c.requires.2))
 
-returns : tie.Need-returns invariant-loop decreases-loop
-returns c = open_at _ _ _ c.before.before.before.loop-test.true (all_stop _ _ _ (sym (lines-length _ _)) _ _ c.before.before.before.before.loop.invariant.1 c.before.before.before.loop-test.true _ _ (line_closed _ _ _ _ _ _ c.before.before.before.loop-test.true _ c.before.before.fact_at.ensures _ c.before.is-closed-fact.ensures) (not_true _ c.if1.true))
+returns-then-not-is_closed_fact : tie.Need-returns-then-not-is_closed_fact invariant-loop-k decreases-loop-k
+returns-then-not-is_closed_fact c = open_at _ _ _ c.loop-k-test.true (all_stop _ _ _ (sym (lines-length _ _)) _ _ c.loop-k.invariant.1 c.loop-k-test.true _ _ (line_closed _ _ _ _ _ _ c.loop-k-test.true _ c.fact_at.ensures _ c.is_closed_fact.ensures) (not_true _ c.if-not-is_closed_fact.true))
 
-add-k : tie.Need-overflow-add-k invariant-loop decreases-loop
-add-k c = record { fits = omega (arith, c.before.before.before.loop-test.true) }
+overflow_add-k : tie.Need-overflow_add-k invariant-loop-k decreases-loop-k
+overflow_add-k c = record { fits = omega (arith, c.loop-k-test.true) }
 
-loop-less : tie.Need-loop-smaller invariant-loop decreases-loop
-loop-less c = omega (arith, c.before.before.before.loop-test.true)
+loop-k-smaller : tie.Need-loop-k-smaller invariant-loop-k decreases-loop-k
+loop-k-smaller c = omega (arith, c.loop-k-test.true)
 
-loop-again : tie.Need-loop-preserved invariant-loop decreases-loop
-loop-again c = (omega (arith, c.before.before.before.loop-test.true), all-next _ _ _ (sym (lines-length _ _)) _ _ c.before.before.before.before.loop.invariant.1 c.before.before.before.loop-test.true _ _ (line_closed _ _ _ _ _ _ c.before.before.before.loop-test.true _ c.before.before.fact_at.ensures _ c.before.is-closed-fact.ensures) (not-false _ c.if1.false))
+loop-k-preserved : tie.Need-loop-k-preserved invariant-loop-k decreases-loop-k
+loop-k-preserved c = (omega (arith, c.loop-k-test.true), all-next _ _ _ (sym (lines-length _ _)) _ _ c.loop-k.invariant.1 c.loop-k-test.true _ _ (line_closed _ _ _ _ _ _ c.loop-k-test.true _ c.fact_at.ensures _ c.is_closed_fact.ensures) (not-false _ c.if-not-is_closed_fact.false))
 
-returns-2 : tie.Need-returns-2 invariant-loop decreases-loop
-returns-2 c = none_open _ _ _ c.before.loop.invariant.0 c.loop-test.false (all_end _ _ _ (sym (lines-length _ _)) _ _ c.before.loop.invariant.1 c.loop-test.false)
+returns : tie.Need-returns invariant-loop-k decreases-loop-k
+returns c = none_open _ _ _ c.loop-k.invariant.0 c.loop-k-test.false (all_end _ _ _ (sym (lines-length _ _)) _ _ c.loop-k.invariant.1 c.loop-k-test.false)
 
-pub first-open-plain-spec : {M : Type 1} → statement M
-first-open-plain-spec =
+pub first_open_plain_spec : {M : Type 1} → statement M
+first_open_plain_spec =
     tie.close
     (tie.spec
-    invariant-loop
-    decreases-loop
-    loop-holds
-    fact-at-requires
-    is-closed-fact-requires
-    returns
-    add-k
-    loop-less
-    loop-again
-    returns-2)
+    invariant-loop-k
+    decreases-loop-k
+    loop-k-init
+    fact_at-requires
+    is_closed_fact-requires
+    returns-then-not-is_closed_fact
+    overflow_add-k
+    loop-k-smaller
+    loop-k-preserved
+    returns)

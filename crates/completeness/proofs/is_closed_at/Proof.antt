@@ -12,100 +12,100 @@ use native.Mathlib.Omega.{arith}
 use Rattle.completeness.proofs.is_closed_at.Statement.{statement}
 use Rattle.completeness.proofs.is_closed_at.Tie as tie
 
-abbrev invariant-loop2 : tie.invariant-loop2
-invariant-loop2 numbers tables marks fact count j place candidates c₀ c = all (λ x. marked (graph_in numbers) marks x.fact) (left numbers fact j c) ≡ is_closed_at (graph_in numbers) (last_verdicts (graph_in numbers)) (marked (graph_in numbers) marks) fact
+abbrev invariant-loop-c : tie.invariant-loop-c
+invariant-loop-c numbers tables marks fact count j place candidates c₀ c = all (λ x. marked (graph_in numbers) marks x.fact) (left numbers fact j c) ≡ is_closed_at (graph_in numbers) (last_verdicts (graph_in numbers)) (marked (graph_in numbers) marks) fact
 
-abbrev decreases-loop2 : tie.decreases-loop2
-decreases-loop2 numbers tables marks fact count j place candidates c₀ c = candidates - c
+abbrev decreases-loop-c : tie.decreases-loop-c
+decreases-loop-c numbers tables marks fact count j place candidates c₀ c = candidates - c
 
-abbrev invariant-loop : tie.invariant-loop
-invariant-loop numbers tables marks fact count j₀ place₀ j place = Placed numbers fact j place × (all (λ x. marked (graph_in numbers) marks x.fact) (left numbers fact j 0) ≡ is_closed_at (graph_in numbers) (last_verdicts (graph_in numbers)) (marked (graph_in numbers) marks) fact)
+abbrev invariant-loop-j : tie.invariant-loop-j
+invariant-loop-j numbers tables marks fact count j₀ place₀ j place = Placed numbers fact j place × (all (λ x. marked (graph_in numbers) marks x.fact) (left numbers fact j 0) ≡ is_closed_at (graph_in numbers) (last_verdicts (graph_in numbers)) (marked (graph_in numbers) marks) fact)
 
-abbrev decreases-loop : tie.decreases-loop
-decreases-loop numbers tables marks fact count j₀ place₀ j place = count - j
+abbrev decreases-loop-j : tie.decreases-loop-j
+decreases-loop-j numbers tables marks fact count j₀ place₀ j place = count - j
 
-segment-count-requires : tie.Need-segment-count-requires invariant-loop2 decreases-loop2 invariant-loop decreases-loop
-segment-count-requires c κs = let s = c.before.before.before in (s.requires.0, s.requires.1.0)
+segment_count-count-requires : tie.Need-segment_count-count-requires invariant-loop-c decreases-loop-c invariant-loop-j decreases-loop-j
+segment_count-count-requires c κs = (c.requires.0, c.requires.1.0)
 
-loop-holds : tie.Need-loop-init invariant-loop2 decreases-loop2 invariant-loop decreases-loop
-loop-holds c = (placed_first _ _, closed_start _ _ _)
+loop-j-init : tie.Need-loop-j-init invariant-loop-c decreases-loop-c invariant-loop-j decreases-loop-j
+loop-j-init c = (placed_first _ _, closed_start _ _ _)
 
-segment-candidates-requires :
-    tie.Need-segment-candidates-requires invariant-loop2 decreases-loop2 invariant-loop decreases-loop
-segment-candidates-requires c κs = let s = c.before.before.before.before.before.before in (s.requires.0, (s.requires.1.0, (omega (arith, c.loop-test.true, c.before.before.segment-count.ensures), c.before.loop.invariant.0)))
+segment_candidates-candidates-requires :
+    tie.Need-segment_candidates-candidates-requires invariant-loop-c decreases-loop-c invariant-loop-j decreases-loop-j
+segment_candidates-candidates-requires c κs = (c.requires.0, (c.requires.1.0, (omega (arith, c.loop-j-test.true, c.segment_count-count.ensures), c.loop-j.invariant.0)))
 
-loop2-holds : tie.Need-loop2-init invariant-loop2 decreases-loop2 invariant-loop decreases-loop
-loop2-holds c = c.before.before.loop.invariant.1
+loop-c-init : tie.Need-loop-c-init invariant-loop-c decreases-loop-c invariant-loop-j decreases-loop-j
+loop-c-init c = c.loop-j.invariant.1
 
-add-c : tie.Need-overflow-add-c invariant-loop2 decreases-loop2 invariant-loop decreases-loop
-add-c c = search rules
+overflow_add-c : tie.Need-overflow_add-c invariant-loop-c decreases-loop-c invariant-loop-j decreases-loop-j
+overflow_add-c c = search rules
 
-segment-candidate-requires : tie.Need-segment-candidate-requires invariant-loop2 decreases-loop2 invariant-loop decreases-loop
-segment-candidate-requires c κs = let s = c.before.before.before.before.before.before.before.before.before in (s.requires.0, (s.requires.1.0, (omega (arith, c.before.before.before.loop-test.true, c.before.before.before.before.before.segment-count.ensures), c.before.before.before.before.loop.invariant.0, omega (arith, c.loop2-test.true, c.before.before.segment-candidates.ensures))))
+segment_candidate-requires : tie.Need-segment_candidate-requires invariant-loop-c decreases-loop-c invariant-loop-j decreases-loop-j
+segment_candidate-requires c κs = (c.requires.0, (c.requires.1.0, (omega (arith, c.loop-j-test.true, c.segment_count-count.ensures), c.loop-j.invariant.0, omega (arith, c.loop-c-test.true, c.segment_candidates-candidates.ensures))))
 
-enum-known-found : tie.Need-enum-known-found invariant-loop2 decreases-loop2 invariant-loop decreases-loop
-enum-known-found c = search rules
+enum_known-found : tie.Need-enum_known-found invariant-loop-c decreases-loop-c invariant-loop-j decreases-loop-j
+enum_known-found c = search rules
 
-is-marked-requires : tie.Need-is-marked-requires invariant-loop2 decreases-loop2 invariant-loop decreases-loop
-is-marked-requires c κs = let s = c.before.before.before.before.before.before.before.before.before.before.before.before.before in (s.requires.0.loaded, (c.before.before.before.segment-candidate.ensures.1.known _ c.before.found.given.1, s.requires.1.1))
+is_marked-requires : tie.Need-is_marked-requires invariant-loop-c decreases-loop-c invariant-loop-j decreases-loop-j
+is_marked-requires c κs = (c.requires.0.loaded, (c.segment_candidate.ensures.1.known _ c.in-Gives.is, c.requires.1.1))
 
-returns : tie.Need-returns invariant-loop2 decreases-loop2 invariant-loop decreases-loop
-returns c = segment-stop _ _ _ _ _ _ c.before.before.before.before.before.before.before.loop2.invariant _ c.before.before.before.before.before.before.before.before.before.before.before.segment-count.ensures c.before.before.before.before.before.before.before.before.before.loop-test.true _ c.before.before.before.before.before.before.before.before.segment-candidates.ensures c.before.before.before.before.before.before.loop2-test.true _ (sym c.before.before.before.found.given.1 ∙ c.before.before.before.before.before.segment-candidate.ensures.0) _ c.before.is-marked.ensures (not_true _ c.if1.true)
+returns-then-not-is_marked : tie.Need-returns-then-not-is_marked invariant-loop-c decreases-loop-c invariant-loop-j decreases-loop-j
+returns-then-not-is_marked c = segment-stop _ _ _ _ _ _ c.loop-c.invariant _ c.segment_count-count.ensures c.loop-j-test.true _ c.segment_candidates-candidates.ensures c.loop-c-test.true _ (sym c.in-Gives.is ∙ c.segment_candidate.ensures.0) _ c.is_marked.ensures (not_true _ c.if-not-is_marked.true)
 
-loop2-less : tie.Need-loop2-smaller invariant-loop2 decreases-loop2 invariant-loop decreases-loop
-loop2-less c = omega (arith, c.before.before.before.before.before.before.loop2-test.true)
+loop-c-smaller-else-not-is_marked : tie.Need-loop-c-smaller-else-not-is_marked invariant-loop-c decreases-loop-c invariant-loop-j decreases-loop-j
+loop-c-smaller-else-not-is_marked c = omega (arith, c.loop-c-test.true)
 
-loop2-again : tie.Need-loop2-preserved invariant-loop2 decreases-loop2 invariant-loop decreases-loop
-loop2-again c = segment-next _ _ _ _ _ _ c.before.before.before.before.before.before.before.loop2.invariant _ c.before.before.before.before.before.before.before.before.before.before.before.segment-count.ensures c.before.before.before.before.before.before.before.before.before.loop-test.true _ c.before.before.before.before.before.before.before.before.segment-candidates.ensures c.before.before.before.before.before.before.loop2-test.true _ (sym c.before.before.before.found.given.1 ∙ c.before.before.before.before.before.segment-candidate.ensures.0) _ c.before.is-marked.ensures (not-false _ c.if1.false)
+loop-c-preserved-else-not-is_marked : tie.Need-loop-c-preserved-else-not-is_marked invariant-loop-c decreases-loop-c invariant-loop-j decreases-loop-j
+loop-c-preserved-else-not-is_marked c = segment-next _ _ _ _ _ _ c.loop-c.invariant _ c.segment_count-count.ensures c.loop-j-test.true _ c.segment_candidates-candidates.ensures c.loop-c-test.true _ (sym c.in-Gives.is ∙ c.segment_candidate.ensures.0) _ c.is_marked.ensures (not-false _ c.if-not-is_marked.false)
 
-enum_told : tie.Need-enum-told invariant-loop2 decreases-loop2 invariant-loop decreases-loop
-enum_told c = search rules
+enum_told-1 : tie.Need-enum_told-1 invariant-loop-c decreases-loop-c invariant-loop-j decreases-loop-j
+enum_told-1 c = search rules
 
-loop2-less-2 : tie.Need-loop2-smaller-2 invariant-loop2 decreases-loop2 invariant-loop decreases-loop
-loop2-less-2 c = omega (arith, c.before.before.before.loop2-test.true)
+loop-c-smaller : tie.Need-loop-c-smaller invariant-loop-c decreases-loop-c invariant-loop-j decreases-loop-j
+loop-c-smaller c = omega (arith, c.loop-c-test.true)
 
-loop2-again-2 : tie.Need-loop2-preserved-2 invariant-loop2 decreases-loop2 invariant-loop decreases-loop
-loop2-again-2 c = segment-skips _ _ _ _ _ _ c.before.before.before.before.loop2.invariant _ c.before.before.before.before.before.before.before.before.segment-count.ensures c.before.before.before.before.before.before.loop-test.true _ c.before.before.before.before.before.segment-candidates.ensures c.before.before.before.loop2-test.true (sym c.enum_told.given.1 ∙ c.before.before.segment-candidate.ensures.0)
+loop-c-preserved : tie.Need-loop-c-preserved invariant-loop-c decreases-loop-c invariant-loop-j decreases-loop-j
+loop-c-preserved c = segment-skips _ _ _ _ _ _ c.loop-c.invariant _ c.segment_count-count.ensures c.loop-j-test.true _ c.segment_candidates-candidates.ensures c.loop-c-test.true (sym c.in-Nothing.is ∙ c.segment_candidate.ensures.0)
 
-place-behind-requires : tie.Need-place-behind-requires invariant-loop2 decreases-loop2 invariant-loop decreases-loop
-place-behind-requires c κs = let s = c.before.before.before.before.before.before.before.before.before in (s.requires.0, (s.requires.1.0, (omega (arith, c.before.before.before.loop-test.true, c.before.before.before.before.before.segment-count.ensures), c.before.before.before.before.loop.invariant.0)))
+place_behind-place-requires : tie.Need-place_behind-place-requires invariant-loop-c decreases-loop-c invariant-loop-j decreases-loop-j
+place_behind-place-requires c κs = (c.requires.0, (c.requires.1.0, (omega (arith, c.loop-j-test.true, c.segment_count-count.ensures), c.loop-j.invariant.0)))
 
-add-j : tie.Need-overflow-add-j invariant-loop2 decreases-loop2 invariant-loop decreases-loop
-add-j c = search rules
+overflow_add-j : tie.Need-overflow_add-j invariant-loop-c decreases-loop-c invariant-loop-j decreases-loop-j
+overflow_add-j c = search rules
 
-loop-less : tie.Need-loop-smaller invariant-loop2 decreases-loop2 invariant-loop decreases-loop
-loop-less c = omega (arith, c.before.before.before.before.loop-test.true)
+loop-j-smaller : tie.Need-loop-j-smaller invariant-loop-c decreases-loop-c invariant-loop-j decreases-loop-j
+loop-j-smaller c = omega (arith, c.loop-j-test.true)
 
-loop-again : tie.Need-loop-preserved invariant-loop2 decreases-loop2 invariant-loop decreases-loop
-loop-again c = (c.place-behind.ensures, segment_done _ _ _ _ _ _ c.before.before.loop2.invariant _ c.before.before.before.before.before.before.segment-count.ensures c.before.before.before.before.loop-test.true _ c.before.before.before.segment-candidates.ensures c.before.loop2-test.false)
+loop-j-preserved : tie.Need-loop-j-preserved invariant-loop-c decreases-loop-c invariant-loop-j decreases-loop-j
+loop-j-preserved c = (c.place_behind-place.ensures, segment_done _ _ _ _ _ _ c.loop-c.invariant _ c.segment_count-count.ensures c.loop-j-test.true _ c.segment_candidates-candidates.ensures c.loop-c-test.false)
 
-returns-2 : tie.Need-returns-2 invariant-loop2 decreases-loop2 invariant-loop decreases-loop
-returns-2 c = segments_done _ _ _ _ _ _ c.before.loop.invariant.1 _ c.before.before.segment-count.ensures c.loop-test.false
+returns : tie.Need-returns invariant-loop-c decreases-loop-c invariant-loop-j decreases-loop-j
+returns c = segments_done _ _ _ _ _ _ c.loop-j.invariant.1 _ c.segment_count-count.ensures c.loop-j-test.false
 
-pub is-closed-at-spec : {M : Type 1} → statement M
-is-closed-at-spec =
+pub is_closed_at_spec : {M : Type 1} → statement M
+is_closed_at_spec =
     tie.close
     (tie.spec
-    invariant-loop2
-    decreases-loop2
-    invariant-loop
-    decreases-loop
-    segment-count-requires
-    loop-holds
-    segment-candidates-requires
-    loop2-holds
-    add-c
-    segment-candidate-requires
-    enum-known-found
-    is-marked-requires
-    returns
-    loop2-less
-    loop2-again
-    enum_told
-    loop2-less-2
-    loop2-again-2
-    place-behind-requires
-    add-j
-    loop-less
-    loop-again
-    returns-2)
+    invariant-loop-c
+    decreases-loop-c
+    invariant-loop-j
+    decreases-loop-j
+    segment_count-count-requires
+    loop-j-init
+    segment_candidates-candidates-requires
+    loop-c-init
+    overflow_add-c
+    segment_candidate-requires
+    enum_known-found
+    is_marked-requires
+    returns-then-not-is_marked
+    loop-c-smaller-else-not-is_marked
+    loop-c-preserved-else-not-is_marked
+    enum_told-1
+    loop-c-smaller
+    loop-c-preserved
+    place_behind-place-requires
+    overflow_add-j
+    loop-j-smaller
+    loop-j-preserved
+    returns)

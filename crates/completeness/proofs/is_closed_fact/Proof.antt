@@ -4,75 +4,75 @@ use borrow.Author.Rules.{rules}
 use Rattle.completeness.proofs.is_closed_fact.Statement.{statement}
 use Rattle.completeness.proofs.is_closed_fact.Tie as tie
 
-enum-known-fact : tie.Need-enum-known-fact
-enum-known-fact c = search rules
+enum_known-fact : tie.Need-enum_known-fact
+enum_known-fact c = search rules
 
-are-declared-requires : tie.Need-are-declared-requires
-are-declared-requires c κs = let s = c.before.before.before.before.before.before in (s.requires.0, (forward_symbol _ _ s.requires.1.0 _ c.before.fact.given.1, s.requires.1.1))
+are_declared-requires : tie.Need-are_declared-requires
+are_declared-requires c κs = (c.requires.0, (forward_symbol _ _ c.requires.1.0 _ c.in-Forward.is, c.requires.1.1))
 
-enum_told : tie.Need-enum-told
-enum_told c = search rules
+enum_told-1 : tie.Need-enum_told-1
+enum_told-1 c = search rules
 
-enum-told-2 : tie.Need-enum-told-2
-enum-told-2 c = search rules
+enum_told-in-Module : tie.Need-enum_told-in-Module
+enum_told-in-Module c = search rules
 
-is-closed-at-requires : tie.Need-is-closed-at-requires
-is-closed-at-requires c κs = search rules
+is_closed_at-requires : tie.Need-is_closed_at-requires
+is_closed_at-requires c κs = search rules
 
-enum-told-3 : tie.Need-enum-told-3
-enum-told-3 c = search rules
+enum_told-in-Statement : tie.Need-enum_told-in-Statement
+enum_told-in-Statement c = search rules
 
-is-closed-at-requires-2 : tie.Need-is-closed-at-requires-2
-is-closed-at-requires-2 c κs = search rules
+is_closed_at-requires-in-Statement : tie.Need-is_closed_at-requires-in-Statement
+is_closed_at-requires-in-Statement c κs = search rules
 
-enum-told-4 : tie.Need-enum-told-4
-enum-told-4 c = search rules
+enum_told-in-Use : tie.Need-enum_told-in-Use
+enum_told-in-Use c = search rules
 
-is-closed-at-requires-3 : tie.Need-is-closed-at-requires-3
-is-closed-at-requires-3 c κs = search rules
+is_closed_at-requires-in-Use : tie.Need-is_closed_at-requires-in-Use
+is_closed_at-requires-in-Use c κs = search rules
 
-enum-told-5 : tie.Need-enum-told-5
-enum-told-5 c = search rules
+enum_told-in-CheckedUse : tie.Need-enum_told-in-CheckedUse
+enum_told-in-CheckedUse c = search rules
 
-is-closed-at-requires-4 : tie.Need-is-closed-at-requires-4
-is-closed-at-requires-4 c κs = search rules
+is_closed_at-requires-in-CheckedUse : tie.Need-is_closed_at-requires-in-CheckedUse
+is_closed_at-requires-in-CheckedUse c κs = search rules
 
-returns : tie.Need-returns
-returns c = forward_closed _ _ _ _ _ _ c.before.before.fact.given.1 c.are-declared.ensures
+returns-in-Forward : tie.Need-returns-in-Forward
+returns-in-Forward c = forward_closed _ _ _ _ _ _ c.in-Forward.is c.are_declared.ensures
 
-returns-2 : tie.Need-returns-2
-returns-2 c = bailout_closed _ _ _ _ true _ c.enum_told.given.1
+returns-in-Bailout : tie.Need-returns-in-Bailout
+returns-in-Bailout c = bailout_closed _ _ _ _ true _ c.in-Bailout.is
 
-returns-3 : tie.Need-returns-3
-returns-3 c = module-closed _ _ _ _ _ c.is-closed-at.ensures _ c.before.enum-told2.given.1
+returns-in-Module : tie.Need-returns-in-Module
+returns-in-Module c = module-closed _ _ _ _ _ c.is_closed_at.ensures _ c.in-Module.is
 
-returns-4 : tie.Need-returns-4
-returns-4 c = statement-closed _ _ _ _ _ c.is-closed-at2.ensures _ _ c.before.enum-told3.given.1
+returns-in-Statement : tie.Need-returns-in-Statement
+returns-in-Statement c = statement-closed _ _ _ _ _ c.is_closed_at-in-Statement.ensures _ _ c.in-Statement.is
 
-returns-5 : tie.Need-returns-5
-returns-5 c = use-closed _ _ _ _ _ c.is-closed-at3.ensures _ _ c.before.enum-told4.given.1
+returns-in-Use : tie.Need-returns-in-Use
+returns-in-Use c = use-closed _ _ _ _ _ c.is_closed_at-in-Use.ensures _ _ c.in-Use.is
 
-returns-6 : tie.Need-returns-6
-returns-6 c = checked-closed _ _ _ _ _ c.is-closed-at4.ensures _ _ c.before.enum-told5.given.1
+returns-in-CheckedUse : tie.Need-returns-in-CheckedUse
+returns-in-CheckedUse c = checked-closed _ _ _ _ _ c.is_closed_at-in-CheckedUse.ensures _ _ c.in-CheckedUse.is
 
-pub is-closed-fact-spec : {M : Type 1} → statement M
-is-closed-fact-spec =
+pub is_closed_fact_spec : {M : Type 1} → statement M
+is_closed_fact_spec =
     tie.close
     (tie.spec
-    enum-known-fact
-    are-declared-requires
-    enum_told
-    enum-told-2
-    is-closed-at-requires
-    enum-told-3
-    is-closed-at-requires-2
-    enum-told-4
-    is-closed-at-requires-3
-    enum-told-5
-    is-closed-at-requires-4
-    returns
-    returns-2
-    returns-3
-    returns-4
-    returns-5
-    returns-6)
+    enum_known-fact
+    are_declared-requires
+    enum_told-1
+    enum_told-in-Module
+    is_closed_at-requires
+    enum_told-in-Statement
+    is_closed_at-requires-in-Statement
+    enum_told-in-Use
+    is_closed_at-requires-in-Use
+    enum_told-in-CheckedUse
+    is_closed_at-requires-in-CheckedUse
+    returns-in-Forward
+    returns-in-Bailout
+    returns-in-Module
+    returns-in-Statement
+    returns-in-Use
+    returns-in-CheckedUse)

@@ -6,71 +6,71 @@ use borrow.Author.Rules.{rules}
 use Rattle.consequences.proofs.place_behind.Statement.{statement}
 use Rattle.consequences.proofs.place_behind.Tie as tie
 
-enum_told : tie.Need-enum-told
-enum_told c = search rules
+enum_told-1 : tie.Need-enum_told-1
+enum_told-1 c = search rules
 
-enum-known-fact : tie.Need-enum-known-fact
-enum-known-fact c = search rules
+enum_known-fact : tie.Need-enum_known-fact
+enum_known-fact c = search rules
 
-first-reference-requires : tie.Need-first-reference-requires
-first-reference-requires c κs = let s = c.before.before.before.before.before.before in let b = good_statement _ _ s.requires.1.0 _ _ c.before.before.fact.given.1 in (s.requires.0.loaded, (b.0, b.1))
+first_reference-requires : tie.Need-first_reference-requires
+first_reference-requires c κs = let b = good_statement _ _ c.requires.1.0 _ _ c.in-Statement.is in (c.requires.0.loaded, (b.0, b.1))
 
-returns : tie.Need-returns
-returns c = let s = c.before.before.before.before.before.before.before in placed_first _ _ _ _ _ _ c.before.before.before.fact.given.1 c.first-reference.ensures c.before.if1.true
+returns-then-j-eq0 : tie.Need-returns-then-j-eq0
+returns-then-j-eq0 c = placed_first _ _ _ _ _ _ c.in-Statement.is c.first_reference.ensures c.if-j-eq0.true
 
-reference-width-requires : tie.Need-reference-width-requires
-reference-width-requires c κs = let s = c.before.before.before.before.before.before in (width_inside _ _ _ _ _ _ c.before.before.fact.given.1 s.requires.1.1.0 c.if1.false s.requires.1.1.1)
+reference_width-requires : tie.Need-reference_width-requires
+reference_width-requires c κs = (width_inside _ _ _ _ _ _ c.in-Statement.is c.requires.1.1.0 c.if-j-eq0.false c.requires.1.1.1)
 
-add-result : tie.Need-overflow-add-result
-add-result c = let s = c.before.before.before.before.before.before.before in omega (arith, c.reference-width.ensures, width_inside _ _ _ _ _ _ c.before.before.before.fact.given.1 s.requires.1.1.0 c.before.if1.false s.requires.1.1.1)
+overflow_add-result : tie.Need-overflow_add-result
+overflow_add-result c = omega (arith, c.reference_width.ensures, width_inside _ _ _ _ _ _ c.in-Statement.is c.requires.1.1.0 c.if-j-eq0.false c.requires.1.1.1)
 
-enum-told-2 : tie.Need-enum-told-2
-enum-told-2 c = search rules
+enum_told-in-CheckedUse : tie.Need-enum_told-in-CheckedUse
+enum_told-in-CheckedUse c = search rules
 
-enum-told-3 : tie.Need-enum-told-3
-enum-told-3 c = search rules
+enum_told-in-Use : tie.Need-enum_told-in-Use
+enum_told-in-Use c = search rules
 
-enum-told-4 : tie.Need-enum-told-4
-enum-told-4 c = search rules
+enum_told-in-Forward : tie.Need-enum_told-in-Forward
+enum_told-in-Forward c = search rules
 
-enum-told-5 : tie.Need-enum-told-5
-enum-told-5 c = search rules
+enum_told-in-Bailout : tie.Need-enum_told-in-Bailout
+enum_told-in-Bailout c = search rules
 
-returns-2 : tie.Need-returns-2
-returns-2 c = let e = ap kind_of c.enum_told.given.1 in placed_other _ _ _ _ (λ k. omega (arith, e, k))
+returns-in-Module : tie.Need-returns-in-Module
+returns-in-Module c = let e = ap kind_of c.in-Module.is in placed_other _ _ _ _ (λ k. omega (arith, e, k))
 
-returns-3 : tie.Need-returns-3
-returns-3 c = let s = c.before.before.before.before.before.before.before in rw c.reference-width.ensures (placed-next _ _ _ _ _ _ c.before.before.before.fact.given.1 s.requires.1.1.0 c.before.if1.false s.requires.1.1.1)
+returns-else-j-eq0 : tie.Need-returns-else-j-eq0
+returns-else-j-eq0 c = rw c.reference_width.ensures (placed-next _ _ _ _ _ _ c.in-Statement.is c.requires.1.1.0 c.if-j-eq0.false c.requires.1.1.1)
 
-returns-4 : tie.Need-returns-4
-returns-4 c = let e = ap kind_of c.enum-told2.given.1 in placed_other _ _ _ _ (λ k. omega (arith, e, k))
+returns-in-CheckedUse : tie.Need-returns-in-CheckedUse
+returns-in-CheckedUse c = let e = ap kind_of c.in-CheckedUse.is in placed_other _ _ _ _ (λ k. omega (arith, e, k))
 
-returns-5 : tie.Need-returns-5
-returns-5 c = let e = ap kind_of c.enum-told3.given.1 in placed_other _ _ _ _ (λ k. omega (arith, e, k))
+returns-in-Use : tie.Need-returns-in-Use
+returns-in-Use c = let e = ap kind_of c.in-Use.is in placed_other _ _ _ _ (λ k. omega (arith, e, k))
 
-returns-6 : tie.Need-returns-6
-returns-6 c = let e = ap kind_of c.enum-told4.given.1 in placed_other _ _ _ _ (λ k. omega (arith, e, k))
+returns-in-Forward : tie.Need-returns-in-Forward
+returns-in-Forward c = let e = ap kind_of c.in-Forward.is in placed_other _ _ _ _ (λ k. omega (arith, e, k))
 
-returns-7 : tie.Need-returns-7
-returns-7 c = let e = ap kind_of c.enum-told5.given.1 in placed_other _ _ _ _ (λ k. omega (arith, e, k))
+returns-in-Bailout : tie.Need-returns-in-Bailout
+returns-in-Bailout c = let e = ap kind_of c.in-Bailout.is in placed_other _ _ _ _ (λ k. omega (arith, e, k))
 
-pub place-behind-spec : {M : Type 1} → statement M
-place-behind-spec =
+pub place_behind_spec : {M : Type 1} → statement M
+place_behind_spec =
     tie.close
     (tie.spec
-    enum_told
-    enum-known-fact
-    first-reference-requires
-    returns
-    reference-width-requires
-    add-result
-    enum-told-2
-    enum-told-3
-    enum-told-4
-    enum-told-5
-    returns-2
-    returns-3
-    returns-4
-    returns-5
-    returns-6
-    returns-7)
+    enum_told-1
+    enum_known-fact
+    first_reference-requires
+    returns-then-j-eq0
+    reference_width-requires
+    overflow_add-result
+    enum_told-in-CheckedUse
+    enum_told-in-Use
+    enum_told-in-Forward
+    enum_told-in-Bailout
+    returns-in-Module
+    returns-else-j-eq0
+    returns-in-CheckedUse
+    returns-in-Use
+    returns-in-Forward
+    returns-in-Bailout)

@@ -6,85 +6,85 @@ use borrow.Author.Rules.{rules}
 use Rattle.consequences.proofs.segment_candidate.Statement.{statement}
 use Rattle.consequences.proofs.segment_candidate.Tie as tie
 
-enum-known-fact : tie.Need-enum-known-fact
-enum-known-fact c = search rules
+enum_known-fact : tie.Need-enum_known-fact
+enum_known-fact c = search rules
 
-module-candidate-requires : tie.Need-module-candidate-requires
-module-candidate-requires c κs = let s = c.before.before.before.before.before in let e = c.before.fact.given.1 in let b = ap (λ x. x.count) (segment_module _ _ _ s.requires.1.1.0 _ e) in (s.requires.0, (((good_module _ _ s.requires.1.0 _ e).0, module_five _ _ _ s.requires.1.1.0 _ e, omega (arith, b, s.requires.1.1.2)), (good_module _ _ s.requires.1.0 _ e).1))
+module_candidate-requires : tie.Need-module_candidate-requires
+module_candidate-requires c κs = let e = c.in-Module.is in let b = ap (λ x. x.count) (segment_module _ _ _ c.requires.1.1.0 _ e) in (c.requires.0, (((good_module _ _ c.requires.1.0 _ e).0, module_five _ _ _ c.requires.1.1.0 _ e, omega (arith, b, c.requires.1.1.2)), (good_module _ _ c.requires.1.0 _ e).1))
 
-enum-known-fact-2 : tie.Need-enum-known-fact-2
-enum-known-fact-2 c = search rules
+enum_known-fact-in-Statement-1 : tie.Need-enum_known-fact-in-Statement-1
+enum_known-fact-in-Statement-1 c = search rules
 
-import-record-candidate-requires : tie.Need-import-record-candidate-requires
-import-record-candidate-requires c κs = let s = c.before.before.before.before.before.before in let e = c.before.before.fact2.given.1 in let d = good_statement _ _ s.requires.1.0 _ _ e in let b = ap (λ x. x.count) (segment_record _ _ _ s.requires.1.1.0 _ _ e c.if1.true) in (s.requires.0, (d.0, d.1, omega (arith, b, s.requires.1.1.2)))
+import_record_candidate-requires : tie.Need-import_record_candidate-requires
+import_record_candidate-requires c κs = let e = c.in-Statement.is in let d = good_statement _ _ c.requires.1.0 _ _ e in let b = ap (λ x. x.count) (segment_record _ _ _ c.requires.1.1.0 _ _ e c.if-j-eq0.true) in (c.requires.0, (d.0, d.1, omega (arith, b, c.requires.1.1.2)))
 
-returns : tie.Need-returns
-returns c = let s = c.before.before.before.before.before.before.before in let r = c.import-record-candidate.ensures in (r.0 ∙ ap (λ x. x.candidate s.args.k) (sym (segment_record _ _ _ s.requires.1.1.0 _ _ c.before.before.before.fact2.given.1 c.before.if1.true)), r.1)
+returns-then-j-eq0 : tie.Need-returns-then-j-eq0
+returns-then-j-eq0 c = let r = c.import_record_candidate.ensures in (r.0 ∙ ap (λ x. x.candidate c.args.k) (sym (segment_record _ _ _ c.requires.1.1.0 _ _ c.in-Statement.is c.if-j-eq0.true)), r.1)
 
-sub-reference-candidate : tie.Need-overflow-sub-reference-candidate
-sub-reference-candidate c = omega (arith, c.if1.false)
+overflow_sub-j : tie.Need-overflow_sub-j
+overflow_sub-j c = omega (arith, c.if-j-eq0.false)
 
-reference-candidate-requires : tie.Need-reference-candidate-requires
+reference_candidate-requires : tie.Need-reference_candidate-requires
 unfolding reference_segment
-reference-candidate-requires c κs = let s = c.before.before.before.before.before.before in let e = c.before.before.fact2.given.1 in let b = ap (λ x. x.count) (segment_reference _ _ _ s.requires.1.1.0 _ _ e c.if1.false) in (s.requires.0, (here _ _ _ _ _ _ e s.requires.1.1.0 c.if1.false s.requires.1.1.1 s.requires.1.0, omega (arith, b, s.requires.1.1.2)))
+reference_candidate-requires c κs = let e = c.in-Statement.is in let b = ap (λ x. x.count) (segment_reference _ _ _ c.requires.1.1.0 _ _ e c.if-j-eq0.false) in (c.requires.0, (here _ _ _ _ _ _ e c.requires.1.1.0 c.if-j-eq0.false c.requires.1.1.1 c.requires.1.0, omega (arith, b, c.requires.1.1.2)))
 
-enum-known-fact-3 : tie.Need-enum-known-fact-3
-enum-known-fact-3 c = search rules
+enum_known-fact-in-CheckedUse-1 : tie.Need-enum_known-fact-in-CheckedUse-1
+enum_known-fact-in-CheckedUse-1 c = search rules
 
-checked-candidate-requires : tie.Need-checked-candidate-requires
-checked-candidate-requires c κs = let s = c.before.before.before.before.before in let e = c.before.fact3.given.1 in let d = good_checked _ _ s.requires.1.0 _ _ e in let b = ap (λ x. x.count) (segment_checked _ _ _ s.requires.1.1.0 _ _ e) in (s.requires.0, (d.0, d.1, d.2, omega (arith, b, s.requires.1.1.2)))
+checked_candidate-requires : tie.Need-checked_candidate-requires
+checked_candidate-requires c κs = let e = c.in-CheckedUse.is in let d = good_checked _ _ c.requires.1.0 _ _ e in let b = ap (λ x. x.count) (segment_checked _ _ _ c.requires.1.1.0 _ _ e) in (c.requires.0, (d.0, d.1, d.2, omega (arith, b, c.requires.1.1.2)))
 
-enum-known-fact-4 : tie.Need-enum-known-fact-4
-enum-known-fact-4 c = search rules
+enum_known-fact-in-Use-1 : tie.Need-enum_known-fact-in-Use-1
+enum_known-fact-in-Use-1 c = search rules
 
-use-candidate-requires : tie.Need-use-candidate-requires
-use-candidate-requires c κs = let s = c.before.before.before.before.before in let e = c.before.fact4.given.1 in let b = ap (λ x. x.count) (segment_use _ _ _ s.requires.1.1.0 _ _ e) in (s.requires.0, ((good_use _ _ s.requires.1.0 _ _ e).0, use_five _ _ _ s.requires.1.1.0 _ _ e, omega (arith, b, s.requires.1.1.2)))
+use_candidate-requires : tie.Need-use_candidate-requires
+use_candidate-requires c κs = let e = c.in-Use.is in let b = ap (λ x. x.count) (segment_use _ _ _ c.requires.1.1.0 _ _ e) in (c.requires.0, ((good_use _ _ c.requires.1.0 _ _ e).0, use_five _ _ _ c.requires.1.1.0 _ _ e, omega (arith, b, c.requires.1.1.2)))
 
-enum_told : tie.Need-enum-told
-enum_told c = search rules
+enum_told-1 : tie.Need-enum_told-1
+enum_told-1 c = search rules
 
-enum-told-2 : tie.Need-enum-told-2
-enum-told-2 c = search rules
+enum_told-in-Bailout : tie.Need-enum_told-in-Bailout
+enum_told-in-Bailout c = search rules
 
-returns-2 : tie.Need-returns-2
-returns-2 c = let s = c.before.before.before.before.before.before in let r = c.module-candidate.ensures in (r.0 ∙ ap (λ x. x.candidate s.args.k) (sym (segment_module _ _ _ s.requires.1.1.0 _ c.before.before.fact.given.1)), r.1)
+returns-in-Module : tie.Need-returns-in-Module
+returns-in-Module c = let r = c.module_candidate.ensures in (r.0 ∙ ap (λ x. x.candidate c.args.k) (sym (segment_module _ _ _ c.requires.1.1.0 _ c.in-Module.is)), r.1)
 
-returns-3 : tie.Need-returns-3
+returns-else-j-eq0 : tie.Need-returns-else-j-eq0
 unfolding reference_segment
-returns-3 c = let s = c.before.before.before.before.before.before.before in let r = c.reference-candidate.ensures in (r.0 ∙ ap (λ x. x.candidate s.args.k) (sym (segment_reference _ _ _ s.requires.1.1.0 _ _ c.before.before.before.fact2.given.1 c.before.if1.false)), r.1)
+returns-else-j-eq0 c = let r = c.reference_candidate.ensures in (r.0 ∙ ap (λ x. x.candidate c.args.k) (sym (segment_reference _ _ _ c.requires.1.1.0 _ _ c.in-Statement.is c.if-j-eq0.false)), r.1)
 
-returns-4 : tie.Need-returns-4
-returns-4 c = let s = c.before.before.before.before.before.before in let r = c.checked-candidate.ensures in (r.0 ∙ ap (λ x. x.candidate s.args.k) (sym (segment_checked _ _ _ s.requires.1.1.0 _ _ c.before.before.fact3.given.1)), r.1)
+returns-in-CheckedUse : tie.Need-returns-in-CheckedUse
+returns-in-CheckedUse c = let r = c.checked_candidate.ensures in (r.0 ∙ ap (λ x. x.candidate c.args.k) (sym (segment_checked _ _ _ c.requires.1.1.0 _ _ c.in-CheckedUse.is)), r.1)
 
-returns-5 : tie.Need-returns-5
-returns-5 c = let s = c.before.before.before.before.before.before in let r = c.use-candidate.ensures in (r.0 ∙ ap (λ x. x.candidate s.args.k) (sym (segment_use _ _ _ s.requires.1.1.0 _ _ c.before.before.fact4.given.1)), r.1)
+returns-in-Use : tie.Need-returns-in-Use
+returns-in-Use c = let r = c.use_candidate.ensures in (r.0 ∙ ap (λ x. x.candidate c.args.k) (sym (segment_use _ _ _ c.requires.1.1.0 _ _ c.in-Use.is)), r.1)
 
-returns-6 : tie.Need-returns-6
-returns-6 c = absurd (none_forward _ _ _ c.before.before.before.before.requires.1.1.0 _ c.enum_told.given.1)
+returns-in-Forward : tie.Need-returns-in-Forward
+returns-in-Forward c = absurd (none_forward _ _ _ c.requires.1.1.0 _ c.in-Forward.is)
 
-returns-7 : tie.Need-returns-7
-returns-7 c = absurd (none_bailout _ _ _ c.before.before.before.before.requires.1.1.0 _ c.enum-told2.given.1)
+returns-in-Bailout : tie.Need-returns-in-Bailout
+returns-in-Bailout c = absurd (none_bailout _ _ _ c.requires.1.1.0 _ c.in-Bailout.is)
 
-pub segment-candidate-spec : {M : Type 1} → statement M
-segment-candidate-spec =
+pub segment_candidate_spec : {M : Type 1} → statement M
+segment_candidate_spec =
     tie.close
     (tie.spec
-    enum-known-fact
-    module-candidate-requires
-    enum-known-fact-2
-    import-record-candidate-requires
-    returns
-    sub-reference-candidate
-    reference-candidate-requires
-    enum-known-fact-3
-    checked-candidate-requires
-    enum-known-fact-4
-    use-candidate-requires
-    enum_told
-    enum-told-2
-    returns-2
-    returns-3
-    returns-4
-    returns-5
-    returns-6
-    returns-7)
+    enum_known-fact
+    module_candidate-requires
+    enum_known-fact-in-Statement-1
+    import_record_candidate-requires
+    returns-then-j-eq0
+    overflow_sub-j
+    reference_candidate-requires
+    enum_known-fact-in-CheckedUse-1
+    checked_candidate-requires
+    enum_known-fact-in-Use-1
+    use_candidate-requires
+    enum_told-1
+    enum_told-in-Bailout
+    returns-in-Module
+    returns-else-j-eq0
+    returns-in-CheckedUse
+    returns-in-Use
+    returns-in-Forward
+    returns-in-Bailout)

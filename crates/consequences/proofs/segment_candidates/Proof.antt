@@ -6,80 +6,80 @@ use borrow.Author.Rules.{rules}
 use Rattle.consequences.proofs.segment_candidates.Statement.{statement}
 use Rattle.consequences.proofs.segment_candidates.Tie as tie
 
-enum-known-fact : tie.Need-enum-known-fact
-enum-known-fact c = search rules
+enum_known-fact : tie.Need-enum_known-fact
+enum_known-fact c = search rules
 
-module-candidates-requires : tie.Need-module-candidates-requires
-module-candidates-requires c κs = let s = c.before.before.before.before.before in (s.requires.0, ((good_module _ _ s.requires.1.0 _ c.before.fact.given.1).0, module_five _ _ _ s.requires.1.1.0 _ c.before.fact.given.1))
+module_candidates-requires : tie.Need-module_candidates-requires
+module_candidates-requires c κs = (c.requires.0, ((good_module _ _ c.requires.1.0 _ c.in-Module.is).0, module_five _ _ _ c.requires.1.1.0 _ c.in-Module.is))
 
-enum-known-fact-2 : tie.Need-enum-known-fact-2
-enum-known-fact-2 c = search rules
+enum_known-fact-in-Statement-1 : tie.Need-enum_known-fact-in-Statement-1
+enum_known-fact-in-Statement-1 c = search rules
 
-import-record-count-requires : tie.Need-import-record-count-requires
-import-record-count-requires c κs = let s = c.before.before.before.before.before.before in let b = good_statement _ _ s.requires.1.0 _ _ c.before.before.fact2.given.1 in (s.requires.0.loaded, (b.0, b.1))
+import_record_count-requires : tie.Need-import_record_count-requires
+import_record_count-requires c κs = let b = good_statement _ _ c.requires.1.0 _ _ c.in-Statement.is in (c.requires.0.loaded, (b.0, b.1))
 
-returns : tie.Need-returns
-returns c = let s = c.before.before.before.before.before.before.before in c.import-record-count.ensures.0 ∙ ap (λ x. x.count) (sym (segment_record _ _ _ s.requires.1.1.0 _ _ c.before.before.before.fact2.given.1 c.before.if1.true))
+returns-then-j-eq0 : tie.Need-returns-then-j-eq0
+returns-then-j-eq0 c = c.import_record_count.ensures.0 ∙ ap (λ x. x.count) (sym (segment_record _ _ _ c.requires.1.1.0 _ _ c.in-Statement.is c.if-j-eq0.true))
 
-sub-reference-candidates : tie.Need-overflow-sub-reference-candidates
-sub-reference-candidates c = omega (arith, c.if1.false)
+overflow_sub-j : tie.Need-overflow_sub-j
+overflow_sub-j c = omega (arith, c.if-j-eq0.false)
 
-reference-candidates-requires : tie.Need-reference-candidates-requires
-reference-candidates-requires c κs = let s = c.before.before.before.before.before.before in (s.requires.0, here _ _ _ _ _ _ c.before.before.fact2.given.1 s.requires.1.1.0 c.if1.false s.requires.1.1.1 s.requires.1.0)
+reference_candidates-requires : tie.Need-reference_candidates-requires
+reference_candidates-requires c κs = (c.requires.0, here _ _ _ _ _ _ c.in-Statement.is c.requires.1.1.0 c.if-j-eq0.false c.requires.1.1.1 c.requires.1.0)
 
-enum_told : tie.Need-enum-told
-enum_told c = search rules
+enum_told-1 : tie.Need-enum_told-1
+enum_told-1 c = search rules
 
-enum-known-fact-3 : tie.Need-enum-known-fact-3
-enum-known-fact-3 c = search rules
+enum_known-fact-in-Use-1 : tie.Need-enum_known-fact-in-Use-1
+enum_known-fact-in-Use-1 c = search rules
 
-use-candidates-requires : tie.Need-use-candidates-requires
-use-candidates-requires c κs = let s = c.before.before.before.before.before in (s.requires.0, ((good_use _ _ s.requires.1.0 _ _ c.before.fact3.given.1).0, use_five _ _ _ s.requires.1.1.0 _ _ c.before.fact3.given.1))
+use_candidates-requires : tie.Need-use_candidates-requires
+use_candidates-requires c κs = (c.requires.0, ((good_use _ _ c.requires.1.0 _ _ c.in-Use.is).0, use_five _ _ _ c.requires.1.1.0 _ _ c.in-Use.is))
 
-enum-told-2 : tie.Need-enum-told-2
-enum-told-2 c = search rules
+enum_told-in-Forward : tie.Need-enum_told-in-Forward
+enum_told-in-Forward c = search rules
 
-enum-told-3 : tie.Need-enum-told-3
-enum-told-3 c = search rules
+enum_told-in-Bailout : tie.Need-enum_told-in-Bailout
+enum_told-in-Bailout c = search rules
 
-returns-2 : tie.Need-returns-2
-returns-2 c = let s = c.before.before.before.before.before.before in c.module-candidates.ensures ∙ ap (λ x. x.count) (sym (segment_module _ _ _ s.requires.1.1.0 _ c.before.before.fact.given.1))
+returns-in-Module : tie.Need-returns-in-Module
+returns-in-Module c = c.module_candidates.ensures ∙ ap (λ x. x.count) (sym (segment_module _ _ _ c.requires.1.1.0 _ c.in-Module.is))
 
-returns-3 : tie.Need-returns-3
+returns-else-j-eq0 : tie.Need-returns-else-j-eq0
 unfolding reference_segment
-returns-3 c = let s = c.before.before.before.before.before.before.before in c.reference-candidates.ensures ∙ ap (λ x. x.count) (sym (segment_reference _ _ _ s.requires.1.1.0 _ _ c.before.before.before.fact2.given.1 c.before.if1.false))
+returns-else-j-eq0 c = c.reference_candidates.ensures ∙ ap (λ x. x.count) (sym (segment_reference _ _ _ c.requires.1.1.0 _ _ c.in-Statement.is c.if-j-eq0.false))
 
-returns-4 : tie.Need-returns-4
-returns-4 c = let s = c.before.before.before.before in ap (λ x. x.count) (sym (segment_checked _ _ _ s.requires.1.1.0 _ _ c.enum_told.given.1))
+returns-in-CheckedUse : tie.Need-returns-in-CheckedUse
+returns-in-CheckedUse c = ap (λ x. x.count) (sym (segment_checked _ _ _ c.requires.1.1.0 _ _ c.in-CheckedUse.is))
 
-returns-5 : tie.Need-returns-5
-returns-5 c = let s = c.before.before.before.before.before.before in c.use-candidates.ensures ∙ ap (λ x. x.count) (sym (segment_use _ _ _ s.requires.1.1.0 _ _ c.before.before.fact3.given.1))
+returns-in-Use : tie.Need-returns-in-Use
+returns-in-Use c = c.use_candidates.ensures ∙ ap (λ x. x.count) (sym (segment_use _ _ _ c.requires.1.1.0 _ _ c.in-Use.is))
 
-returns-6 : tie.Need-returns-6
-returns-6 c = absurd (none_forward _ _ _ c.before.before.before.before.requires.1.1.0 _ c.enum-told2.given.1)
+returns-in-Forward : tie.Need-returns-in-Forward
+returns-in-Forward c = absurd (none_forward _ _ _ c.requires.1.1.0 _ c.in-Forward.is)
 
-returns-7 : tie.Need-returns-7
-returns-7 c = absurd (none_bailout _ _ _ c.before.before.before.before.requires.1.1.0 _ c.enum-told3.given.1)
+returns-in-Bailout : tie.Need-returns-in-Bailout
+returns-in-Bailout c = absurd (none_bailout _ _ _ c.requires.1.1.0 _ c.in-Bailout.is)
 
-pub segment-candidates-spec : {M : Type 1} → statement M
-segment-candidates-spec =
+pub segment_candidates_spec : {M : Type 1} → statement M
+segment_candidates_spec =
     tie.close
     (tie.spec
-    enum-known-fact
-    module-candidates-requires
-    enum-known-fact-2
-    import-record-count-requires
-    returns
-    sub-reference-candidates
-    reference-candidates-requires
-    enum_told
-    enum-known-fact-3
-    use-candidates-requires
-    enum-told-2
-    enum-told-3
-    returns-2
-    returns-3
-    returns-4
-    returns-5
-    returns-6
-    returns-7)
+    enum_known-fact
+    module_candidates-requires
+    enum_known-fact-in-Statement-1
+    import_record_count-requires
+    returns-then-j-eq0
+    overflow_sub-j
+    reference_candidates-requires
+    enum_told-1
+    enum_known-fact-in-Use-1
+    use_candidates-requires
+    enum_told-in-Forward
+    enum_told-in-Bailout
+    returns-in-Module
+    returns-else-j-eq0
+    returns-in-CheckedUse
+    returns-in-Use
+    returns-in-Forward
+    returns-in-Bailout)

@@ -5,79 +5,79 @@ use borrow.Author.Rules.{rules}
 use Rattle.consequences.proofs.segment_count.Statement.{statement}
 use Rattle.consequences.proofs.segment_count.Tie as tie
 
-enum-known-fact : tie.Need-enum-known-fact
-enum-known-fact c = search rules
+enum_known-fact : tie.Need-enum_known-fact
+enum_known-fact c = search rules
 
-is-quiet-runtime-requires : tie.Need-is-quiet-runtime-requires
-is-quiet-runtime-requires c κs = let s = c.before.before.before.before.before in (s.requires.0, (good_module _ _ s.requires.1 _ c.before.fact.given.1).0)
+is_quiet_runtime-requires : tie.Need-is_quiet_runtime-requires
+is_quiet_runtime-requires c κs = (c.requires.0, (good_module _ _ c.requires.1 _ c.in-Module.is).0)
 
-returns : tie.Need-returns
-returns c = count_quiet _ _ _ c.before.before.before.fact.given.1 (sym c.before.is-quiet-runtime.ensures ∙ c.if1.true)
+returns-then-is_quiet_runtime : tie.Need-returns-then-is_quiet_runtime
+returns-then-is_quiet_runtime c = count_quiet _ _ _ c.in-Module.is (sym c.is_quiet_runtime.ensures ∙ c.if-is_quiet_runtime.true)
 
-enum-known-fact-2 : tie.Need-enum-known-fact-2
-enum-known-fact-2 c = search rules
+enum_known-fact-in-Statement-1 : tie.Need-enum_known-fact-in-Statement-1
+enum_known-fact-in-Statement-1 c = search rules
 
-reference-count-requires : tie.Need-reference-count-requires
-reference-count-requires c κs = let s = c.before.before.before.before.before in let b = good_statement _ _ s.requires.1 _ _ c.before.fact2.given.1 in (s.requires.0.loaded, (b.0, b.1))
+reference_count-requires : tie.Need-reference_count-requires
+reference_count-requires c κs = let b = good_statement _ _ c.requires.1 _ _ c.in-Statement.is in (c.requires.0.loaded, (b.0, b.1))
 
-add-result : tie.Need-overflow-add-result
-add-result c = omega (arith, c.reference-count.ensures.1)
+overflow_add-result : tie.Need-overflow_add-result
+overflow_add-result c = omega (arith, c.reference_count.ensures.1)
 
-enum_told : tie.Need-enum-told
-enum_told c = search rules
+enum_told-1 : tie.Need-enum_told-1
+enum_told-1 c = search rules
 
-enum-known-fact-3 : tie.Need-enum-known-fact-3
-enum-known-fact-3 c = search rules
+enum_known-fact-in-Use-1 : tie.Need-enum_known-fact-in-Use-1
+enum_known-fact-in-Use-1 c = search rules
 
-is-bypassed-inlined-constant-requires : tie.Need-is-bypassed-inlined-constant-requires
-is-bypassed-inlined-constant-requires c κs = let s = c.before.before.before.before.before in (s.requires.0, (good_use _ _ s.requires.1 _ _ c.before.fact3.given.1).0)
+is_bypassed_inlined_constant-requires : tie.Need-is_bypassed_inlined_constant-requires
+is_bypassed_inlined_constant-requires c κs = (c.requires.0, (good_use _ _ c.requires.1 _ _ c.in-Use.is).0)
 
-returns-2 : tie.Need-returns-2
-returns-2 c = count_bypassed _ _ _ _ c.before.before.before.fact3.given.1 (sym c.before.is-bypassed-inlined-constant.ensures ∙ c.if2.true)
+returns-then-is_bypassed_inlined_constant : tie.Need-returns-then-is_bypassed_inlined_constant
+returns-then-is_bypassed_inlined_constant c = count_bypassed _ _ _ _ c.in-Use.is (sym c.is_bypassed_inlined_constant.ensures ∙ c.if-is_bypassed_inlined_constant.true)
 
-enum-told-2 : tie.Need-enum-told-2
-enum-told-2 c = search rules
+enum_told-in-Forward : tie.Need-enum_told-in-Forward
+enum_told-in-Forward c = search rules
 
-enum-told-3 : tie.Need-enum-told-3
-enum-told-3 c = search rules
+enum_told-in-Bailout : tie.Need-enum_told-in-Bailout
+enum_told-in-Bailout c = search rules
 
-returns-3 : tie.Need-returns-3
-returns-3 c = count_module _ _ _ c.before.before.before.fact.given.1 (sym c.before.is-quiet-runtime.ensures ∙ c.if1.false)
+returns-else-is_quiet_runtime : tie.Need-returns-else-is_quiet_runtime
+returns-else-is_quiet_runtime c = count_module _ _ _ c.in-Module.is (sym c.is_quiet_runtime.ensures ∙ c.if-is_quiet_runtime.false)
 
-returns-4 : tie.Need-returns-4
-returns-4 c = count_statement _ _ _ _ _ c.before.before.fact2.given.1 c.reference-count.ensures.0
+returns-in-Statement : tie.Need-returns-in-Statement
+returns-in-Statement c = count_statement _ _ _ _ _ c.in-Statement.is c.reference_count.ensures.0
 
-returns-5 : tie.Need-returns-5
-returns-5 c = count_checked _ _ _ _ c.enum_told.given.1
+returns-in-CheckedUse : tie.Need-returns-in-CheckedUse
+returns-in-CheckedUse c = count_checked _ _ _ _ c.in-CheckedUse.is
 
-returns-6 : tie.Need-returns-6
-returns-6 c = count_use _ _ _ _ c.before.before.before.fact3.given.1 (sym c.before.is-bypassed-inlined-constant.ensures ∙ c.if2.false)
+returns-else-is_bypassed_inlined_constant : tie.Need-returns-else-is_bypassed_inlined_constant
+returns-else-is_bypassed_inlined_constant c = count_use _ _ _ _ c.in-Use.is (sym c.is_bypassed_inlined_constant.ensures ∙ c.if-is_bypassed_inlined_constant.false)
 
-returns-7 : tie.Need-returns-7
-returns-7 c = count_forward _ _ _ c.enum-told2.given.1
+returns-in-Forward : tie.Need-returns-in-Forward
+returns-in-Forward c = count_forward _ _ _ c.in-Forward.is
 
-returns-8 : tie.Need-returns-8
-returns-8 c = count_bailout _ _ _ c.enum-told3.given.1
+returns-in-Bailout : tie.Need-returns-in-Bailout
+returns-in-Bailout c = count_bailout _ _ _ c.in-Bailout.is
 
-pub segment-count-spec : {M : Type 1} → statement M
-segment-count-spec =
+pub segment_count_spec : {M : Type 1} → statement M
+segment_count_spec =
     tie.close
     (tie.spec
-    enum-known-fact
-    is-quiet-runtime-requires
-    returns
-    enum-known-fact-2
-    reference-count-requires
-    add-result
-    enum_told
-    enum-known-fact-3
-    is-bypassed-inlined-constant-requires
-    returns-2
-    enum-told-2
-    enum-told-3
-    returns-3
-    returns-4
-    returns-5
-    returns-6
-    returns-7
-    returns-8)
+    enum_known-fact
+    is_quiet_runtime-requires
+    returns-then-is_quiet_runtime
+    enum_known-fact-in-Statement-1
+    reference_count-requires
+    overflow_add-result
+    enum_told-1
+    enum_known-fact-in-Use-1
+    is_bypassed_inlined_constant-requires
+    returns-then-is_bypassed_inlined_constant
+    enum_told-in-Forward
+    enum_told-in-Bailout
+    returns-else-is_quiet_runtime
+    returns-in-Statement
+    returns-in-CheckedUse
+    returns-else-is_bypassed_inlined_constant
+    returns-in-Forward
+    returns-in-Bailout)

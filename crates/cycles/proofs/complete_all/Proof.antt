@@ -8,63 +8,63 @@ use Rattle.cycles.proofs.Roots.{nodes_turn, nodes_over, room_start, all_done}
 use Rattle.cycles.proofs.complete_all.Statement.{statement}
 use Rattle.cycles.proofs.complete_all.Tie as tie
 
-abbrev invariant-loop : tie.invariant-loop
-invariant-loop modules cap nodes n outs succs seen₀ order₀ c₀ i₀ seen order c i =
+abbrev invariant-loop-i : tie.invariant-loop-i
+invariant-loop-i modules cap nodes n outs succs seen₀ order₀ c₀ i₀ seen order c i =
     (i ≤ n) × Going (succs_in modules cap outs succs) modules modules (take n nodes) seen₀ order₀ c₀ (drop i (take n nodes)) seen order c
 
-abbrev decreases-loop : tie.decreases-loop
-decreases-loop modules cap nodes n outs succs seen₀ order₀ c₀ i₀ seen order c i = n - i
+abbrev decreases-loop-i : tie.decreases-loop-i
+decreases-loop-i modules cap nodes n outs succs seen₀ order₀ c₀ i₀ seen order c i = n - i
 
-loop-holds : tie.Need-loop-init invariant-loop decreases-loop
-loop-holds c = (omega arith, go_start _ _ _ _ _ _ _ _ refl)
+loop-i-init : tie.Need-loop-i-init invariant-loop-i decreases-loop-i
+loop-i-init c = (omega arith, go_start _ _ _ _ _ _ _ _ refl)
 
-mul-complete : tie.Need-overflow-mul-complete invariant-loop decreases-loop
-mul-complete c = let p = c.before.before.before.before.before.before.before.requires in omega (arith, c.loop-test.true, p.1.1.0, p.0.0.few)
+offset_bounds-nodes-i : tie.Need-offset_bounds-nodes-i invariant-loop-i decreases-loop-i
+offset_bounds-nodes-i c = let p = c.requires in omega (arith, c.loop-i-test.true, p.1.1.0, p.0.0.few)
 
-shared-slice-read-complete : tie.Need-shared-slice-read-complete invariant-loop decreases-loop
-shared-slice-read-complete c = omega (arith, c.before.loop-test.true, c.before.before.before.before.before.before.before.before.requires.1.1.1)
+bounds-nodes-i : tie.Need-bounds-nodes-i invariant-loop-i decreases-loop-i
+bounds-nodes-i c = omega (arith, c.loop-i-test.true, c.requires.1.1.1)
 
-complete-requires : tie.Need-complete-requires invariant-loop decreases-loop
-complete-requires c κs =
-    let p = c.before.before.before.before.before.before.before.before.before.before.requires in
-    ((p.0.0, p.1.1.2 _ (omega (arith, c.before.before.before.loop-test.true))), go_room c.before.before.before.before.loop.invariant.1 (room_start _ _ _ p.1.0.0 p.0.1))
+complete-c-requires : tie.Need-complete-c-requires invariant-loop-i decreases-loop-i
+complete-c-requires c κs =
+    let p = c.requires in
+    ((p.0.0, p.1.1.2 _ (omega (arith, c.loop-i-test.true))), go_room c.loop-i.invariant.1 (room_start _ _ _ p.1.0.0 p.0.1))
 
-add-i : tie.Need-overflow-add-i invariant-loop decreases-loop
-add-i c = let p = c.before.before.before.before.before.before.before.before.before.before.before.before.before.before.before.requires in omega (arith, c.before.before.before.before.before.before.before.before.loop-test.true, p.1.1.0, p.0.0.few)
+overflow_add-i : tie.Need-overflow_add-i invariant-loop-i decreases-loop-i
+overflow_add-i c = let p = c.requires in omega (arith, c.loop-i-test.true, p.1.1.0, p.0.0.few)
 
-loop-less : tie.Need-loop-smaller invariant-loop decreases-loop
-loop-less c = omega (arith, c.before.before.before.before.before.before.before.before.loop-test.true)
+loop-i-smaller : tie.Need-loop-i-smaller invariant-loop-i decreases-loop-i
+loop-i-smaller c = omega (arith, c.loop-i-test.true)
 
-loop-again : tie.Need-loop-preserved invariant-loop decreases-loop
-loop-again c =
-    let h = c.before.before.before.before.before.before.before.before.loop-test.true in
-    let k = c.before.before.before.before.complete.auto.1.1.1.1.1.1 in (
+loop-i-preserved : tie.Need-loop-i-preserved invariant-loop-i decreases-loop-i
+loop-i-preserved c =
+    let h = c.loop-i-test.true in
+    let k = c.complete-c.auto.1.1.1.1.1.1 in (
       omega (arith, h),
-      go_step c.before.before.before.before.before.before.before.before.before.loop.invariant.1 _ _ _ _ _ (nodes_turn _ _ c.before.before.before.before.before.before.before.before.before.before.before.before.before.before.before.requires.1.1.1 _ h) k.0 k.1.0 c.before.before.before.before.complete.ensures,
+      go_step c.loop-i.invariant.1 _ _ _ _ _ (nodes_turn _ _ c.requires.1.1.1 _ h) k.0 k.1.0 c.complete-c.ensures,
     )
 
-same_length : tie.Need-same-length invariant-loop decreases-loop
-same_length c = c.before.loop.invariant.1.same_seen
+shape_of-seen : tie.Need-shape_of-seen invariant-loop-i decreases-loop-i
+shape_of-seen c = c.loop-i.invariant.1.same_seen
 
-same-length-2 : tie.Need-same-length-2 invariant-loop decreases-loop
-same-length-2 c = c.before.loop.invariant.1.same_order
+shape_of-order : tie.Need-shape_of-order invariant-loop-i decreases-loop-i
+shape_of-order c = c.loop-i.invariant.1.same_order
 
-returns : tie.Need-returns invariant-loop decreases-loop
-returns c = let p = c.before.before.before.before.before.before.before.requires in all_done _ _ _ _ _ _ _ _ _ p.1.0.1 c.before.loop.invariant.1 (nodes_over _ _ p.1.1.1 _ c.loop-test.false)
+returns : tie.Need-returns invariant-loop-i decreases-loop-i
+returns c = let p = c.requires in all_done _ _ _ _ _ _ _ _ _ p.1.0.1 c.loop-i.invariant.1 (nodes_over _ _ p.1.1.1 _ c.loop-i-test.false)
 
-pub complete-all-spec : {M : Type 1} → statement M
-complete-all-spec =
+pub complete_all_spec : {M : Type 1} → statement M
+complete_all_spec =
     tie.close
     (tie.spec
-    invariant-loop
-    decreases-loop
-    loop-holds
-    mul-complete
-    shared-slice-read-complete
-    complete-requires
-    add-i
-    loop-less
-    loop-again
-    same_length
-    same-length-2
+    invariant-loop-i
+    decreases-loop-i
+    loop-i-init
+    offset_bounds-nodes-i
+    bounds-nodes-i
+    complete-c-requires
+    overflow_add-i
+    loop-i-smaller
+    loop-i-preserved
+    shape_of-seen
+    shape_of-order
     returns)

@@ -5,26 +5,26 @@ use Rattle.cycles.proofs.InMemory.{stored_forward, order_below, all_found}
 use Rattle.cycles.proofs.find_cycles.Statement.{statement}
 use Rattle.cycles.proofs.find_cycles.Tie as tie
 
-slice-aggregate-complete-all : tie.Need-slice-aggregate-complete-all
-slice-aggregate-complete-all c = refl
+slice_bounds-complete_all-end : tie.Need-slice_bounds-complete_all-end
+slice_bounds-complete_all-end c = refl
 
-complete-all-requires : tie.Need-complete-all-requires
-complete-all-requires c κs =
-    let p = c.before.before.before.before.before.before.before.before.requires in
+complete_all-count-requires : tie.Need-complete_all-count-requires
+complete_all-count-requires c κs =
+    let p = c.requires in
     let s = p.0 in
     ((stored_forward s, p.1.0), ((s.few, λ j. zeros_unset 128 j), (s.nodes_few, omega (arith, s.nodes_few, s.nodes_long), s.node_below)))
 
-slice-aggregate-mark-cycles : tie.Need-slice-aggregate-mark-cycles
-slice-aggregate-mark-cycles c = refl
+slice_bounds-mark_cycles-end : tie.Need-slice_bounds-mark_cycles-end
+slice_bounds-mark_cycles-end c = refl
 
-slice-aggregate-mark-cycles-2 : tie.Need-slice-aggregate-mark-cycles-2
-slice-aggregate-mark-cycles-2 c = refl
+slice_bounds-mark_cycles-end-2 : tie.Need-slice_bounds-mark_cycles-end-2
+slice_bounds-mark_cycles-end-2 c = refl
 
-mark-cycles-requires : tie.Need-mark-cycles-requires
-mark-cycles-requires c κs =
-    let p = c.before.before.before.before.before.before.before.before.before.before.before.before.before.before.before.before.requires in
+mark_cycles-requires : tie.Need-mark_cycles-requires
+mark_cycles-requires c κs =
+    let p = c.requires in
     let s = p.0 in
-    let a = c.before.before.before.before.before.before.before.complete-all in
+    let a = c.complete_all-count in
     let k = a.auto.1.1.1.1.1.1.1.0 in (
       (s.few, s.edges_long),
       (
@@ -33,27 +33,27 @@ mark-cycles-requires c κs =
       ),
     )
 
-same_length : tie.Need-same-length
-same_length c = c.before.before.before.before.before.before.before.before.before.before.before.before.complete-all.auto.1.1.1.1.1.1.1.0
+shape_of-order : tie.Need-shape_of-order
+shape_of-order c = c.complete_all-count.auto.1.1.1.1.1.1.1.0
 
-same-length-2 : tie.Need-same-length-2
-same-length-2 c = c.before.before.before.before.mark-cycles.auto.1.1.1.1.1.1.0
+shape_of-plan : tie.Need-shape_of-plan
+shape_of-plan c = c.mark_cycles.auto.1.1.1.1.1.1.0
 
 returns : tie.Need-returns
 returns c =
-    let p = c.before.before.before.before.before.before.before.before.before.before.before.before.before.before.before.before.before.before.before.before.before.requires in
-    let a = c.before.before.before.before.before.before.before.before.before.before.before.before.complete-all.ensures in
-    all_found p.0 _ _ a.1 _ _ _ a.0 p.1.3 c.before.before.before.before.mark-cycles.ensures
+    let p = c.requires in
+    let a = c.complete_all-count.ensures in
+    all_found p.0 _ _ a.1 _ _ _ a.0 p.1.3 c.mark_cycles.ensures
 
-pub find-cycles-spec : {M : Type 1} → statement M
-find-cycles-spec =
+pub find_cycles_spec : {M : Type 1} → statement M
+find_cycles_spec =
     tie.close
     (tie.spec
-    slice-aggregate-complete-all
-    complete-all-requires
-    slice-aggregate-mark-cycles
-    slice-aggregate-mark-cycles-2
-    mark-cycles-requires
-    same_length
-    same-length-2
+    slice_bounds-complete_all-end
+    complete_all-count-requires
+    slice_bounds-mark_cycles-end
+    slice_bounds-mark_cycles-end-2
+    mark_cycles-requires
+    shape_of-order
+    shape_of-plan
     returns)

@@ -8,78 +8,78 @@ use Rattle.cycles.proofs.Sources.{passed_more}
 use Rattle.cycles.proofs.next_source.Statement.{statement}
 use Rattle.cycles.proofs.next_source.Tie as tie
 
-abbrev invariant-loop : tie.invariant-loop
-invariant-loop modules edges t from u₀ u = (from ≤ u) × (u ≤ modules + 8) × ((j : ℕ) → from ≤ j → j < u → bit_at edges (t * modules + j) ≡ false)
+abbrev invariant-loop-u : tie.invariant-loop-u
+invariant-loop-u modules edges t from u₀ u = (from ≤ u) × (u ≤ modules + 8) × ((j : ℕ) → from ≤ j → j < u → bit_at edges (t * modules + j) ≡ false)
 
-abbrev decreases-loop : tie.decreases-loop
-decreases-loop modules edges t from u₀ u = modules - u
+abbrev decreases-loop-u : tie.decreases-loop-u
+decreases-loop-u modules edges t from u₀ u = modules - u
 
-loop-holds : tie.Need-loop-init invariant-loop decreases-loop
-loop-holds c = (omega arith, omega arith, λ j a b. absurd (omega arith))
+loop-u-init : tie.Need-loop-u-init invariant-loop-u decreases-loop-u
+loop-u-init c = (omega arith, omega arith, λ j a b. absurd (omega arith))
 
 -- the bit's number
-few : (c : tie.In-loop invariant-loop decreases-loop) → c.before.before.before.args.t * c.before.before.before.args.modules + c.before.loop.u < 1048576
-few c = let s = c.before.before.before.requires in place_few _ _ _ _ s.2 c.loop-test.true s.0 s.0
+few : (c : tie.In-loop-u invariant-loop-u decreases-loop-u) → c.args.t * c.args.modules + c.loop-u.u < 1048576
+few c = let s = c.requires in place_few _ _ _ _ s.2 c.loop-u-test.true s.0 s.0
 
-mul-gap : tie.Need-overflow-mul-gap invariant-loop decreases-loop
-mul-gap c = let f = few c in omega (arith, f)
+overflow_mul-t : tie.Need-overflow_mul-t invariant-loop-u decreases-loop-u
+overflow_mul-t c = let f = few c in omega (arith, f)
 
-add-gap : tie.Need-overflow-add-gap invariant-loop decreases-loop
-add-gap c = let f = few c in omega (arith, f)
+overflow_add-t : tie.Need-overflow_add-t invariant-loop-u decreases-loop-u
+overflow_add-t c = let f = few c in omega (arith, f)
 
-gap-requires : tie.Need-gap-requires invariant-loop decreases-loop
-gap-requires c κs =
-    let s = c.before.before.before.requires in
-    let p = place_below _ _ _ _ s.2 c.loop-test.true in
+gap-clear-requires : tie.Need-gap-clear-requires invariant-loop-u decreases-loop-u
+gap-clear-requires c κs =
+    let s = c.requires in
+    let p = place_below _ _ _ _ s.2 c.loop-u-test.true in
     (few c, omega (arith, p, s.1))
 
-returns : tie.Need-returns invariant-loop decreases-loop
-returns c =
-    let l = c.before.before.before.loop.invariant in
+returns-then-clear-eq0 : tie.Need-returns-then-clear-eq0 invariant-loop-u decreases-loop-u
+returns-then-clear-eq0 c =
+    let l = c.loop-u.invariant in
     record {
       after = l.0;
-      inside = omega (arith, c.before.before.loop-test.true);
+      inside = omega (arith, c.loop-u-test.true);
       passed = l.2;
-      found = λ h. c.before.gap.ensures.2 c.if1.true;
+      found = λ h. c.gap-clear.ensures.2 c.if-clear-eq0.true;
     }
 
-add-u : tie.Need-overflow-add-u invariant-loop decreases-loop
-add-u c = omega (arith, c.before.before.before.before.before.requires.0, c.before.before.before.loop.invariant.1, c.before.gap.ensures.0)
+overflow_add-u : tie.Need-overflow_add-u invariant-loop-u decreases-loop-u
+overflow_add-u c = omega (arith, c.requires.0, c.loop-u.invariant.1, c.gap-clear.ensures.0)
 
-loop-less : tie.Need-loop-smaller invariant-loop decreases-loop
-loop-less c = omega (arith, c.if1.false, c.before.before.loop-test.true)
+loop-u-smaller : tie.Need-loop-u-smaller invariant-loop-u decreases-loop-u
+loop-u-smaller c = omega (arith, c.if-clear-eq0.false, c.loop-u-test.true)
 
-loop-again : tie.Need-loop-preserved invariant-loop decreases-loop
-loop-again c =
-    let l = c.before.before.before.loop.invariant in
-    let e = c.before.gap.ensures in (
+loop-u-preserved : tie.Need-loop-u-preserved invariant-loop-u decreases-loop-u
+loop-u-preserved c =
+    let l = c.loop-u.invariant in
+    let e = c.gap-clear.ensures in (
       omega (arith, l.0),
-      omega (arith, e.0, c.before.before.loop-test.true),
+      omega (arith, e.0, c.loop-u-test.true),
       passed_more _ _ _ _ _ l.2 e.1,
     )
 
-returns-2 : tie.Need-returns-2 invariant-loop decreases-loop
-returns-2 c =
-    let l = c.before.loop.invariant in
+returns : tie.Need-returns invariant-loop-u decreases-loop-u
+returns c =
+    let l = c.loop-u.invariant in
     record {
-      after = c.before.before.before.requires.3;
+      after = c.requires.3;
       inside = omega arith;
-      passed = λ u a b. l.2 u a (omega (arith, b, c.loop-test.false));
+      passed = λ u a b. l.2 u a (omega (arith, b, c.loop-u-test.false));
       found = λ h. absurd (omega arith);
     }
 
-pub next-source-spec : {M : Type 1} → statement M
-next-source-spec =
+pub next_source_spec : {M : Type 1} → statement M
+next_source_spec =
     tie.close
     (tie.spec
-    invariant-loop
-    decreases-loop
-    loop-holds
-    mul-gap
-    add-gap
-    gap-requires
-    returns
-    add-u
-    loop-less
-    loop-again
-    returns-2)
+    invariant-loop-u
+    decreases-loop-u
+    loop-u-init
+    overflow_mul-t
+    overflow_add-t
+    gap-clear-requires
+    returns-then-clear-eq0
+    overflow_add-u
+    loop-u-smaller
+    loop-u-preserved
+    returns)

@@ -11,66 +11,64 @@ use Rattle.dead_records.proofs.Clearing.{Clearing, clearing_none, clearing_done,
 use Rattle.dead_records.proofs.exempt.Statement.{statement}
 use Rattle.dead_records.proofs.exempt.Tie as tie
 
-abbrev invariant-loop : tie.invariant-loop
-invariant-loop numbers tables plan marks scratch bits₀ h e₀ bits e =
+abbrev invariant-loop-e : tie.invariant-loop-e
+invariant-loop-e numbers tables plan marks scratch bits₀ h e₀ bits e =
     Clearing (graph_in numbers) (kept_before (graph_in numbers) marks scratch) (live_in (header_in numbers) plan) bits₀ bits e
 
-abbrev decreases-loop : tie.decreases-loop
-decreases-loop numbers tables plan marks scratch bits₀ h e₀ bits e = h.entries - e
+abbrev decreases-loop-e : tie.decreases-loop-e
+decreases-loop-e numbers tables plan marks scratch bits₀ h e₀ bits e = h.entries - e
 
-header-of-requires : tie.Need-header-of-requires invariant-loop decreases-loop
-header-of-requires c κs = c.before.before.before.before.before.before.requires.0.long
+header_of-h-requires : tie.Need-header_of-h-requires invariant-loop-e decreases-loop-e
+header_of-h-requires c κs = c.requires.0.long
 
-loop-holds : tie.Need-loop-init invariant-loop decreases-loop
-loop-holds c = clearing_none _ _ _ _
+loop-e-init : tie.Need-loop-e-init invariant-loop-e decreases-loop-e
+loop-e-init c = clearing_none _ _ _ _
 
-is-live-requires : tie.Need-is-live-requires invariant-loop decreases-loop
+is_live-requires : tie.Need-is_live-requires invariant-loop-e decreases-loop-e
 unfolding graph_in
-is-live-requires c κs = let s = c.before.before.before.before.before.before.before.before.before.before in (s.requires.0, (s.requires.1.0.0, omega (arith, c.if1.true, entries_are _ _ c.before.before.before.header_of.ensures)))
+is_live-requires c κs = (c.requires.0, (c.requires.1.0.0, omega (arith, c.loop-e-test.true, entries_are _ _ c.header_of-h.ensures)))
 
-exempt-of-requires : tie.Need-exempt-of-requires invariant-loop decreases-loop
+exempt_of-requires : tie.Need-exempt_of-requires invariant-loop-e decreases-loop-e
 unfolding graph_in
-exempt-of-requires c κs =
-    let s = c.before.before.before.before.before.before.before.before.before.before.before.before.before in
-    (s.requires.0, ((omega (arith, c.before.before.before.if1.true, entries_are _ _ c.before.before.before.before.before.before.header_of.ensures), omega (arith, c.before.before.before.before.before.loop.invariant.same_length, s.requires.1.0.1), s.requires.1.0.2), s.requires.1.1))
+exempt_of-requires c κs =
+    (c.requires.0, ((omega (arith, c.loop-e-test.true, entries_are _ _ c.header_of-h.ensures), omega (arith, c.loop-e.invariant.same_length, c.requires.1.0.1), c.requires.1.0.2), c.requires.1.1))
 
-add-e : tie.Need-overflow-add-e invariant-loop decreases-loop
-add-e c = search rules
+overflow_add-e : tie.Need-overflow_add-e invariant-loop-e decreases-loop-e
+overflow_add-e c = search rules
 
-loop-less : tie.Need-loop-smaller invariant-loop decreases-loop
-loop-less c = omega (arith, c.before.before.if1.true)
+loop-e-smaller : tie.Need-loop-e-smaller invariant-loop-e decreases-loop-e
+loop-e-smaller c = omega (arith, c.loop-e-test.true)
 
-loop-again : tie.Need-loop-preserved invariant-loop decreases-loop
+loop-e-preserved : tie.Need-loop-e-preserved invariant-loop-e decreases-loop-e
 unfolding graph_in
-loop-again c =
-    let s = c.before.before.before.before.before.before.before.before.before.before.before.before in
-    let b = c.before.before.before.before.loop.invariant in
-    let l : c.before.before.before.before.loop.e < (header_in s.args.numbers.now).entries = omega (arith, c.before.before.if1.true, entries_are _ _ c.before.before.before.before.before.header_of.ensures) in
-    let d = c.before.is_live.ensures in
+loop-e-preserved c =
+    let b = c.loop-e.invariant in
+    let l : c.loop-e.e < (header_in c.args.numbers.now).entries = omega (arith, c.loop-e-test.true, entries_are _ _ c.header_of-h.ensures) in
+    let d = c.is_live.ensures in
     ⊎_elim
     (λ w. clearing-live _ _ _ _ _ _ b l _ d _ _ w.0.taken w.2.kept.1.1.1.1.1.0 w.2.ensures w.5)
     (λ w. clearing-passed _ _ _ _ _ _ b l _ d _ w.0.left w.1)
-    c.if2.branch
+    c.if-is_live.branch
 
-same_length : tie.Need-same-length invariant-loop decreases-loop
-same_length c = c.before.before.loop.invariant.same_length
+shape_of-bits : tie.Need-shape_of-bits invariant-loop-e decreases-loop-e
+shape_of-bits c = c.loop-e.invariant.same_length
 
-returns : tie.Need-returns invariant-loop decreases-loop
+returns : tie.Need-returns invariant-loop-e decreases-loop-e
 unfolding graph_in
-returns c = clearing_done _ _ _ _ _ _ c.before.before.loop.invariant (omega (arith, c.if1.false, entries_are _ _ c.before.before.before.header_of.ensures))
+returns c = clearing_done _ _ _ _ _ _ c.loop-e.invariant (omega (arith, c.loop-e-test.false, entries_are _ _ c.header_of-h.ensures))
 
-pub exempt-spec : {M : Type 1} → statement M
-exempt-spec =
+pub exempt_spec : {M : Type 1} → statement M
+exempt_spec =
     tie.close
     (tie.spec
-    invariant-loop
-    decreases-loop
-    header-of-requires
-    loop-holds
-    is-live-requires
-    exempt-of-requires
-    add-e
-    loop-less
-    loop-again
-    same_length
+    invariant-loop-e
+    decreases-loop-e
+    header_of-h-requires
+    loop-e-init
+    is_live-requires
+    exempt_of-requires
+    overflow_add-e
+    loop-e-smaller
+    loop-e-preserved
+    shape_of-bits
     returns)

@@ -14,107 +14,103 @@ use Rattle.dead_records.proofs.Exempting.{Exempting, exempting_none, exempting_d
 use Rattle.dead_records.proofs.exempt_of.Statement.{statement}
 use Rattle.dead_records.proofs.exempt_of.Tie as tie
 
-abbrev invariant-loop : tie.invariant-loop
-invariant-loop numbers tables marks scratch e bits₀ count k₀ bits k =
+abbrev invariant-loop-k : tie.invariant-loop-k
+invariant-loop-k numbers tables marks scratch e bits₀ count k₀ bits k =
     Exempting (graph_in numbers) (kept_before (graph_in numbers) marks scratch) (related (entry_of (graph_in numbers) e.0)) bits₀ bits k
 
-abbrev decreases-loop : tie.decreases-loop
-decreases-loop numbers tables marks scratch e bits₀ count k₀ bits k = count - k
+abbrev decreases-loop-k : tie.decreases-loop-k
+decreases-loop-k numbers tables marks scratch e bits₀ count k₀ bits k = count - k
 
-related-count-requires : tie.Need-related-count-requires invariant-loop decreases-loop
-related-count-requires c κs = (c.before.before.before.before.before.requires.0, c.before.before.before.before.before.requires.1.0.0)
+related_count-count-requires : tie.Need-related_count-count-requires invariant-loop-k decreases-loop-k
+related_count-count-requires c κs = (c.requires.0, c.requires.1.0.0)
 
-loop-holds : tie.Need-loop-init invariant-loop decreases-loop
-loop-holds c = exempting_none _ _ _ _
+loop-k-init : tie.Need-loop-k-init invariant-loop-k decreases-loop-k
+loop-k-init c = exempting_none _ _ _ _
 
-related-statement-requires : tie.Need-related-statement-requires invariant-loop decreases-loop
-related-statement-requires c κs = (c.before.before.before.before.before.before.before.before.requires.0, (c.before.before.before.before.before.before.before.before.requires.1.0.0, omega (arith, c.loop-test.true, c.before.before.related-count.ensures)))
+related_statement-r-requires : tie.Need-related_statement-r-requires invariant-loop-k decreases-loop-k
+related_statement-r-requires c κs = (c.requires.0, (c.requires.1.0.0, omega (arith, c.loop-k-test.true, c.related_count-count.ensures)))
 
-is-kept-requires : tie.Need-is-kept-requires invariant-loop decreases-loop
+is_kept-requires : tie.Need-is_kept-requires invariant-loop-k decreases-loop-k
 unfolding graph_in
-is-kept-requires c κs =
-    let s = c.before.before.before.before.before.before.before.before.before.before.before.before.before in
-    let r = c.before.before.before.before.related-statement.ensures in
-    (s.requires.0, (module_inside _ _ _ r, statement_inside _ _ _ r, s.requires.1.0.2))
+is_kept-requires c κs =
+    let r = c.related_statement-r.ensures in
+    (c.requires.0, (module_inside _ _ _ r, statement_inside _ _ _ r, c.requires.1.0.2))
 
-mul-unset : tie.Need-overflow-mul-unset invariant-loop decreases-loop
+offset_bounds-scratch-first : tie.Need-offset_bounds-scratch-first invariant-loop-k decreases-loop-k
 unfolding graph_in
-mul-unset c =
-    let r = c.before.before.before.before.before.before.before.before.related-statement.ensures in
-    record { fits = omega (arith, r.module_is, r.here.inside, c.before.before.before.before.before.before.before.before.before.before.before.before.before.before.before.before.before.requires.0.few_modules) }
+offset_bounds-scratch-first c =
+    let r = c.related_statement-r.ensures in
+    record { fits = omega (arith, r.module_is, r.here.inside, c.requires.0.few_modules) }
 
-shared-slice-read-unset : tie.Need-shared-slice-read-unset invariant-loop decreases-loop
+bounds-scratch-first : tie.Need-bounds-scratch-first invariant-loop-k decreases-loop-k
 unfolding graph_in
-shared-slice-read-unset c =
-    let r = c.before.before.before.before.before.before.before.before.before.related-statement.ensures in
-    omega (arith, r.module_is, r.here.inside, c.before.before.before.before.before.before.before.before.before.before.before.before.before.before.before.before.before.before.requires.1.0.2.words)
+bounds-scratch-first c =
+    let r = c.related_statement-r.ensures in
+    omega (arith, r.module_is, r.here.inside, c.requires.1.0.2.words)
 
-add-unset : tie.Need-overflow-add-unset invariant-loop decreases-loop
+overflow_add-scratch : tie.Need-overflow_add-scratch invariant-loop-k decreases-loop-k
 unfolding graph_in
-add-unset c =
-    let s = c.before.before.before.before.before.before.before.before.before.before.before.before.before.before.before.before.before.before.before in
-    let r = c.before.before.before.before.before.before.before.before.before.before.related-statement.ensures in
-    let inside : c.before.before.before.before.before.before.before.before.before.before.related-statement.result.«module».0 < (header_in s.args.numbers.now).modules = omega (arith, r.module_is, r.here.inside) in
-    let l : c.before.before.before.before.before.before.before.before.before.before.before.before.loop.k < length (related (entry_of (graph_in s.args.numbers.now) s.args.e.0)) = omega (arith, c.before.before.before.before.before.before.before.before.before.before.before.loop-test.true, c.before.before.before.before.before.before.before.before.before.before.before.before.before.related-count.ensures) in
-    let first = s.requires.1.1 c.before.before.before.before.before.before.before.before.before.before.related-statement.result.«module».0 inside in
-    record { fits = omega (arith, bit-inside _ _ _ _ _ _ c.before.before.before.before.before.before.before.before.before.before.before.before.loop.invariant l _ r _ 16777216 first (records_few s.requires.0)) }
+overflow_add-scratch c =
+    let r = c.related_statement-r.ensures in
+    let inside : c.related_statement-r.result.«module».0 < (header_in c.args.numbers.now).modules = omega (arith, r.module_is, r.here.inside) in
+    let l : c.loop-k.k < length (related (entry_of (graph_in c.args.numbers.now) c.args.e.0)) = omega (arith, c.loop-k-test.true, c.related_count-count.ensures) in
+    let first = c.requires.1.1 c.related_statement-r.result.«module».0 inside in
+    record { fits = omega (arith, bit-inside _ _ _ _ _ _ c.loop-k.invariant l _ r _ 16777216 first (records_few c.requires.0)) }
 
-unset-requires : tie.Need-unset-requires invariant-loop decreases-loop
+unset-requires : tie.Need-unset-requires invariant-loop-k decreases-loop-k
 unfolding graph_in
 unset-requires c κs =
-    let s = c.before.before.before.before.before.before.before.before.before.before.before.before.before.before.before.before.before.before.before in
-    let r = c.before.before.before.before.before.before.before.before.before.before.related-statement.ensures in
-    let inside : c.before.before.before.before.before.before.before.before.before.before.related-statement.result.«module».0 < (header_in s.args.numbers.now).modules = omega (arith, r.module_is, r.here.inside) in
-    let l : c.before.before.before.before.before.before.before.before.before.before.before.before.loop.k < length (related (entry_of (graph_in s.args.numbers.now) s.args.e.0)) = omega (arith, c.before.before.before.before.before.before.before.before.before.before.before.loop-test.true, c.before.before.before.before.before.before.before.before.before.before.before.before.before.related-count.ensures) in
-    let first = s.requires.1.1 c.before.before.before.before.before.before.before.before.before.before.related-statement.result.«module».0 inside in
-    let k = c.before.before.before.before.before.before.before.before.before.before.before.before.loop.invariant in
-    bit-inside _ _ _ _ _ _ k l _ r _ _ first (omega (arith, k.same_length, s.requires.1.0.1))
+    let r = c.related_statement-r.ensures in
+    let inside : c.related_statement-r.result.«module».0 < (header_in c.args.numbers.now).modules = omega (arith, r.module_is, r.here.inside) in
+    let l : c.loop-k.k < length (related (entry_of (graph_in c.args.numbers.now) c.args.e.0)) = omega (arith, c.loop-k-test.true, c.related_count-count.ensures) in
+    let first = c.requires.1.1 c.related_statement-r.result.«module».0 inside in
+    let k = c.loop-k.invariant in
+    bit-inside _ _ _ _ _ _ k l _ r _ _ first (omega (arith, k.same_length, c.requires.1.0.1))
 
-add-k : tie.Need-overflow-add-k invariant-loop decreases-loop
-add-k c = search rules
+overflow_add-k : tie.Need-overflow_add-k invariant-loop-k decreases-loop-k
+overflow_add-k c = search rules
 
-loop-less : tie.Need-loop-smaller invariant-loop decreases-loop
-loop-less c = omega (arith, c.before.before.before.loop-test.true)
+loop-k-smaller : tie.Need-loop-k-smaller invariant-loop-k decreases-loop-k
+loop-k-smaller c = omega (arith, c.loop-k-test.true)
 
-loop-again : tie.Need-loop-preserved invariant-loop decreases-loop
+loop-k-preserved : tie.Need-loop-k-preserved invariant-loop-k decreases-loop-k
 unfolding graph_in
-loop-again c =
-    let s = c.before.before.before.before.before.before.before.before.before.before.before in
-    let r = c.before.before.related-statement.ensures in
-    let inside : c.before.before.related-statement.result.«module».0 < (header_in s.args.numbers.now).modules = omega (arith, r.module_is, r.here.inside) in
-    let l : c.before.before.before.before.loop.k < length (related (entry_of (graph_in s.args.numbers.now) s.args.e.0)) = omega (arith, c.before.before.before.loop-test.true, c.before.before.before.before.before.related-count.ensures) in
-    let first = s.requires.1.1 c.before.before.related-statement.result.«module».0 inside in
-    let k = c.before.before.before.before.loop.invariant in
+loop-k-preserved c =
+    let r = c.related_statement-r.ensures in
+    let inside : c.related_statement-r.result.«module».0 < (header_in c.args.numbers.now).modules = omega (arith, r.module_is, r.here.inside) in
+    let l : c.loop-k.k < length (related (entry_of (graph_in c.args.numbers.now) c.args.e.0)) = omega (arith, c.loop-k-test.true, c.related_count-count.ensures) in
+    let first = c.requires.1.1 c.related_statement-r.result.«module».0 inside in
+    let k = c.loop-k.invariant in
     ⊎_elim
     (λ w. exempting-set _ _ _ _ _ _ k l _ r _ w.3.ensures _ _ _ w.0.taken w.4.taken first w.9.kept.0 w.9.ensures w.12)
     (λ u. ⊎_elim
     (λ w. exempting-unkept _ _ _ _ _ _ k l _ r _ w.3.ensures _ w.4.left w.5)
     (λ w. exempting-unreachable _ _ _ _ _ _ k l _ r _ w.0.left w.1)
     u)
-    c.if1.branch
+    c.if-r-eq0.branch
 
-same_length : tie.Need-same-length invariant-loop decreases-loop
-same_length c = c.before.loop.invariant.same_length
+shape_of-bits : tie.Need-shape_of-bits invariant-loop-k decreases-loop-k
+shape_of-bits c = c.loop-k.invariant.same_length
 
-returns : tie.Need-returns invariant-loop decreases-loop
-returns c = exempting_done _ _ _ _ _ _ c.before.loop.invariant (omega (arith, c.loop-test.false, c.before.before.related-count.ensures))
+returns : tie.Need-returns invariant-loop-k decreases-loop-k
+returns c = exempting_done _ _ _ _ _ _ c.loop-k.invariant (omega (arith, c.loop-k-test.false, c.related_count-count.ensures))
 
-pub exempt-of-spec : {M : Type 1} → statement M
-exempt-of-spec =
+pub exempt_of_spec : {M : Type 1} → statement M
+exempt_of_spec =
     tie.close
     (tie.spec
-    invariant-loop
-    decreases-loop
-    related-count-requires
-    loop-holds
-    related-statement-requires
-    is-kept-requires
-    mul-unset
-    shared-slice-read-unset
-    add-unset
+    invariant-loop-k
+    decreases-loop-k
+    related_count-count-requires
+    loop-k-init
+    related_statement-r-requires
+    is_kept-requires
+    offset_bounds-scratch-first
+    bounds-scratch-first
+    overflow_add-scratch
     unset-requires
-    add-k
-    loop-less
-    loop-again
-    same_length
+    overflow_add-k
+    loop-k-smaller
+    loop-k-preserved
+    shape_of-bits
     returns)

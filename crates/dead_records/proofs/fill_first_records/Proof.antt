@@ -5,66 +5,66 @@ use native.Mathlib.Omega.{arith}
 use Rattle.dead_records.proofs.fill_first_records.Statement.{statement}
 use Rattle.dead_records.proofs.fill_first_records.Tie as tie
 
-abbrev invariant-loop : tie.invariant-loop
-invariant-loop numbers tables firsts₀ h total₀ m₀ firsts total m = Numbering (graph_in numbers) firsts₀ firsts m total
+abbrev invariant-loop-m : tie.invariant-loop-m
+invariant-loop-m numbers tables firsts₀ h total₀ m₀ firsts total m = Numbering (graph_in numbers) firsts₀ firsts m total
 
-abbrev decreases-loop : tie.decreases-loop
-decreases-loop numbers tables firsts₀ h total₀ m₀ firsts total m = h.modules - m
+abbrev decreases-loop-m : tie.decreases-loop-m
+decreases-loop-m numbers tables firsts₀ h total₀ m₀ firsts total m = h.modules - m
 
-header-of-requires : tie.Need-header-of-requires invariant-loop decreases-loop
-header-of-requires c κs = c.before.before.before.requires.0.long
+header_of-h-requires : tie.Need-header_of-h-requires invariant-loop-m decreases-loop-m
+header_of-h-requires c κs = c.requires.0.long
 
-loop-holds : tie.Need-loop-init invariant-loop decreases-loop
-loop-holds c = numbering_none _ _
+loop-m-init : tie.Need-loop-m-init invariant-loop-m decreases-loop-m
+loop-m-init c = numbering_none _ _
 
-mul-firsts : tie.Need-overflow-mul-firsts invariant-loop decreases-loop
+offset_bounds-firsts-m : tie.Need-offset_bounds-firsts-m invariant-loop-m decreases-loop-m
 unfolding graph_in
-mul-firsts c = record { fits = omega (arith, c.if1.true, modules_are _ _ c.before.before.before.header_of.ensures, c.before.before.before.before.before.before.before.requires.0.few_modules) }
+offset_bounds-firsts-m c = record { fits = omega (arith, c.loop-m-test.true, modules_are _ _ c.header_of-h.ensures, c.requires.0.few_modules) }
 
-slice-write-firsts : tie.Need-slice-write-firsts invariant-loop decreases-loop
+bounds-firsts-m : tie.Need-bounds-firsts-m invariant-loop-m decreases-loop-m
 unfolding graph_in
-slice-write-firsts c = omega (arith, c.if1.true, modules_are _ _ c.before.before.before.header_of.ensures, c.before.before.before.before.before.before.before.requires.1, c.before.before.loop.invariant.same_length)
+bounds-firsts-m c = omega (arith, c.loop-m-test.true, modules_are _ _ c.header_of-h.ensures, c.requires.1, c.loop-m.invariant.same_length)
 
-import-record-count-requires : tie.Need-import-record-count-requires invariant-loop decreases-loop
+import_record_count-total-requires : tie.Need-import_record_count-total-requires invariant-loop-m decreases-loop-m
 unfolding graph_in
-import-record-count-requires c κs = (c.before.before.before.before.before.before.before.requires.0, omega (arith, c.if1.true, modules_are _ _ c.before.before.before.header_of.ensures))
+import_record_count-total-requires c κs = (c.requires.0, omega (arith, c.loop-m-test.true, modules_are _ _ c.header_of-h.ensures))
 
-add_total : tie.Need-overflow-add-total invariant-loop decreases-loop
+overflow_add-total : tie.Need-overflow_add-total invariant-loop-m decreases-loop-m
 unfolding graph_in
-add_total c = let n = c.before.before.before.loop.invariant.counting in record { fits = omega (arith, n.total_small, n.inside, c.import-record-count.ensures.1, c.before.before.before.before.before.before.before.before.requires.0.few_modules) }
+overflow_add-total c = let n = c.loop-m.invariant.counting in record { fits = omega (arith, n.total_small, n.inside, c.import_record_count-total.ensures.1, c.requires.0.few_modules) }
 
-add-m : tie.Need-overflow-add-m invariant-loop decreases-loop
+overflow_add-m : tie.Need-overflow_add-m invariant-loop-m decreases-loop-m
 unfolding graph_in
-add-m c = record { fits = omega (arith, c.before.if1.true, modules_are _ _ c.before.before.before.before.header_of.ensures, c.before.before.before.before.before.before.before.before.requires.0.few_modules) }
+overflow_add-m c = record { fits = omega (arith, c.loop-m-test.true, modules_are _ _ c.header_of-h.ensures, c.requires.0.few_modules) }
 
-loop-less : tie.Need-loop-smaller invariant-loop decreases-loop
-loop-less c = omega (arith, c.before.if1.true)
+loop-m-smaller : tie.Need-loop-m-smaller invariant-loop-m decreases-loop-m
+loop-m-smaller c = omega (arith, c.loop-m-test.true)
 
-loop-again : tie.Need-loop-preserved invariant-loop decreases-loop
+loop-m-preserved : tie.Need-loop-m-preserved invariant-loop-m decreases-loop-m
 unfolding graph_in
-loop-again c = numbering_more _ _ _ _ _ _ c.before.before.before.loop.invariant c.before.before.before.before.before.before.before.before.requires.1 (omega (arith, c.before.if1.true, modules_are _ _ c.before.before.before.before.header_of.ensures)) c.import-record-count.ensures.0 c.import-record-count.ensures.1
+loop-m-preserved c = numbering_more _ _ _ _ _ _ c.loop-m.invariant c.requires.1 (omega (arith, c.loop-m-test.true, modules_are _ _ c.header_of-h.ensures)) c.import_record_count-total.ensures.0 c.import_record_count-total.ensures.1
 
-same_length : tie.Need-same-length invariant-loop decreases-loop
-same_length c = c.before.before.loop.invariant.same_length
+shape_of-firsts : tie.Need-shape_of-firsts invariant-loop-m decreases-loop-m
+shape_of-firsts c = c.loop-m.invariant.same_length
 
-returns : tie.Need-returns invariant-loop decreases-loop
+returns : tie.Need-returns invariant-loop-m decreases-loop-m
 unfolding graph_in
-returns c = λ m l. c.before.before.loop.invariant.has m (omega (arith, l, c.if1.false, modules_are _ _ c.before.before.before.header_of.ensures))
+returns c = λ m l. c.loop-m.invariant.has m (omega (arith, l, c.loop-m-test.false, modules_are _ _ c.header_of-h.ensures))
 
-pub fill-first-records-spec : {M : Type 1} → statement M
-fill-first-records-spec =
+pub fill_first_records_spec : {M : Type 1} → statement M
+fill_first_records_spec =
     tie.close
     (tie.spec
-    invariant-loop
-    decreases-loop
-    header-of-requires
-    loop-holds
-    mul-firsts
-    slice-write-firsts
-    import-record-count-requires
-    add_total
-    add-m
-    loop-less
-    loop-again
-    same_length
+    invariant-loop-m
+    decreases-loop-m
+    header_of-h-requires
+    loop-m-init
+    offset_bounds-firsts-m
+    bounds-firsts-m
+    import_record_count-total-requires
+    overflow_add-total
+    overflow_add-m
+    loop-m-smaller
+    loop-m-preserved
+    shape_of-firsts
     returns)

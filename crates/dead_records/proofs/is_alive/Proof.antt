@@ -13,72 +13,71 @@ use native.Mathlib.Omega.{arith}
 use Rattle.dead_records.proofs.is_alive.Statement.{statement}
 use Rattle.dead_records.proofs.is_alive.Tie as tie
 
-abbrev invariant-loop : tie.invariant-loop
-invariant-loop numbers tables marks scratch e unused count k₀ k = (k ≤ length (related (entry_of (graph_in numbers) e.0))) × Searching (graph_in numbers) (last_verdicts (graph_in numbers)) (kept_before (graph_in numbers) marks scratch) e.0 k
+abbrev invariant-loop-k : tie.invariant-loop-k
+invariant-loop-k numbers tables marks scratch e unused count k₀ k = (k ≤ length (related (entry_of (graph_in numbers) e.0))) × Searching (graph_in numbers) (last_verdicts (graph_in numbers)) (kept_before (graph_in numbers) marks scratch) e.0 k
 
-abbrev decreases-loop : tie.decreases-loop
-decreases-loop numbers tables marks scratch e unused count k₀ k = length (related (entry_of (graph_in numbers) e.0)) - k
+abbrev decreases-loop-k : tie.decreases-loop-k
+decreases-loop-k numbers tables marks scratch e unused count k₀ k = length (related (entry_of (graph_in numbers) e.0)) - k
 
-entry-module-requires : tie.Need-entry-module-requires invariant-loop decreases-loop
-entry-module-requires c κs =
-    (c.before.before.before.before.requires.0.loaded, c.before.before.before.before.requires.1.0)
+entry_module-m-requires : tie.Need-entry_module-m-requires invariant-loop-k decreases-loop-k
+entry_module-m-requires c κs =
+    (c.requires.0.loaded, c.requires.1.0)
 
-flags-requires : tie.Need-flags-requires invariant-loop decreases-loop
+flags-requires : tie.Need-flags-requires invariant-loop-k decreases-loop-k
 flags-requires c κs =
-    (c.before.before.before.before.before.requires.0.loaded, c.entry-module.ensures.1)
+    (c.requires.0.loaded, c.entry_module-m.ensures.1)
 
-flag-requires : tie.Need-flag-requires invariant-loop decreases-loop
-flag-requires c κs =
+flag-unused-requires : tie.Need-flag-unused-requires invariant-loop-k decreases-loop-k
+flag-unused-requires c κs =
     search rules
 
-related-count-requires : tie.Need-related-count-requires invariant-loop decreases-loop
-related-count-requires c κs =
-    (c.before.before.before.before.before.before.before.requires.0.loaded, c.before.before.before.before.before.before.before.requires.1.0)
+related_count-count-requires : tie.Need-related_count-count-requires invariant-loop-k decreases-loop-k
+related_count-count-requires c κs =
+    (c.requires.0.loaded, c.requires.1.0)
 
-loop-holds : tie.Need-loop-init invariant-loop decreases-loop
-loop-holds c =
+loop-k-init : tie.Need-loop-k-init invariant-loop-k decreases-loop-k
+loop-k-init c =
     (omega arith, search_start _ _ _ _)
 
-lets-live-requires : tie.Need-lets-live-requires invariant-loop decreases-loop
+lets_live-requires : tie.Need-lets_live-requires invariant-loop-k decreases-loop-k
 unfolding module_of_entry
-lets-live-requires c κs =
-    let s = c.before.before.before.before.before.before.before.before.before.before in
-    (s.requires.0, ((s.requires.1.0, omega (arith, c.loop-test.true, c.before.before.related-count.ensures), s.requires.1.1), unused_is _ _ _ _ _ c.before.before.before.flag.ensures c.before.before.before.before.flags.ensures c.before.before.before.before.before.entry-module.ensures.0))
+lets_live-requires c κs =
+    (c.requires.0, ((c.requires.1.0, omega (arith, c.loop-k-test.true, c.related_count-count.ensures), c.requires.1.1), unused_is _ _ _ _ _ c.flag-unused.ensures c.flags.ensures c.entry_module-m.ensures.0))
 
-returns : tie.Need-returns invariant-loop decreases-loop
-returns c =
-    sym (search-found _ _ _ _ _ c.before.before.before.loop.invariant.1 _ c.before.before.before.before.related-count.ensures c.before.before.loop-test.true _ c.before.lets_live.ensures c.if1.true)
+returns-then-lets_live : tie.Need-returns-then-lets_live invariant-loop-k decreases-loop-k
+returns-then-lets_live c =
+    sym (search-found _ _ _ _ _ c.loop-k.invariant.1 _ c.related_count-count.ensures c.loop-k-test.true _ c.lets_live.ensures c.if-lets_live.true)
 
-add-k : tie.Need-overflow-add-k invariant-loop decreases-loop
-add-k c =
+overflow_add-k : tie.Need-overflow_add-k invariant-loop-k decreases-loop-k
+overflow_add-k c =
     search rules
 
-loop-less : tie.Need-loop-smaller invariant-loop decreases-loop
-loop-less c =
-    omega (arith, c.before.before.loop-test.true, c.before.before.before.before.related-count.ensures)
+loop-k-smaller : tie.Need-loop-k-smaller invariant-loop-k decreases-loop-k
+loop-k-smaller c =
+    omega (arith, c.loop-k-test.true, c.related_count-count.ensures)
 
-loop-again : tie.Need-loop-preserved invariant-loop decreases-loop
-loop-again c =
-    (omega (arith, c.before.before.loop-test.true, c.before.before.before.before.related-count.ensures), search-next _ _ _ _ _ c.before.before.before.loop.invariant.1 _ c.before.before.before.before.related-count.ensures c.before.before.loop-test.true _ c.before.lets_live.ensures c.if1.false)
+loop-k-preserved : tie.Need-loop-k-preserved invariant-loop-k decreases-loop-k
+loop-k-preserved c =
+    (omega (arith, c.loop-k-test.true, c.related_count-count.ensures), search-next _ _ _ _ _ c.loop-k.invariant.1 _ c.related_count-count.ensures c.loop-k-test.true _ c.lets_live.ensures c.if-lets_live.false)
 
-returns-2 : tie.Need-returns-2 invariant-loop decreases-loop
-returns-2 c =
-    sym (search_end _ _ _ _ _ c.before.loop.invariant.1 _ c.before.before.related-count.ensures (omega (arith, c.loop-test.false)))
+returns : tie.Need-returns invariant-loop-k decreases-loop-k
+returns c =
+    sym (search_end _ _ _ _ _ c.loop-k.invariant.1 _ c.related_count-count.ensures (omega (arith, c.loop-k-test.false)))
 
-pub is-alive-spec : {M : Type 1} → statement M
-is-alive-spec =
+pub is_alive_spec : {M : Type 1} → statement M
+is_alive_spec =
     tie.close
     (tie.spec
-    invariant-loop
-    decreases-loop
-    entry-module-requires
+    invariant-loop-k
+    decreases-loop-k
+    entry_module-m-requires
     flags-requires
-    flag-requires
-    related-count-requires
-    loop-holds
-    lets-live-requires
-    returns
-    add-k
-    loop-less
-    loop-again
-    returns-2)
+    flag-unused-requires
+    related_count-count-requires
+    loop-k-init
+    lets_live-requires
+    returns-then-lets_live
+    overflow_add-k
+    loop-k-smaller
+    loop-k-preserved
+    returns)

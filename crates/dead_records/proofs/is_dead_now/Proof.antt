@@ -8,101 +8,99 @@ use Rattle.dead_records.proofs.DeadNow.{cycle_word, not_dynamic, is_live, on_a_c
 use Rattle.dead_records.proofs.is_dead_now.Statement.{statement}
 use Rattle.dead_records.proofs.is_dead_now.Tie as tie
 
-header-of-requires : tie.Need-header-of-requires
+header_of-h-requires : tie.Need-header_of-h-requires
 unfolding graph_in
-header-of-requires c κs = c.before.before.before.before.before.requires.0.loaded.long
+header_of-h-requires c κs = c.requires.0.loaded.long
 
-entry-kind-requires : tie.Need-entry-kind-requires
+entry_kind-requires : tie.Need-entry_kind-requires
 unfolding graph_in
-entry-kind-requires c κs = (c.before.before.before.before.before.before.requires.0.loaded, c.before.before.before.before.before.before.requires.1.0.1)
+entry_kind-requires c κs = (c.requires.0.loaded, c.requires.1.0.1)
+
+returns-then-entry_kind-ne2 : tie.Need-returns-then-entry_kind-ne2
+unfolding graph_in
+returns-then-entry_kind-ne2 c = not_dynamic _ _ _ _ _ c.entry_kind.ensures.0 c.if-entry_kind-ne2.true
+
+entry_module-m-requires : tie.Need-entry_module-m-requires
+unfolding graph_in
+entry_module-m-requires c κs = (c.requires.0.loaded, c.requires.1.0.1)
+
+live_at-live-requires : tie.Need-live_at-live-requires
+unfolding graph_in
+live_at-live-requires c κs = omega (arith, modules_are _ _ c.header_of-h.ensures, entries_are _ _ c.header_of-h.ensures, c.requires.0.loaded.few_modules, c.requires.0.loaded.few_entries)
+
+overflow_add-live : tie.Need-overflow_add-live
+unfolding graph_in
+overflow_add-live c = record { fits = omega (arith, c.entry_module-m.ensures.1, c.live_at-live.ensures, entries_are _ _ c.header_of-h.ensures, c.requires.0.loaded.few_modules, c.requires.0.loaded.few_entries) }
+
+offset_bounds-plan-live : tie.Need-offset_bounds-plan-live
+unfolding graph_in
+offset_bounds-plan-live c = record { fits = omega (arith, c.entry_module-m.ensures.1, c.live_at-live.ensures, entries_are _ _ c.header_of-h.ensures, c.requires.0.loaded.few_modules, c.requires.0.loaded.few_entries) }
+
+bounds-plan-live : tie.Need-bounds-plan-live
+unfolding graph_in
+bounds-plan-live c = omega (arith, c.entry_module-m.ensures.1, c.live_at-live.ensures, entries_are _ _ c.header_of-h.ensures, c.requires.1.0.0)
+
+returns-then-plan-live-eq1 : tie.Need-returns-then-plan-live-eq1
+unfolding graph_in
+returns-then-plan-live-eq1 c =
+    is_live _ _ _ _ _ c.entry_kind.ensures.0 c.if-entry_kind-ne2.false _ c.entry_module-m.ensures.0
+    (live_word _ c.args.plan.now _ c.header_of-h.ensures _ c.live_at-live.ensures _ c.entry_module-m.ensures.1 c.if-plan-live-eq1.true)
+
+cycled_at-cycled-requires : tie.Need-cycled_at-cycled-requires
+unfolding graph_in
+cycled_at-cycled-requires c κs = omega (arith, modules_are _ _ c.header_of-h.ensures, entries_are _ _ c.header_of-h.ensures, c.requires.0.loaded.few_modules, c.requires.0.loaded.few_entries)
+
+overflow_add-cycled : tie.Need-overflow_add-cycled
+unfolding graph_in
+overflow_add-cycled c = record { fits = omega (arith, c.entry_module-m.ensures.1, c.cycled_at-cycled.ensures, modules_are _ _ c.header_of-h.ensures, entries_are _ _ c.header_of-h.ensures, c.requires.0.loaded.few_modules, c.requires.0.loaded.few_entries) }
+
+offset_bounds-plan-cycled : tie.Need-offset_bounds-plan-cycled
+unfolding graph_in
+offset_bounds-plan-cycled c = record { fits = omega (arith, c.entry_module-m.ensures.1, c.cycled_at-cycled.ensures, modules_are _ _ c.header_of-h.ensures, entries_are _ _ c.header_of-h.ensures, c.requires.0.loaded.few_modules, c.requires.0.loaded.few_entries) }
+
+bounds-plan-cycled : tie.Need-bounds-plan-cycled
+unfolding graph_in
+bounds-plan-cycled c = omega (arith, c.entry_module-m.ensures.1, c.cycled_at-cycled.ensures, modules_are _ _ c.header_of-h.ensures, entries_are _ _ c.header_of-h.ensures, c.requires.1.0.0)
+
+returns-then-plan-cycled-eq1 : tie.Need-returns-then-plan-cycled-eq1
+unfolding graph_in
+returns-then-plan-cycled-eq1 c =
+    let m = c.entry_module-m.result.0 in
+    let n = unlive_word _ c.args.plan.now _ c.header_of-h.ensures _ c.live_at-live.ensures _ c.entry_module-m.ensures.1 c.if-plan-live-eq1.false in
+    let w = cycle_word c.args.plan.now _ _ _ c.cycled_at-cycled.ensures c.header_of-h.ensures m in
+    let y = c.requires.1.1 m c.entry_module-m.ensures.1 in
+    on_a_cycle _ _ _ _ _ c.entry_kind.ensures.0 c.if-entry_kind-ne2.false _ c.entry_module-m.ensures.0 n (sym y ∙ eq-eqb _ 1 (sym w ∙ c.if-plan-cycled-eq1.true))
+
+is_alive-requires : tie.Need-is_alive-requires
+unfolding graph_in
+is_alive-requires c κs = (c.requires.0, (c.requires.1.0.1, c.requires.1.0.2))
 
 returns : tie.Need-returns
 unfolding graph_in
-returns c = not_dynamic _ _ _ _ _ c.before.entry-kind.ensures.0 c.if1.true
+returns c =
+    let m = c.entry_module-m.result.0 in
+    let n = unlive_word _ c.args.plan.now _ c.header_of-h.ensures _ c.live_at-live.ensures _ c.entry_module-m.ensures.1 c.if-plan-live-eq1.false in
+    let w = cycle_word c.args.plan.now _ _ _ c.cycled_at-cycled.ensures c.header_of-h.ensures m in
+    let y = c.requires.1.1 m c.entry_module-m.ensures.1 in
+    by-its-statements _ _ _ _ _ c.entry_kind.ensures.0 c.if-entry_kind-ne2.false _ c.entry_module-m.ensures.0 n (sym y ∙ ne_eqb _ 1 (λ z. c.if-plan-cycled-eq1.false (w ∙ z))) _ c.is_alive.ensures
 
-entry-module-requires : tie.Need-entry-module-requires
-unfolding graph_in
-entry-module-requires c κs = (c.before.before.before.before.before.before.before.before.requires.0.loaded, c.before.before.before.before.before.before.before.before.requires.1.0.1)
-
-live-at-requires : tie.Need-live-at-requires
-unfolding graph_in
-live-at-requires c κs = omega (arith, modules_are _ _ c.before.before.before.header_of.ensures, entries_are _ _ c.before.before.before.header_of.ensures, c.before.before.before.before.before.before.before.before.before.requires.0.loaded.few_modules, c.before.before.before.before.before.before.before.before.before.requires.0.loaded.few_entries)
-
-add-if2 : tie.Need-overflow-add-if2
-unfolding graph_in
-add-if2 c = record { fits = omega (arith, c.before.entry-module.ensures.1, c.Live-at.ensures, entries_are _ _ c.before.before.before.before.header_of.ensures, c.before.before.before.before.before.before.before.before.before.before.requires.0.loaded.few_modules, c.before.before.before.before.before.before.before.before.before.before.requires.0.loaded.few_entries) }
-
-mul-if2 : tie.Need-overflow-mul-if2
-unfolding graph_in
-mul-if2 c = record { fits = omega (arith, c.before.entry-module.ensures.1, c.Live-at.ensures, entries_are _ _ c.before.before.before.before.header_of.ensures, c.before.before.before.before.before.before.before.before.before.before.requires.0.loaded.few_modules, c.before.before.before.before.before.before.before.before.before.before.requires.0.loaded.few_entries) }
-
-shared-slice-read-if2 : tie.Need-shared-slice-read-if2
-unfolding graph_in
-shared-slice-read-if2 c = omega (arith, c.before.before.entry-module.ensures.1, c.before.Live-at.ensures, entries_are _ _ c.before.before.before.before.before.header_of.ensures, c.before.before.before.before.before.before.before.before.before.before.before.requires.1.0.0)
-
-returns-2 : tie.Need-returns-2
-unfolding graph_in
-returns-2 c =
-    is_live _ _ _ _ _ c.before.before.before.before.before.entry-kind.ensures.0 c.before.before.before.before.if1.false _ c.before.before.before.entry-module.ensures.0
-    (live_word _ c.before.before.before.before.before.before.before.before.before.before.before.before.args.plan.now _ c.before.before.before.before.before.before.header_of.ensures _ c.before.before.Live-at.ensures _ c.before.before.before.entry-module.ensures.1 c.if2.true)
-
-cycled-at-requires : tie.Need-cycled-at-requires
-unfolding graph_in
-cycled-at-requires c κs = omega (arith, modules_are _ _ c.before.before.before.before.before.before.header_of.ensures, entries_are _ _ c.before.before.before.before.before.before.header_of.ensures, c.before.before.before.before.before.before.before.before.before.before.before.before.requires.0.loaded.few_modules, c.before.before.before.before.before.before.before.before.before.before.before.before.requires.0.loaded.few_entries)
-
-add-if3 : tie.Need-overflow-add-if3
-unfolding graph_in
-add-if3 c = record { fits = omega (arith, c.before.before.before.before.entry-module.ensures.1, c.cycled-at.ensures, modules_are _ _ c.before.before.before.before.before.before.before.header_of.ensures, entries_are _ _ c.before.before.before.before.before.before.before.header_of.ensures, c.before.before.before.before.before.before.before.before.before.before.before.before.before.requires.0.loaded.few_modules, c.before.before.before.before.before.before.before.before.before.before.before.before.before.requires.0.loaded.few_entries) }
-
-mul-if3 : tie.Need-overflow-mul-if3
-unfolding graph_in
-mul-if3 c = record { fits = omega (arith, c.before.before.before.before.entry-module.ensures.1, c.cycled-at.ensures, modules_are _ _ c.before.before.before.before.before.before.before.header_of.ensures, entries_are _ _ c.before.before.before.before.before.before.before.header_of.ensures, c.before.before.before.before.before.before.before.before.before.before.before.before.before.requires.0.loaded.few_modules, c.before.before.before.before.before.before.before.before.before.before.before.before.before.requires.0.loaded.few_entries) }
-
-shared-slice-read-if3 : tie.Need-shared-slice-read-if3
-unfolding graph_in
-shared-slice-read-if3 c = omega (arith, c.before.before.before.before.before.entry-module.ensures.1, c.before.cycled-at.ensures, modules_are _ _ c.before.before.before.before.before.before.before.before.header_of.ensures, entries_are _ _ c.before.before.before.before.before.before.before.before.header_of.ensures, c.before.before.before.before.before.before.before.before.before.before.before.before.before.before.requires.1.0.0)
-
-returns-3 : tie.Need-returns-3
-unfolding graph_in
-returns-3 c =
-    let s = c.before.before.before.before.before.before.before.before.before.before.before.before.before.before.before in
-    let m = c.before.before.before.before.before.before.entry-module.result.0 in
-    let n = unlive_word _ s.args.plan.now _ c.before.before.before.before.before.before.before.before.before.header_of.ensures _ c.before.before.before.before.before.Live-at.ensures _ c.before.before.before.before.before.before.entry-module.ensures.1 c.before.before.before.if2.false in
-    let w = cycle_word s.args.plan.now _ _ _ c.before.before.cycled-at.ensures c.before.before.before.before.before.before.before.before.before.header_of.ensures m in
-    let y = s.requires.1.1 m c.before.before.before.before.before.before.entry-module.ensures.1 in
-    on_a_cycle _ _ _ _ _ c.before.before.before.before.before.before.before.before.entry-kind.ensures.0 c.before.before.before.before.before.before.before.if1.false _ c.before.before.before.before.before.before.entry-module.ensures.0 n (sym y ∙ eq-eqb _ 1 (sym w ∙ c.if3.true))
-
-is-alive-requires : tie.Need-is-alive-requires
-unfolding graph_in
-is-alive-requires c κs = (c.before.before.before.before.before.before.before.before.before.before.before.before.before.before.before.requires.0, (c.before.before.before.before.before.before.before.before.before.before.before.before.before.before.before.requires.1.0.1, c.before.before.before.before.before.before.before.before.before.before.before.before.before.before.before.requires.1.0.2))
-
-returns-4 : tie.Need-returns-4
-unfolding graph_in
-returns-4 c =
-    let s = c.before.before.before.before.before.before.before.before.before.before.before.before.before.before.before.before in
-    let m = c.before.before.before.before.before.before.before.entry-module.result.0 in
-    let n = unlive_word _ s.args.plan.now _ c.before.before.before.before.before.before.before.before.before.before.header_of.ensures _ c.before.before.before.before.before.before.Live-at.ensures _ c.before.before.before.before.before.before.before.entry-module.ensures.1 c.before.before.before.before.if2.false in
-    let w = cycle_word s.args.plan.now _ _ _ c.before.before.before.cycled-at.ensures c.before.before.before.before.before.before.before.before.before.before.header_of.ensures m in
-    let y = s.requires.1.1 m c.before.before.before.before.before.before.before.entry-module.ensures.1 in
-    by-its-statements _ _ _ _ _ c.before.before.before.before.before.before.before.before.before.entry-kind.ensures.0 c.before.before.before.before.before.before.before.before.if1.false _ c.before.before.before.before.before.before.before.entry-module.ensures.0 n (sym y ∙ ne_eqb _ 1 (λ z. c.before.if3.false (w ∙ z))) _ c.is-alive.ensures
-
-pub is-dead-now-spec : {M : Type 1} → statement M
-is-dead-now-spec =
+pub is_dead_now_spec : {M : Type 1} → statement M
+is_dead_now_spec =
     tie.close
     (tie.spec
-    header-of-requires
-    entry-kind-requires
-    returns
-    entry-module-requires
-    live-at-requires
-    add-if2
-    mul-if2
-    shared-slice-read-if2
-    returns-2
-    cycled-at-requires
-    add-if3
-    mul-if3
-    shared-slice-read-if3
-    returns-3
-    is-alive-requires
-    returns-4)
+    header_of-h-requires
+    entry_kind-requires
+    returns-then-entry_kind-ne2
+    entry_module-m-requires
+    live_at-live-requires
+    overflow_add-live
+    offset_bounds-plan-live
+    bounds-plan-live
+    returns-then-plan-live-eq1
+    cycled_at-cycled-requires
+    overflow_add-cycled
+    offset_bounds-plan-cycled
+    bounds-plan-cycled
+    returns-then-plan-cycled-eq1
+    is_alive-requires
+    returns)

@@ -7,56 +7,53 @@ use Rattle.dead_records.proofs.Exempting.{statement_place, unmarked_not_kept, ke
 use Rattle.dead_records.proofs.is_kept.Statement.{statement}
 use Rattle.dead_records.proofs.is_kept.Tie as tie
 
-header-of-requires : tie.Need-header-of-requires
-header-of-requires c κs = c.before.before.before.before.requires.0.long
+header_of-h-requires : tie.Need-header_of-h-requires
+header_of-h-requires c κs = c.requires.0.long
 
-mark-of-requires : tie.Need-mark-of-requires
+mark_of-at-requires : tie.Need-mark_of-at-requires
 unfolding graph_in
-mark-of-requires c κs = let s = c.before.before.before.before.before in (s.requires.0, (s.requires.1.0, s.requires.1.1))
+mark_of-at-requires c κs = (c.requires.0, (c.requires.1.0, c.requires.1.1))
 
 test-requires : tie.Need-test-requires
-test-requires c κs = omega (arith, c.mark_of.ensures.1, c.before.before.before.before.before.before.requires.1.2.wide)
+test-requires c κs = omega (arith, c.mark_of-at.ensures.1, c.requires.1.2.wide)
+
+returns-then-not-test : tie.Need-returns-then-not-test
+unfolding graph_in
+returns-then-not-test c =
+    unmarked_not_kept _ c.args.marks.now _ _ _ c.mark_of-at.ensures.0 (sym c.test.ensures ∙ not_true _ c.if-not-test.true)
+
+overflow_sub-result : tie.Need-overflow_sub-result
+unfolding graph_in
+overflow_sub-result c =
+    let p = statement_place c.requires.0 c.args.m.0 c.args.i.0 c.requires.1.0 c.requires.1.1 in
+    omega (arith, p.0, modules_are _ _ c.header_of-h.ensures, c.mark_of-at.ensures.0)
+
+offset_bounds-scratch-at : tie.Need-offset_bounds-scratch-at
+unfolding graph_in
+offset_bounds-scratch-at c =
+    let p = statement_place c.requires.0 c.args.m.0 c.args.i.0 c.requires.1.0 c.requires.1.1 in
+    record { fits = omega (arith, p.0, p.1, modules_are _ _ c.header_of-h.ensures, c.mark_of-at.ensures.0, c.requires.0.few_modules, c.requires.0.few_statements) }
+
+bounds-scratch-at : tie.Need-bounds-scratch-at
+unfolding graph_in
+bounds-scratch-at c =
+    let p = statement_place c.requires.0 c.args.m.0 c.args.i.0 c.requires.1.0 c.requires.1.1 in
+    omega (arith, p.0, p.1, modules_are _ _ c.header_of-h.ensures, c.mark_of-at.ensures.0, c.requires.1.2.words)
 
 returns : tie.Need-returns
 unfolding graph_in
 returns c =
-    unmarked_not_kept _ c.before.before.before.before.before.before.before.before.args.marks.now _ _ _ c.before.before.mark_of.ensures.0 (sym c.before.test.ensures ∙ not_true _ c.if1.true)
+    kept_by_word _ c.args.marks.now c.args.scratch.now _ _ _ c.mark_of-at.ensures.0 (sym c.test.ensures ∙ not-false _ c.if-not-test.false) (modules_are _ _ c.header_of-h.ensures)
 
-sub-result : tie.Need-overflow-sub-result
-unfolding graph_in
-sub-result c =
-    let s = c.before.before.before.before.before.before.before.before.before in
-    let p = statement_place s.requires.0 s.args.m.0 s.args.i.0 s.requires.1.0 s.requires.1.1 in
-    omega (arith, p.0, modules_are _ _ c.before.before.before.before.header_of.ensures, c.before.before.before.mark_of.ensures.0)
-
-mul-result : tie.Need-overflow-mul-result
-unfolding graph_in
-mul-result c =
-    let s = c.before.before.before.before.before.before.before.before.before in
-    let p = statement_place s.requires.0 s.args.m.0 s.args.i.0 s.requires.1.0 s.requires.1.1 in
-    record { fits = omega (arith, p.0, p.1, modules_are _ _ c.before.before.before.before.header_of.ensures, c.before.before.before.mark_of.ensures.0, s.requires.0.few_modules, s.requires.0.few_statements) }
-
-shared-slice-read-result : tie.Need-shared-slice-read-result
-unfolding graph_in
-shared-slice-read-result c =
-    let s = c.before.before.before.before.before.before.before.before.before.before in
-    let p = statement_place s.requires.0 s.args.m.0 s.args.i.0 s.requires.1.0 s.requires.1.1 in
-    omega (arith, p.0, p.1, modules_are _ _ c.before.before.before.before.before.header_of.ensures, c.before.before.before.before.mark_of.ensures.0, s.requires.1.2.words)
-
-returns-2 : tie.Need-returns-2
-unfolding graph_in
-returns-2 c =
-    kept_by_word _ c.before.before.before.before.before.before.before.before.before.before.args.marks.now c.before.before.before.before.before.before.before.before.before.before.args.scratch.now _ _ _ c.before.before.before.before.mark_of.ensures.0 (sym c.before.before.before.test.ensures ∙ not-false _ c.before.before.if1.false) (modules_are _ _ c.before.before.before.before.before.header_of.ensures)
-
-pub is-kept-spec : {M : Type 1} → statement M
-is-kept-spec =
+pub is_kept_spec : {M : Type 1} → statement M
+is_kept_spec =
     tie.close
     (tie.spec
-    header-of-requires
-    mark-of-requires
+    header_of-h-requires
+    mark_of-at-requires
     test-requires
-    returns
-    sub-result
-    mul-result
-    shared-slice-read-result
-    returns-2)
+    returns-then-not-test
+    overflow_sub-result
+    offset_bounds-scratch-at
+    bounds-scratch-at
+    returns)

@@ -5,36 +5,36 @@ use mathlib.Core.Path.{◌∙◌, sym}
 use Rattle.dead_records.proofs.lets_live.Statement.{statement}
 use Rattle.dead_records.proofs.lets_live.Tie as tie
 
-related-statement-requires : tie.Need-related-statement-requires
-related-statement-requires c κs = let s = c.before.before.before.before in (s.requires.0.loaded, (s.requires.1.0.0, s.requires.1.0.1))
+related_statement-r-requires : tie.Need-related_statement-r-requires
+related_statement-r-requires c κs = (c.requires.0.loaded, (c.requires.1.0.0, c.requires.1.0.1))
+
+returns-then-r-ne0 : tie.Need-returns-then-r-ne0
+returns-then-r-ne0 c = never-reached _ _ _ c.related_statement-r.ensures _ _ _ c.if-r-ne0.true
+
+is_kept-requires : tie.Need-is_kept-requires
+unfolding graph_in
+is_kept-requires c κs = (c.requires.0.loaded, (module_inside _ _ _ c.related_statement-r.ensures, statement_inside _ _ _ c.related_statement-r.ensures, c.requires.1.0.2))
+
+returns-then-not-is_kept : tie.Need-returns-then-not-is_kept
+returns-then-not-is_kept c = unkept _ _ _ c.related_statement-r.ensures _ _ _ c.if-r-ne0.false _ c.is_kept.ensures (not_true _ c.if-not-is_kept.true)
+
+returns-then-not-unused : tie.Need-returns-then-not-unused
+returns-then-not-unused c = kept-used _ _ _ c.related_statement-r.ensures _ _ _ c.if-r-ne0.false _ c.is_kept.ensures (not-false _ c.if-not-is_kept.false) (sym c.requires.1.1 ∙ not_true _ c.if-not-unused.true)
+
+is_pure-requires : tie.Need-is_pure-requires
+is_pure-requires c κs = (c.requires.0, (c.requires.1.0.0, c.requires.1.0.1))
 
 returns : tie.Need-returns
-returns c = never-reached _ _ _ c.before.before.related-statement.ensures _ _ _ c.if1.true
+returns c = kept-unused _ _ _ c.related_statement-r.ensures _ _ _ c.if-r-ne0.false _ c.is_kept.ensures (not-false _ c.if-not-is_kept.false) (sym c.requires.1.1 ∙ not-false _ c.if-not-unused.false) _ c.is_pure.ensures
 
-is-kept-requires : tie.Need-is-kept-requires
-unfolding graph_in
-is-kept-requires c κs = let s = c.before.before.before.before.before.before.before.before.before in (s.requires.0.loaded, (module_inside _ _ _ c.before.before.before.before.related-statement.ensures, statement_inside _ _ _ c.before.before.before.before.related-statement.ensures, s.requires.1.0.2))
-
-returns-2 : tie.Need-returns-2
-returns-2 c = unkept _ _ _ c.before.before.before.before.before.before.related-statement.ensures _ _ _ c.before.before.before.before.if1.false _ c.before.is-kept.ensures (not_true _ c.if2.true)
-
-returns-3 : tie.Need-returns-3
-returns-3 c = let s = c.before.before.before.before.before.before.before.before.before.before.before.before in kept-used _ _ _ c.before.before.before.before.before.before.before.related-statement.ensures _ _ _ c.before.before.before.before.before.if1.false _ c.before.before.is-kept.ensures (not-false _ c.before.if2.false) (sym s.requires.1.1 ∙ not_true _ c.if3.true)
-
-is-pure-requires : tie.Need-is-pure-requires
-is-pure-requires c κs = let s = c.before.before.before.before.before.before.before.before.before.before.before.before in (s.requires.0, (s.requires.1.0.0, s.requires.1.0.1))
-
-returns-4 : tie.Need-returns-4
-returns-4 c = let s = c.before.before.before.before.before.before.before.before.before.before.before.before.before in kept-unused _ _ _ c.before.before.before.before.before.before.before.before.related-statement.ensures _ _ _ c.before.before.before.before.before.before.if1.false _ c.before.before.before.is-kept.ensures (not-false _ c.before.before.if2.false) (sym s.requires.1.1 ∙ not-false _ c.before.if3.false) _ c.is-pure.ensures
-
-pub lets-live-spec : {M : Type 1} → statement M
-lets-live-spec =
+pub lets_live_spec : {M : Type 1} → statement M
+lets_live_spec =
     tie.close
     (tie.spec
-    related-statement-requires
-    returns
-    is-kept-requires
-    returns-2
-    returns-3
-    is-pure-requires
-    returns-4)
+    related_statement-r-requires
+    returns-then-r-ne0
+    is_kept-requires
+    returns-then-not-is_kept
+    returns-then-not-unused
+    is_pure-requires
+    returns)

@@ -11,90 +11,87 @@ use Rattle.dead_records.proofs.Late.{modules_read, Noting, noting_none, noting-s
 use Rattle.dead_records.proofs.note_late.Statement.{statement}
 use Rattle.dead_records.proofs.note_late.Tie as tie
 
-abbrev invariant-loop : tie.invariant-loop
-invariant-loop numbers tables lines from to scratch₀ h k₀ scratch k = Noting (graph_in numbers) lines from to scratch₀ scratch k
+abbrev invariant-loop-k : tie.invariant-loop-k
+invariant-loop-k numbers tables lines from to scratch₀ h k₀ scratch k = Noting (graph_in numbers) lines from to scratch₀ scratch k
 
-abbrev decreases-loop : tie.decreases-loop
-decreases-loop numbers tables lines from to scratch₀ h k₀ scratch k = to - k
+abbrev decreases-loop-k : tie.decreases-loop-k
+decreases-loop-k numbers tables lines from to scratch₀ h k₀ scratch k = to - k
 
 -- the line's fact is good
-good-line : (c : tie.After-fact-at invariant-loop decreases-loop) → Good (graph_in c.before.before.before.before.before.before.before.before.args.numbers.now) c.fact_at.result
+good-line : (c : tie.After-fact_at invariant-loop-k decreases-loop-k) → Good (graph_in c.args.numbers.now) c.fact_at.result
 good-line c =
-    let s = c.before.before.before.before.before.before.before.before in
-    good_same _ _ _ c.fact_at.ensures (s.requires.1.0.2 c.before.before.loop.k (omega (arith, c.before.loop-test.true)))
+    good_same _ _ _ c.fact_at.ensures (c.requires.1.0.2 c.loop-k.k (omega (arith, c.loop-k-test.true)))
 
 -- the word of a statement's line: its mark is that of a statement
-word_place : (c : tie.After-mark-of invariant-loop decreases-loop)
-    → (2 * c.before.before.before.before.before.before.before.header_of.result.modules ≤ c.mark_of.result)
-    × (c.mark_of.result - c.before.before.before.before.before.before.before.header_of.result.modules < (header_in c.before.before.before.before.before.before.before.before.before.before.before.before.args.numbers.now).modules + (header_in c.before.before.before.before.before.before.before.before.before.before.before.before.args.numbers.now).statements)
+word_place : (c : tie.After-mark_of-at invariant-loop-k decreases-loop-k)
+    → (2 * c.header_of-h.result.modules ≤ c.mark_of-at.result)
+    × (c.mark_of-at.result - c.header_of-h.result.modules < (header_in c.args.numbers.now).modules + (header_in c.args.numbers.now).statements)
 unfolding graph_in
 word_place c =
-    let s = c.before.before.before.before.before.before.before.before.before.before.before.before in
-    let g = good_statement _ _ _ _ c.before.before.m.given.1 (good-line c.before.before.before.before) in
-    let p = statement_place s.requires.0 _ _ g.0 g.1 in
-    let h = modules_read _ _ c.before.before.before.before.before.before.before.header_of.ensures in
-    (omega (arith, p.0, h, c.mark_of.ensures.0), omega (arith, p.0, p.1, h, c.mark_of.ensures.0))
+    let g = good_statement _ _ _ _ c.in-Statement.is (good-line c.before.before) in
+    let p = statement_place c.requires.0 _ _ g.0 g.1 in
+    let h = modules_read _ _ c.header_of-h.ensures in
+    (omega (arith, p.0, h, c.mark_of-at.ensures.0), omega (arith, p.0, p.1, h, c.mark_of-at.ensures.0))
 
-header-of-requires : tie.Need-header-of-requires invariant-loop decreases-loop
-header-of-requires c κs = c.before.before.before.before.requires.0.long
+header_of-h-requires : tie.Need-header_of-h-requires invariant-loop-k decreases-loop-k
+header_of-h-requires c κs = c.requires.0.long
 
-loop-holds : tie.Need-loop-init invariant-loop decreases-loop
+loop-k-init : tie.Need-loop-k-init invariant-loop-k decreases-loop-k
 unfolding graph_in
-loop-holds c = noting_none _ _ _ _ _ c.before.before.before.before.before.requires.1.0.0 c.before.before.before.before.before.requires.1.1.1
+loop-k-init c = noting_none _ _ _ _ _ c.requires.1.0.0 c.requires.1.1.1
 
-fact-at-requires : tie.Need-fact-at-requires invariant-loop decreases-loop
-fact-at-requires c κs = omega (arith, c.loop-test.true, c.before.before.before.before.before.before.before.requires.1.0.1)
+fact_at-requires : tie.Need-fact_at-requires invariant-loop-k decreases-loop-k
+fact_at-requires c κs = omega (arith, c.loop-k-test.true, c.requires.1.0.1)
 
-enum-known-m : tie.Need-enum-known-m invariant-loop decreases-loop
-enum-known-m c = c.match.keys1
+enum_known-m : tie.Need-enum_known-m invariant-loop-k decreases-loop-k
+enum_known-m c = c.in-Statement.keys1
 
-mark-of-requires : tie.Need-mark-of-requires invariant-loop decreases-loop
-mark-of-requires c κs = (c.before.before.before.before.before.before.before.before.before.before.before.requires.0, good_statement _ _ _ _ c.before.m.given.1 (good-line c.before.before.before))
+mark_of-at-requires : tie.Need-mark_of-at-requires invariant-loop-k decreases-loop-k
+mark_of-at-requires c κs = (c.requires.0, good_statement _ _ _ _ c.in-Statement.is (good-line c.before))
 
-sub-scratch : tie.Need-overflow-sub-scratch invariant-loop decreases-loop
-sub-scratch c = omega (arith, (word_place c.before).0)
+overflow_sub-scratch : tie.Need-overflow_sub-scratch invariant-loop-k decreases-loop-k
+overflow_sub-scratch c = omega (arith, (word_place c.before).0)
 
-mul-scratch : tie.Need-overflow-mul-scratch invariant-loop decreases-loop
-mul-scratch c = let s = c.before.before.before.before.before.before.before.before.before.before.before.before.before in record { fits = omega (arith, (word_place c.before).1, s.requires.0.few_modules, s.requires.0.few_statements) }
+offset_bounds-scratch-at : tie.Need-offset_bounds-scratch-at invariant-loop-k decreases-loop-k
+offset_bounds-scratch-at c = record { fits = omega (arith, (word_place c.before).1, c.requires.0.few_modules, c.requires.0.few_statements) }
 
-slice-write-scratch : tie.Need-slice-write-scratch invariant-loop decreases-loop
+bounds-scratch-at : tie.Need-bounds-scratch-at invariant-loop-k decreases-loop-k
 unfolding graph_in
-slice-write-scratch c = omega (arith, (word_place c.before).1, c.before.before.before.before.before.before.before.before.before.before.before.before.before.requires.1.1.0, c.before.before.before.before.before.before.before.loop.invariant.same_length)
+bounds-scratch-at c = omega (arith, (word_place c.before).1, c.requires.1.1.0, c.loop-k.invariant.same_length)
 
-enum_told : tie.Need-enum-told invariant-loop decreases-loop
-enum_told c = c.match.keys2
+enum_told-1 : tie.Need-enum_told-1 invariant-loop-k decreases-loop-k
+enum_told-1 c = c.in-Module.keys2
 
-enum-told-2 : tie.Need-enum-told-2 invariant-loop decreases-loop
-enum-told-2 c = c.match.keys3
+enum_told-in-Use : tie.Need-enum_told-in-Use invariant-loop-k decreases-loop-k
+enum_told-in-Use c = c.in-Use.keys3
 
-enum-told-3 : tie.Need-enum-told-3 invariant-loop decreases-loop
-enum-told-3 c = c.match.keys4
+enum_told-in-CheckedUse : tie.Need-enum_told-in-CheckedUse invariant-loop-k decreases-loop-k
+enum_told-in-CheckedUse c = c.in-CheckedUse.keys4
 
-enum-told-4 : tie.Need-enum-told-4 invariant-loop decreases-loop
-enum-told-4 c = c.match.keys5
+enum_told-in-Forward : tie.Need-enum_told-in-Forward invariant-loop-k decreases-loop-k
+enum_told-in-Forward c = c.in-Forward.keys5
 
-enum-told-5 : tie.Need-enum-told-5 invariant-loop decreases-loop
-enum-told-5 c = c.match.keys6
+enum_told-in-Bailout : tie.Need-enum_told-in-Bailout invariant-loop-k decreases-loop-k
+enum_told-in-Bailout c = c.in-Bailout.keys6
 
-add-k : tie.Need-overflow-add-k invariant-loop decreases-loop
-add-k c = record { fits = omega (arith, c.before.before.loop-test.true) }
+overflow_add-k : tie.Need-overflow_add-k invariant-loop-k decreases-loop-k
+overflow_add-k c = record { fits = omega (arith, c.loop-k-test.true) }
 
-loop-less : tie.Need-loop-smaller invariant-loop decreases-loop
-loop-less c = omega (arith, c.before.before.loop-test.true)
+loop-k-smaller : tie.Need-loop-k-smaller invariant-loop-k decreases-loop-k
+loop-k-smaller c = omega (arith, c.loop-k-test.true)
 
-loop-again : tie.Need-loop-preserved invariant-loop decreases-loop
+loop-k-preserved : tie.Need-loop-k-preserved invariant-loop-k decreases-loop-k
 unfolding graph_in
-loop-again c =
-    let s = c.before.before.before.before.before.before.before.before.before in
-    let k = c.before.before.before.loop.invariant in
-    let is = c.before.fact_at.ensures in
+loop-k-preserved c =
+    let k = c.loop-k.invariant in
+    let is = c.fact_at.ensures in
     let good = good-line c.before in
-    let l : c.before.before.before.loop.k < s.args.to = omega (arith, c.before.before.loop-test.true) in
+    let l : c.loop-k.k < c.args.to = omega (arith, c.loop-k-test.true) in
     ⊎_elim
     (λ w.
     let g = good_statement _ _ _ _ w.1.given.1 good in
-    let p = statement_place s.requires.0 _ _ g.0 g.1 in
-    noting-set _ _ _ _ _ _ _ k l _ _ _ _ (sym w.1.given.1 ∙ is) w.3.ensures.0 (modules_read _ _ c.before.before.before.before.header_of.ensures) (omega (arith, p.0, w.3.ensures.0)) (omega (arith, p.1, w.3.ensures.0)) s.requires.1.1.0 w.5)
+    let p = statement_place c.requires.0 _ _ g.0 g.1 in
+    noting-set _ _ _ _ _ _ _ k l _ _ _ _ (sym w.1.given.1 ∙ is) w.3.ensures.0 (modules_read _ _ c.header_of-h.ensures) (omega (arith, p.0, w.3.ensures.0)) (omega (arith, p.1, w.3.ensures.0)) c.requires.1.1.0 w.5)
     (λ u. ⊎_elim
     (λ w. noting-passed _ _ _ _ _ _ _ k l _ _ is (elsewhere_module _ _ good _ w.1.given.1) w.2)
     (λ u. ⊎_elim
@@ -108,36 +105,36 @@ loop-again c =
     u)
     u)
     u)
-    c.match.branch
+    c.match-fact_at.branch
 
-same_length : tie.Need-same-length invariant-loop decreases-loop
-same_length c = c.before.loop.invariant.same_length
+shape_of-scratch : tie.Need-shape_of-scratch invariant-loop-k decreases-loop-k
+shape_of-scratch c = c.loop-k.invariant.same_length
 
-returns : tie.Need-returns invariant-loop decreases-loop
+returns : tie.Need-returns invariant-loop-k decreases-loop-k
 unfolding graph_in
-returns c = (c.before.loop.invariant.stays, noting_done c.before.before.before.before.before.before.before.requires.0 _ _ _ _ _ _ c.before.loop.invariant (omega (arith, c.loop-test.false)))
+returns c = (c.loop-k.invariant.stays, noting_done c.requires.0 _ _ _ _ _ _ c.loop-k.invariant (omega (arith, c.loop-k-test.false)))
 
-pub note-late-spec : {M : Type 1} → statement M
-note-late-spec =
+pub note_late_spec : {M : Type 1} → statement M
+note_late_spec =
     tie.close
     (tie.spec
-    invariant-loop
-    decreases-loop
-    header-of-requires
-    loop-holds
-    fact-at-requires
-    enum-known-m
-    mark-of-requires
-    sub-scratch
-    mul-scratch
-    slice-write-scratch
-    enum_told
-    enum-told-2
-    enum-told-3
-    enum-told-4
-    enum-told-5
-    add-k
-    loop-less
-    loop-again
-    same_length
+    invariant-loop-k
+    decreases-loop-k
+    header_of-h-requires
+    loop-k-init
+    fact_at-requires
+    enum_known-m
+    mark_of-at-requires
+    overflow_sub-scratch
+    offset_bounds-scratch-at
+    bounds-scratch-at
+    enum_told-1
+    enum_told-in-Use
+    enum_told-in-CheckedUse
+    enum_told-in-Forward
+    enum_told-in-Bailout
+    overflow_add-k
+    loop-k-smaller
+    loop-k-preserved
+    shape_of-scratch
     returns)

@@ -5,51 +5,51 @@ use native.Mathlib.Omega.{arith}
 use Rattle.dead_records.proofs.record_count.Statement.{statement}
 use Rattle.dead_records.proofs.record_count.Tie as tie
 
-abbrev invariant-loop : tie.invariant-loop
-invariant-loop numbers tables h total₀ m₀ total m = Counting (graph_in numbers) m total
+abbrev invariant-loop-m : tie.invariant-loop-m
+invariant-loop-m numbers tables h total₀ m₀ total m = Counting (graph_in numbers) m total
 
-abbrev decreases-loop : tie.decreases-loop
-decreases-loop numbers tables h total₀ m₀ total m = h.modules - m
+abbrev decreases-loop-m : tie.decreases-loop-m
+decreases-loop-m numbers tables h total₀ m₀ total m = h.modules - m
 
-header-of-requires : tie.Need-header-of-requires invariant-loop decreases-loop
-header-of-requires c κs = c.before.before.requires.long
+header_of-h-requires : tie.Need-header_of-h-requires invariant-loop-m decreases-loop-m
+header_of-h-requires c κs = c.requires.long
 
-loop-holds : tie.Need-loop-init invariant-loop decreases-loop
-loop-holds c = counting_none _
+loop-m-init : tie.Need-loop-m-init invariant-loop-m decreases-loop-m
+loop-m-init c = counting_none _
 
-import-record-count-requires : tie.Need-import-record-count-requires invariant-loop decreases-loop
+import_record_count-total-requires : tie.Need-import_record_count-total-requires invariant-loop-m decreases-loop-m
 unfolding graph_in
-import-record-count-requires c κs = (c.before.before.before.before.before.before.requires, omega (arith, c.if1.true, modules_are _ _ c.before.before.before.header_of.ensures))
+import_record_count-total-requires c κs = (c.requires, omega (arith, c.loop-m-test.true, modules_are _ _ c.header_of-h.ensures))
 
-add_total : tie.Need-overflow-add-total invariant-loop decreases-loop
+overflow_add-total : tie.Need-overflow_add-total invariant-loop-m decreases-loop-m
 unfolding graph_in
-add_total c = record { fits = omega (arith, c.before.before.before.loop.invariant.total_small, c.before.before.before.loop.invariant.inside, c.import-record-count.ensures.1, c.before.before.before.before.before.before.before.requires.few_modules) }
+overflow_add-total c = record { fits = omega (arith, c.loop-m.invariant.total_small, c.loop-m.invariant.inside, c.import_record_count-total.ensures.1, c.requires.few_modules) }
 
-add-m : tie.Need-overflow-add-m invariant-loop decreases-loop
+overflow_add-m : tie.Need-overflow_add-m invariant-loop-m decreases-loop-m
 unfolding graph_in
-add-m c = record { fits = omega (arith, c.before.if1.true, modules_are _ _ c.before.before.before.before.header_of.ensures, c.before.before.before.before.before.before.before.requires.few_modules) }
+overflow_add-m c = record { fits = omega (arith, c.loop-m-test.true, modules_are _ _ c.header_of-h.ensures, c.requires.few_modules) }
 
-loop-less : tie.Need-loop-smaller invariant-loop decreases-loop
-loop-less c = omega (arith, c.before.if1.true)
+loop-m-smaller : tie.Need-loop-m-smaller invariant-loop-m decreases-loop-m
+loop-m-smaller c = omega (arith, c.loop-m-test.true)
 
-loop-again : tie.Need-loop-preserved invariant-loop decreases-loop
-loop-again c = counting_more _ _ _ _ c.before.before.before.loop.invariant (omega (arith, c.before.if1.true, modules_are _ _ c.before.before.before.before.header_of.ensures)) c.import-record-count.ensures.0 c.import-record-count.ensures.1
+loop-m-preserved : tie.Need-loop-m-preserved invariant-loop-m decreases-loop-m
+loop-m-preserved c = counting_more _ _ _ _ c.loop-m.invariant (omega (arith, c.loop-m-test.true, modules_are _ _ c.header_of-h.ensures)) c.import_record_count-total.ensures.0 c.import_record_count-total.ensures.1
 
-returns : tie.Need-returns invariant-loop decreases-loop
+returns : tie.Need-returns invariant-loop-m decreases-loop-m
 unfolding graph_in
-returns c = let n = c.before.before.loop.invariant in (counting_done _ _ _ n (omega (arith, c.if1.false, modules_are _ _ c.before.before.before.header_of.ensures)), omega (arith, n.total_small, n.inside, c.before.before.before.before.before.before.requires.few_modules))
+returns c = let n = c.loop-m.invariant in (counting_done _ _ _ n (omega (arith, c.loop-m-test.false, modules_are _ _ c.header_of-h.ensures)), omega (arith, n.total_small, n.inside, c.requires.few_modules))
 
-pub record-count-spec : {M : Type 1} → statement M
-record-count-spec =
+pub record_count_spec : {M : Type 1} → statement M
+record_count_spec =
     tie.close
     (tie.spec
-    invariant-loop
-    decreases-loop
-    header-of-requires
-    loop-holds
-    import-record-count-requires
-    add_total
-    add-m
-    loop-less
-    loop-again
+    invariant-loop-m
+    decreases-loop-m
+    header_of-h-requires
+    loop-m-init
+    import_record_count-total-requires
+    overflow_add-total
+    overflow_add-m
+    loop-m-smaller
+    loop-m-preserved
     returns)

@@ -6,47 +6,43 @@ use native.Mathlib.Omega.{arith}
 use Rattle.dead_records.proofs.show_dead_at_end.Statement.{statement}
 use Rattle.dead_records.proofs.show_dead_at_end.Tie as tie
 
-clear-words-requires : tie.Need-clear-words-requires
+clear_words-requires : tie.Need-clear_words-requires
 unfolding graph_in
-clear-words-requires c κs = let s = c.before.before.before.before.before.before.before.before in (s.requires.0.loaded.long, s.requires.1.1.0)
+clear_words-requires c κs = (c.requires.0.loaded.long, c.requires.1.1.0)
 
-note-late-requires : tie.Need-note-late-requires
+note_late-requires : tie.Need-note_late-requires
 unfolding graph_in
-note-late-requires c κs =
-    let s = c.before.before.before.before.before.before.before.before.before.before.before.before in
-    (s.requires.0.loaded, ((s.requires.1.0.held.base_inside, s.requires.1.0.held.room, s.requires.1.0.held.good), (omega (arith, c.before.before.before.clear-words.auto.1.0, s.requires.1.1.0), c.before.before.before.clear-words.ensures.1)))
+note_late-requires c κs =
+    (c.requires.0.loaded, ((c.requires.1.0.held.base_inside, c.requires.1.0.held.room, c.requires.1.0.held.good), (omega (arith, c.clear_words.auto.1.0, c.requires.1.1.0), c.clear_words.ensures.1)))
 
-show-dead-now-requires : tie.Need-show-dead-now-requires
+show_dead_now-requires : tie.Need-show_dead_now-requires
 unfolding graph_in
-show-dead-now-requires c κs =
-    let s = c.before.before.before.before.before.before.before.before.before.before.before.before.before.before.before.before.before in
-    (s.requires.0, ((s.requires.1.0.long, s.requires.1.1.2, record { words = omega (arith, c.before.before.before.before.note-late.auto.1.1.1.1.1.0, c.before.before.before.before.before.before.before.before.clear-words.auto.1.0, s.requires.1.1.0); wide = s.requires.1.0.held.wide }), (s.requires.1.0.cycles, λ m l. c.before.before.before.before.note-late.ensures.0 m l ∙ c.before.before.before.before.before.before.before.before.clear-words.ensures.0 m l ∙ s.requires.1.1.1 m l)))
+show_dead_now-requires c κs =
+    (c.requires.0, ((c.requires.1.0.long, c.requires.1.1.2, record { words = omega (arith, c.note_late.auto.1.1.1.1.1.0, c.clear_words.auto.1.0, c.requires.1.1.0); wide = c.requires.1.0.held.wide }), (c.requires.1.0.cycles, λ m l. c.note_late.ensures.0 m l ∙ c.clear_words.ensures.0 m l ∙ c.requires.1.1.1 m l)))
 
 exempt-requires : tie.Need-exempt-requires
 unfolding graph_in
 exempt-requires c κs =
-    let s = c.before.before.before.before.before.before.before.before.before.before.before.before.before.before.before.before.before.before.before.before.before.before in
-    (s.requires.0.loaded, ((s.requires.1.0.long, omega (arith, c.before.before.before.before.show-dead-now.auto.1.1.1.1.1.0, s.requires.1.1.2), record { words = omega (arith, c.before.before.before.before.before.before.before.before.before.note-late.auto.1.1.1.1.1.0, c.before.before.before.before.before.before.before.before.before.before.before.before.before.clear-words.auto.1.0, s.requires.1.1.0); wide = s.requires.1.0.held.wide }), λ m l. c.before.before.before.before.before.before.before.before.before.note-late.ensures.0 m l ∙ c.before.before.before.before.before.before.before.before.before.before.before.before.before.clear-words.ensures.0 m l ∙ s.requires.1.1.1 m l))
+    (c.requires.0.loaded, ((c.requires.1.0.long, omega (arith, c.show_dead_now.auto.1.1.1.1.1.0, c.requires.1.1.2), record { words = omega (arith, c.note_late.auto.1.1.1.1.1.0, c.clear_words.auto.1.0, c.requires.1.1.0); wide = c.requires.1.0.held.wide }), λ m l. c.note_late.ensures.0 m l ∙ c.clear_words.ensures.0 m l ∙ c.requires.1.1.1 m l))
 
-same_length : tie.Need-same-length
-same_length c = c.before.before.before.before.before.before.before.before.before.before.before.before.note-late.auto.1.1.1.1.1.0 ∙ c.before.before.before.before.before.before.before.before.before.before.before.before.before.before.before.before.clear-words.auto.1.0
+shape_of-scratch : tie.Need-shape_of-scratch
+shape_of-scratch c = c.note_late.auto.1.1.1.1.1.0 ∙ c.clear_words.auto.1.0
 
-same-length-2 : tie.Need-same-length-2
-same-length-2 c = c.before.before.exempt.auto.1.1.1.1.1.0 ∙ c.before.before.before.before.before.before.before.show-dead-now.auto.1.1.1.1.1.0
+shape_of-bits : tie.Need-shape_of-bits
+shape_of-bits c = c.exempt.auto.1.1.1.1.1.0 ∙ c.show_dead_now.auto.1.1.1.1.1.0
 
 returns : tie.Need-returns
 returns c =
-    let s = c.before.before.before.before.before.before.before.before.before.before.before.before.before.before.before.before.before.before.before.before.before.before.before.before.before in
-    end-bits s.requires.0.loaded _ _ _ _ _ _ _ (late_kept s.requires.0.loaded _ _ _ _ _ s.requires.1.0.held c.before.before.before.before.before.before.before.before.before.before.before.before.note-late.ensures.1) c.before.before.before.before.before.before.before.show-dead-now.ensures c.before.before.exempt.ensures
+    end-bits c.requires.0.loaded _ _ _ _ _ _ _ (late_kept c.requires.0.loaded _ _ _ _ _ c.requires.1.0.held c.note_late.ensures.1) c.show_dead_now.ensures c.exempt.ensures
 
-pub show-dead-at-end-spec : {M : Type 1} → statement M
-show-dead-at-end-spec =
+pub show_dead_at_end_spec : {M : Type 1} → statement M
+show_dead_at_end_spec =
     tie.close
     (tie.spec
-    clear-words-requires
-    note-late-requires
-    show-dead-now-requires
+    clear_words-requires
+    note_late-requires
+    show_dead_now-requires
     exempt-requires
-    same_length
-    same-length-2
+    shape_of-scratch
+    shape_of-bits
     returns)

@@ -10,81 +10,79 @@ use Rattle.dead_records.proofs.DeadBits.{Showing, showing_none, showing_done, sh
 use Rattle.dead_records.proofs.show_found_dead.Statement.{statement}
 use Rattle.dead_records.proofs.show_found_dead.Tie as tie
 
-abbrev invariant-loop : tie.invariant-loop
-invariant-loop numbers tables plan scratch bits₀ h dead e₀ bits e = Showing (graph_in numbers) (dead_in (header_in numbers) plan) bits₀ bits e
+abbrev invariant-loop-e : tie.invariant-loop-e
+invariant-loop-e numbers tables plan scratch bits₀ h dead e₀ bits e = Showing (graph_in numbers) (dead_in (header_in numbers) plan) bits₀ bits e
 
-abbrev decreases-loop : tie.decreases-loop
-decreases-loop numbers tables plan scratch bits₀ h dead e₀ bits e = h.entries - e
+abbrev decreases-loop-e : tie.decreases-loop-e
+decreases-loop-e numbers tables plan scratch bits₀ h dead e₀ bits e = h.entries - e
 
-header-of-requires : tie.Need-header-of-requires invariant-loop decreases-loop
-header-of-requires c κs = c.before.before.before.before.before.requires.0.loaded.long
+header_of-h-requires : tie.Need-header_of-h-requires invariant-loop-e decreases-loop-e
+header_of-h-requires c κs = c.requires.0.loaded.long
 
-dead-at-requires : tie.Need-dead-at-requires invariant-loop decreases-loop
+dead_at-dead-requires : tie.Need-dead_at-dead-requires invariant-loop-e decreases-loop-e
 unfolding graph_in
-dead-at-requires c κs = omega (arith, modules_are _ _ c.header_of.ensures, entries_are _ _ c.header_of.ensures, c.before.before.before.before.before.before.requires.0.loaded.few_modules, c.before.before.before.before.before.before.requires.0.loaded.few_entries)
+dead_at-dead-requires c κs = omega (arith, modules_are _ _ c.header_of-h.ensures, entries_are _ _ c.header_of-h.ensures, c.requires.0.loaded.few_modules, c.requires.0.loaded.few_entries)
 
-loop-holds : tie.Need-loop-init invariant-loop decreases-loop
-loop-holds c = showing_none _ _ _
+loop-e-init : tie.Need-loop-e-init invariant-loop-e decreases-loop-e
+loop-e-init c = showing_none _ _ _
 
-add-if2 : tie.Need-overflow-add-if2 invariant-loop decreases-loop
+overflow_add-dead : tie.Need-overflow_add-dead invariant-loop-e decreases-loop-e
 unfolding graph_in
-add-if2 c = record { fits = omega (arith, c.if1.true, c.before.before.before.dead-at.ensures, modules_are _ _ c.before.before.before.before.header_of.ensures, entries_are _ _ c.before.before.before.before.header_of.ensures, c.before.before.before.before.before.before.before.before.before.before.requires.0.loaded.few_modules, c.before.before.before.before.before.before.before.before.before.before.requires.0.loaded.few_entries) }
+overflow_add-dead c = record { fits = omega (arith, c.loop-e-test.true, c.dead_at-dead.ensures, modules_are _ _ c.header_of-h.ensures, entries_are _ _ c.header_of-h.ensures, c.requires.0.loaded.few_modules, c.requires.0.loaded.few_entries) }
 
-mul-if2 : tie.Need-overflow-mul-if2 invariant-loop decreases-loop
+offset_bounds-plan-dead : tie.Need-offset_bounds-plan-dead invariant-loop-e decreases-loop-e
 unfolding graph_in
-mul-if2 c = record { fits = omega (arith, c.if1.true, c.before.before.before.dead-at.ensures, modules_are _ _ c.before.before.before.before.header_of.ensures, entries_are _ _ c.before.before.before.before.header_of.ensures, c.before.before.before.before.before.before.before.before.before.before.requires.0.loaded.few_modules, c.before.before.before.before.before.before.before.before.before.before.requires.0.loaded.few_entries) }
+offset_bounds-plan-dead c = record { fits = omega (arith, c.loop-e-test.true, c.dead_at-dead.ensures, modules_are _ _ c.header_of-h.ensures, entries_are _ _ c.header_of-h.ensures, c.requires.0.loaded.few_modules, c.requires.0.loaded.few_entries) }
 
-shared-slice-read-if2 : tie.Need-shared-slice-read-if2 invariant-loop decreases-loop
+bounds-plan-dead : tie.Need-bounds-plan-dead invariant-loop-e decreases-loop-e
 unfolding graph_in
-shared-slice-read-if2 c = omega (arith, c.before.if1.true, c.before.before.before.before.dead-at.ensures, modules_are _ _ c.before.before.before.before.before.header_of.ensures, entries_are _ _ c.before.before.before.before.before.header_of.ensures, c.before.before.before.before.before.before.before.before.before.before.before.requires.1.0.0)
+bounds-plan-dead c = omega (arith, c.loop-e-test.true, c.dead_at-dead.ensures, modules_are _ _ c.header_of-h.ensures, entries_are _ _ c.header_of-h.ensures, c.requires.1.0.0)
 
-show-dead-of-requires : tie.Need-show-dead-of-requires invariant-loop decreases-loop
+show_dead_of-requires : tie.Need-show_dead_of-requires invariant-loop-e decreases-loop-e
 unfolding graph_in
-show-dead-of-requires c κs =
-    let s = c.before.before.before.before.before.before.before.before.before.before.before.before.before in
-    (s.requires.0, ((omega (arith, c.before.before.before.if1.true, entries_are _ _ c.before.before.before.before.before.before.before.header_of.ensures), omega (arith, c.before.before.before.before.before.loop.invariant.same_length, s.requires.1.0.1)), s.requires.1.1))
+show_dead_of-requires c κs =
+    (c.requires.0, ((omega (arith, c.loop-e-test.true, entries_are _ _ c.header_of-h.ensures), omega (arith, c.loop-e.invariant.same_length, c.requires.1.0.1)), c.requires.1.1))
 
-add-e : tie.Need-overflow-add-e invariant-loop decreases-loop
-add-e c = search rules
+overflow_add-e : tie.Need-overflow_add-e invariant-loop-e decreases-loop-e
+overflow_add-e c = search rules
 
-loop-less : tie.Need-loop-smaller invariant-loop decreases-loop
-loop-less c = omega (arith, c.before.before.if1.true)
+loop-e-smaller : tie.Need-loop-e-smaller invariant-loop-e decreases-loop-e
+loop-e-smaller c = omega (arith, c.loop-e-test.true)
 
-loop-again : tie.Need-loop-preserved invariant-loop decreases-loop
+loop-e-preserved : tie.Need-loop-e-preserved invariant-loop-e decreases-loop-e
 unfolding graph_in
-loop-again c =
-    let s = c.before.before.before.before.before.before.before.before.before.before.before.before in
-    let b = c.before.before.before.before.loop.invariant in
-    let h = c.before.before.before.before.before.before.header_of.ensures in
-    let l : c.before.before.before.before.loop.e < (header_in s.args.numbers.now).entries = omega (arith, c.before.before.if1.true, entries_are _ _ h) in
-    let dead = c.before.before.before.before.before.dead-at.ensures in
+loop-e-preserved c =
+    let b = c.loop-e.invariant in
+    let h = c.header_of-h.ensures in
+    let l : c.loop-e.e < (header_in c.args.numbers.now).entries = omega (arith, c.loop-e-test.true, entries_are _ _ h) in
+    let dead = c.dead_at-dead.ensures in
     ⊎_elim
-    (λ w. showing-dead _ _ _ _ _ b l _ _ (dead_word _ s.args.plan.now _ h _ l (rw dead at w.0.taken)) w.2.kept.1.1.1.1.0 w.2.ensures w.5)
-    (λ w. showing-passed _ _ _ _ _ b l _ (live_word _ s.args.plan.now _ h _ l (rw dead at w.0.left)) w.1)
-    c.if2.branch
+    (λ w. showing-dead _ _ _ _ _ b l _ _ (dead_word _ c.args.plan.now _ h _ l (rw dead at w.0.taken)) w.2.kept.1.1.1.1.0 w.2.ensures w.5)
+    (λ w. showing-passed _ _ _ _ _ b l _ (live_word _ c.args.plan.now _ h _ l (rw dead at w.0.left)) w.1)
+    c.if-plan-dead-eq1.branch
 
-same_length : tie.Need-same-length invariant-loop decreases-loop
-same_length c = c.before.before.loop.invariant.same_length
+shape_of-bits : tie.Need-shape_of-bits invariant-loop-e decreases-loop-e
+shape_of-bits c = c.loop-e.invariant.same_length
 
-returns : tie.Need-returns invariant-loop decreases-loop
+returns : tie.Need-returns invariant-loop-e decreases-loop-e
 unfolding graph_in
-returns c = showing_done _ _ _ _ _ c.before.before.loop.invariant (omega (arith, c.if1.false, entries_are _ _ c.before.before.before.before.header_of.ensures))
+returns c = showing_done _ _ _ _ _ c.loop-e.invariant (omega (arith, c.loop-e-test.false, entries_are _ _ c.header_of-h.ensures))
 
-pub show-found-dead-spec : {M : Type 1} → statement M
-show-found-dead-spec =
+pub show_found_dead_spec : {M : Type 1} → statement M
+show_found_dead_spec =
     tie.close
     (tie.spec
-    invariant-loop
-    decreases-loop
-    header-of-requires
-    dead-at-requires
-    loop-holds
-    add-if2
-    mul-if2
-    shared-slice-read-if2
-    show-dead-of-requires
-    add-e
-    loop-less
-    loop-again
-    same_length
+    invariant-loop-e
+    decreases-loop-e
+    header_of-h-requires
+    dead_at-dead-requires
+    loop-e-init
+    overflow_add-dead
+    offset_bounds-plan-dead
+    bounds-plan-dead
+    show_dead_of-requires
+    overflow_add-e
+    loop-e-smaller
+    loop-e-preserved
+    shape_of-bits
     returns)

@@ -70,8 +70,8 @@ same-length-4 t c = c.before.before.effects-largest.auto.1.1.0
 returns-4 : (t : ℕ) → lts.Need-returns-4 (claims t) (here t) larger.Post
 returns-4 t c = c.before.before.effects-largest.ensures
 
-pub +effects-larger-spec : {M : Type 1} → statement M
-+effects-larger-spec =
+pub +effects_larger_spec : {M : Type 1} → statement M
++effects_larger_spec =
     close μ λ t. lts.spec (claims t) (here t) larger.Post
     (sub-effects-larger t)
     (effects-larger-requires t)

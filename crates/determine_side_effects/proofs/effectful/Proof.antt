@@ -2,19 +2,19 @@ use Rattle.determine_side_effects.proofs.Reading.{effectful_1, effectful_3, effe
 use Rattle.determine_side_effects.proofs.effectful.Statement.{statement}
 use Rattle.determine_side_effects.proofs.effectful.Tie as tie
 
+returns-then-v-eq1 : tie.Need-returns-then-v-eq1
+returns-then-v-eq1 c = effectful_1 _ c.if-v-eq1.true
+
+returns-then-v-eq3 : tie.Need-returns-then-v-eq3
+returns-then-v-eq3 c = effectful_3 _ c.if-v-eq3.true
+
 returns : tie.Need-returns
-returns c = effectful_1 _ c.if1.true
+returns c = effectful_4 _ c.if-v-eq1.false c.if-v-eq3.false
 
-returns-2 : tie.Need-returns-2
-returns-2 c = effectful_3 _ c.if2.true
-
-returns-3 : tie.Need-returns-3
-returns-3 c = effectful_4 _ c.before.if1.false c.if2.false
-
-pub effectful-spec : {M : Type 1} → statement M
-effectful-spec =
+pub effectful_spec : {M : Type 1} → statement M
+effectful_spec =
     tie.close
     (tie.spec
-    returns
-    returns-2
-    returns-3)
+    returns-then-v-eq1
+    returns-then-v-eq3
+    returns)

@@ -8,64 +8,64 @@ use Rattle.determine_side_effects.proofs.effects.Statement.{statement}
 use Rattle.determine_side_effects.proofs.effects.Tie as tie
 
 -- the header that was read
-begun : (c : tie.After-header-of) → HeaderRead c.before.before.before.before.before.before.args.numbers.now c.header_of.result
-begun c = record { end = c.before.enum_told.given.0.0; read = sym c.before.before.before.header.ensures ∙ c.before.enum_told.given.1; is = c.header_of.ensures }
+begun : (c : tie.After-header_of-h) → HeaderRead c.args.numbers.now c.header_of-h.result
+begun c = record { end = c.in-At.field-0; read = sym c.header.ensures ∙ c.in-At.is; is = c.header_of-h.ensures }
 
 header-requires : tie.Need-header-requires
 header-requires c κs = search rules
 
-enum-known-n : tie.Need-enum-known-n
-enum-known-n c = search rules
+enum_known-n : tie.Need-enum_known-n
+enum_known-n c = search rules
 
-enum_told : tie.Need-enum-told
-enum_told c = search rules
+enum_told-1 : tie.Need-enum_told-1
+enum_told-1 c = search rules
 
-header-of-requires : tie.Need-header-of-requires
-header-of-requires c κs = seven _ (at_got _ _ (sym c.before.before.header.ensures ∙ c.enum_told.given.1)).1
+header_of-h-requires : tie.Need-header_of-h-requires
+header_of-h-requires c κs = seven _ (at_got _ _ (sym c.header.ensures ∙ c.in-At.is)).1
 
 fits-requires : tie.Need-fits-requires
 fits-requires c κs = _
 
-effects-small-requires : tie.Need-effects-small-requires
-effects-small-requires c κs = (begun c.before.before.before, c.before.before.fits2.ensures c.before.if1.true)
+effects_small-requires : tie.Need-effects_small-requires
+effects_small-requires c κs = (begun c.before.before.before, c.fits.ensures c.if-fits.true)
 
-same_length : tie.Need-same-length
-same_length c = c.before.before.effects-small.auto.1.1.0
+shape_of-row-then-fits : tie.Need-shape_of-row-then-fits
+shape_of-row-then-fits c = c.effects_small.auto.1.1.0
 
-returns : tie.Need-returns
-returns c = c.before.before.effects-small.ensures
+returns-then-fits : tie.Need-returns-then-fits
+returns-then-fits c = c.effects_small.ensures
 
 apart-requires : tie.Need-apart-requires
 apart-requires c κs = _
 
-effects-larger-requires : tie.Need-effects-larger-requires
-effects-larger-requires c κs = begun c.before.before.before.before
+effects_larger-requires : tie.Need-effects_larger-requires
+effects_larger-requires c κs = begun c.before.before.before.before
 
-returns-2 : tie.Need-returns-2
-returns-2 c =
-    let a = check_stop_header _ (sym c.before.before.before.header.ensures ∙ c.before.n.given.1) in
+returns-in-Fault : tie.Need-returns-in-Fault
+returns-in-Fault c =
+    let a = check_stop_header _ (sym c.header.ensures ∙ c.in-Fault.is) in
     (refused_answer _ a _, refused_row _ a _)
 
-same-length-2 : tie.Need-same-length-2
-same-length-2 c = c.before.before.effects-larger.auto.1.1.0
+shape_of-row : tie.Need-shape_of-row
+shape_of-row c = c.effects_larger.auto.1.1.0
 
-returns-3 : tie.Need-returns-3
-returns-3 c = c.before.before.effects-larger.ensures
+returns-else-fits : tie.Need-returns-else-fits
+returns-else-fits c = c.effects_larger.ensures
 
-pub effects-spec : {M : Type 1} → statement M
-effects-spec =
+pub effects_spec : {M : Type 1} → statement M
+effects_spec =
     tie.close
     (tie.spec
     header-requires
-    enum-known-n
-    enum_told
-    header-of-requires
+    enum_known-n
+    enum_told-1
+    header_of-h-requires
     fits-requires
-    effects-small-requires
-    same_length
-    returns
+    effects_small-requires
+    shape_of-row-then-fits
+    returns-then-fits
     apart-requires
-    effects-larger-requires
-    returns-2
-    same-length-2
-    returns-3)
+    effects_larger-requires
+    returns-in-Fault
+    shape_of-row
+    returns-else-fits)

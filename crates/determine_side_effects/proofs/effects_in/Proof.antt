@@ -12,68 +12,67 @@ use Rattle.determine_side_effects.proofs.effects_in.Statement.{statement}
 use Rattle.determine_side_effects.proofs.effects_in.Tie as tie
 
 -- the graph is accepted, and the row has a number for each module or not
-accepted : (c : tie.After-enum-told) → answer_of (check_of c.before.before.before.before.before.before.before.before.before.args.numbers.now) ≡ Accepted
-accepted c = sym c.before.before.before.before.load.ensures.0 ∙ c.enum_told.given.1
+accepted : (c : tie.In-Accepted) → answer_of (check_of c.args.numbers.now) ≡ Accepted
+accepted c = sym c.load.ensures.0 ∙ c.in-Accepted.is
 
-counted : (c : tie.After-enum-told) → c.before.before.before.before.before.before.before.before.before.args.h.modules ≡ (header_in c.before.before.before.before.before.before.before.before.before.args.numbers.now).modules
-counted c = ap (λ q. q.modules) c.before.before.before.before.before.before.before.before.before.requires.0.is
+counted : (c : tie.In-Accepted) → c.args.h.modules ≡ (header_in c.args.numbers.now).modules
+counted c = ap (λ q. q.modules) c.requires.0.is
 
-filled : (c : tie.After-enum-told) → HasVerdicts c.before.before.before.before.before.before.before.before.before.args.numbers.now c.before.before.before.before.load.new.1.1.0
-filled c = let s = c.before.before.before.before.before.before.before.before.before in verdicts_fit s.requires.0 s.requires.1.0 c.before.before.before.before.load.auto.1.1.0 (c.before.before.before.before.load.ensures.1.known c.enum_told.given.1)
+filled : (c : tie.In-Accepted) → HasVerdicts c.args.numbers.now c.load.new.1.1.0
+filled c = verdicts_fit c.requires.0 c.requires.1.0 c.load.auto.1.1.0 (c.load.ensures.1.known c.in-Accepted.is)
 
 load-requires : tie.Need-load-requires
 load-requires c κs =
-    let s = c.before.before.before.before in
-    (s.requires.0, (omega (arith, s.requires.1.0, start_mono s.args.h 5 6 (omega arith)), s.requires.1.1))
+    (c.requires.0, (omega (arith, c.requires.1.0, start_mono c.args.h 5 6 (omega arith)), c.requires.1.1))
 
-enum-known-n : tie.Need-enum-known-n
-enum-known-n c = search rules
+enum_known-n : tie.Need-enum_known-n
+enum_known-n c = search rules
 
-enum_told : tie.Need-enum-told
-enum_told c = search rules
+enum_told-1 : tie.Need-enum_told-1
+enum_told-1 c = search rules
 
-same_length : tie.Need-same-length
-same_length c = search rules
+shape_of-tables-then-row-h : tie.Need-shape_of-tables-then-row-h
+shape_of-tables-then-row-h c = search rules
 
-returns : tie.Need-returns
-returns c = (short_answer _ (accepted c.before.before) _ (omega (arith, c.if1.true, counted c.before.before)), short_row _ (accepted c.before.before) _ (omega (arith, c.if1.true, counted c.before.before)))
+returns-then-row-h : tie.Need-returns-then-row-h
+returns-then-row-h c = (short_answer _ (accepted c.before.before) _ (omega (arith, c.if-row-h.true, counted c.before.before)), short_row _ (accepted c.before.before) _ (omega (arith, c.if-row-h.true, counted c.before.before)))
 
-last-verdicts-requires : tie.Need-last-verdicts-requires
-last-verdicts-requires c κs = filled c.before.before.before
+last_verdicts-requires : tie.Need-last_verdicts-requires
+last_verdicts-requires c κs = filled c.before.before.before
 
-write-row-requires : tie.Need-write-row-requires
-write-row-requires c κs =
-    let e = c.before.before.before.before.last-verdicts.ensures in
-    ((verdicts_kept (filled c.before.before.before.before.before.before.before.before) e.1, e.0), omega (arith, c.before.before.before.before.before.before.if1.false, counted c.before.before.before.before.before.before.before.before))
+write_row-requires : tie.Need-write_row-requires
+write_row-requires c κs =
+    let e = c.last_verdicts.ensures in
+    ((verdicts_kept (filled c.before.before.before.before.before.before.before) e.1, e.0), omega (arith, c.if-row-h.false, counted c.before.before.before.before.before.before.before))
 
-same-length-2 : tie.Need-same-length-2
-same-length-2 c = search rules
+shape_of-tables-in-Refused : tie.Need-shape_of-tables-in-Refused
+shape_of-tables-in-Refused c = search rules
 
-returns-2 : tie.Need-returns-2
-returns-2 c = let e = sym c.before.before.before.before.before.load.ensures.0 ∙ c.before.n.given.1 in (refused_answer _ e _, refused_row _ e _)
+returns-in-Refused : tie.Need-returns-in-Refused
+returns-in-Refused c = let e = sym c.load.ensures.0 ∙ c.in-Refused.is in (refused_answer _ e _, refused_row _ e _)
 
-same-length-3 : tie.Need-same-length-3
-same-length-3 c = search rules
+shape_of-tables-else-row-h : tie.Need-shape_of-tables-else-row-h
+shape_of-tables-else-row-h c = search rules
 
-same-length-4 : tie.Need-same-length-4
-same-length-4 c = search rules
+shape_of-row : tie.Need-shape_of-row
+shape_of-row c = search rules
 
-returns-3 : tie.Need-returns-3
-returns-3 c = (long_answer _ (accepted c.before.before.before.before.before.before.before.before.before.before.before) _ (omega (arith, c.before.before.before.before.before.before.before.before.before.if1.false, counted c.before.before.before.before.before.before.before.before.before.before.before)), c.before.before.write-row.ensures ∙ long_row _ (accepted c.before.before.before.before.before.before.before.before.before.before.before) _ (omega (arith, c.before.before.before.before.before.before.before.before.before.if1.false, counted c.before.before.before.before.before.before.before.before.before.before.before)))
+returns-else-row-h : tie.Need-returns-else-row-h
+returns-else-row-h c = (long_answer _ (accepted c.before.before.before.before.before.before.before.before.before.before) _ (omega (arith, c.if-row-h.false, counted c.before.before.before.before.before.before.before.before.before.before)), c.write_row.ensures ∙ long_row _ (accepted c.before.before.before.before.before.before.before.before.before.before) _ (omega (arith, c.if-row-h.false, counted c.before.before.before.before.before.before.before.before.before.before)))
 
-pub effects-in-spec : {M : Type 1} → statement M
-effects-in-spec =
+pub effects_in_spec : {M : Type 1} → statement M
+effects_in_spec =
     tie.close
     (tie.spec
     load-requires
-    enum-known-n
-    enum_told
-    same_length
-    returns
-    last-verdicts-requires
-    write-row-requires
-    same-length-2
-    returns-2
-    same-length-3
-    same-length-4
-    returns-3)
+    enum_known-n
+    enum_told-1
+    shape_of-tables-then-row-h
+    returns-then-row-h
+    last_verdicts-requires
+    write_row-requires
+    shape_of-tables-in-Refused
+    returns-in-Refused
+    shape_of-tables-else-row-h
+    shape_of-row
+    returns-else-row-h)

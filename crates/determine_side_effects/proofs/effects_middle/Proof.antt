@@ -7,25 +7,24 @@ use Rattle.facts.proofs.tables_crate.Sections.{start_mono, fits_all}
 use Rattle.determine_side_effects.proofs.effects_middle.Statement.{statement}
 use Rattle.determine_side_effects.proofs.effects_middle.Tie as tie
 
-slice-aggregate-effects-in : tie.Need-slice-aggregate-effects-in
-slice-aggregate-effects-in c = search rules
+slice_bounds-effects_in-end : tie.Need-slice_bounds-effects_in-end
+slice_bounds-effects_in-end c = search rules
 
-effects-in-requires : tie.Need-effects-in-requires
-effects-in-requires c κs =
-    let s = c.before.before.before.before in
-    (s.requires.0, rw (length-replicate {A = ℕ} 4875 0) (omega (arith, start_mono s.args.h 6 10 (omega arith), fits_all s.args.h Middle s.requires.1), omega arith))
+effects_in-requires : tie.Need-effects_in-requires
+effects_in-requires c κs =
+    (c.requires.0, rw (length-replicate {A = ℕ} 4875 0) (omega (arith, start_mono c.args.h 6 10 (omega arith), fits_all c.args.h Middle c.requires.1), omega arith))
 
-same_length : tie.Need-same-length
-same_length c = search rules
+shape_of-row : tie.Need-shape_of-row
+shape_of-row c = search rules
 
 returns : tie.Need-returns
 returns c = search rules
 
-pub effects-middle-spec : {M : Type 1} → statement M
-effects-middle-spec =
+pub effects_middle_spec : {M : Type 1} → statement M
+effects_middle_spec =
     tie.close
     (tie.spec
-    slice-aggregate-effects-in
-    effects-in-requires
-    same_length
+    slice_bounds-effects_in-end
+    effects_in-requires
+    shape_of-row
     returns)

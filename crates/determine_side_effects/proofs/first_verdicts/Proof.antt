@@ -14,91 +14,90 @@ use Rattle.determine_side_effects.proofs.Reading.{fill_start, fill_step, fill_do
 use Rattle.determine_side_effects.proofs.first_verdicts.Statement.{statement}
 use Rattle.determine_side_effects.proofs.first_verdicts.Tie as tie
 
-abbrev invariant-loop : tie.invariant-loop
-invariant-loop numbers tables₀ h again base m₀ tables m = Kept (start_of (header_in numbers) at_verdicts) tables₀ tables × (m ≤ h.modules) × (verdicts_in tables ≡ tabulate (first_verdict (graph_in numbers)) 0 m ++ drop m (verdicts_in tables₀))
+abbrev invariant-loop-m : tie.invariant-loop-m
+invariant-loop-m numbers tables₀ h again base m₀ tables m = Kept (start_of (header_in numbers) at_verdicts) tables₀ tables × (m ≤ h.modules) × (verdicts_in tables ≡ tabulate (first_verdict (graph_in numbers)) 0 m ++ drop m (verdicts_in tables₀))
 
-abbrev decreases-loop : tie.decreases-loop
-decreases-loop numbers tables₀ h again base m₀ tables m = h.modules - m
+abbrev decreases-loop-m : tie.decreases-loop-m
+decreases-loop-m numbers tables₀ h again base m₀ tables m = h.modules - m
 
 -- module m is one
-small : (c : tie.Then1 invariant-loop decreases-loop) → c.before.before.loop.m < (header_in c.before.before.before.before.before.before.before.before.before.args.numbers.now).modules
-small c = omega (arith, c.if1.true, ap (λ q. q.modules) c.before.before.before.before.before.before.header_of.ensures)
+small : (c : tie.In-loop-m invariant-loop-m decreases-loop-m) → c.loop-m.m < (header_in c.args.numbers.now).modules
+small c = omega (arith, c.loop-m-test.true, ap (λ q. q.modules) c.header_of-h.ensures)
 
-header-of-requires : tie.Need-header-of-requires invariant-loop decreases-loop
-header-of-requires c κs = c.before.before.requires.loaded.long
+header_of-h-requires : tie.Need-header_of-h-requires invariant-loop-m decreases-loop-m
+header_of-h-requires c κs = c.requires.loaded.long
 
-relaxed-requires : tie.Need-relaxed-requires invariant-loop decreases-loop
-relaxed-requires c κs = c.before.before.before.before.requires.loaded
+relaxed-again-requires : tie.Need-relaxed-again-requires invariant-loop-m decreases-loop-m
+relaxed-again-requires c κs = c.requires.loaded
 
-slice-read-base : tie.Need-slice-read-base invariant-loop decreases-loop
-slice-read-base c = word_inside c.before.before.before.before.before.before.requires.laid 5 (omega arith)
+bounds-tables-5 : tie.Need-bounds-tables-5 invariant-loop-m decreases-loop-m
+bounds-tables-5 c = word_inside c.requires.laid 5 (omega arith)
 
-loop-holds : tie.Need-loop-init invariant-loop decreases-loop
-loop-holds c = (kept_none, omega arith, fill_start _ _)
+loop-m-init : tie.Need-loop-m-init invariant-loop-m decreases-loop-m
+loop-m-init c = (kept_none, omega arith, fill_start _ _)
 
-first-verdict-requires : tie.Need-first-verdict-requires invariant-loop decreases-loop
-first-verdict-requires c κs = ((verdicts_kept c.before.before.before.before.before.before.before.before.before.before.requires c.before.before.before.loop.invariant.0).loaded, (c.before.before.before.before.before.relaxed.ensures, small c.before))
+first_verdict-requires : tie.Need-first_verdict-requires invariant-loop-m decreases-loop-m
+first_verdict-requires c κs = ((verdicts_kept c.requires c.loop-m.invariant.0).loaded, (c.relaxed-again.ensures, small c))
 
-add-tables : tie.Need-overflow-add-tables invariant-loop decreases-loop
+overflow_add-tables : tie.Need-overflow_add-tables invariant-loop-m decreases-loop-m
 unfolding sizes
-add-tables c =
-    let i = word_fits c.before.before.before.before.before.before.before.before.before.before.before.requires.laid 5 (omega arith) c.before.before.before.before.loop.invariant.0 c.before.before.before.before.loop.m (small c.before.before) in
-    record { fits = omega (arith, i, (verdicts_kept c.before.before.before.before.before.before.before.before.before.before.before.requires c.before.before.before.before.loop.invariant.0).laid.few) }
+overflow_add-tables c =
+    let i = word_fits c.requires.laid 5 (omega arith) c.loop-m.invariant.0 c.loop-m.m (small c.before) in
+    record { fits = omega (arith, i, (verdicts_kept c.requires c.loop-m.invariant.0).laid.few) }
 
-mul-tables : tie.Need-overflow-mul-tables invariant-loop decreases-loop
+offset_bounds-tables-base : tie.Need-offset_bounds-tables-base invariant-loop-m decreases-loop-m
 unfolding sizes
-mul-tables c =
-    let i = word_fits c.before.before.before.before.before.before.before.before.before.before.before.requires.laid 5 (omega arith) c.before.before.before.before.loop.invariant.0 c.before.before.before.before.loop.m (small c.before.before) in
-    record { fits = omega (arith, i, (verdicts_kept c.before.before.before.before.before.before.before.before.before.before.before.requires c.before.before.before.before.loop.invariant.0).laid.few) }
+offset_bounds-tables-base c =
+    let i = word_fits c.requires.laid 5 (omega arith) c.loop-m.invariant.0 c.loop-m.m (small c.before) in
+    record { fits = omega (arith, i, (verdicts_kept c.requires c.loop-m.invariant.0).laid.few) }
 
-slice-write-tables : tie.Need-slice-write-tables invariant-loop decreases-loop
+bounds-tables-base : tie.Need-bounds-tables-base invariant-loop-m decreases-loop-m
 unfolding sizes
-slice-write-tables c = word_fits c.before.before.before.before.before.before.before.before.before.before.before.requires.laid 5 (omega arith) c.before.before.before.before.loop.invariant.0 c.before.before.before.before.loop.m (small c.before.before)
+bounds-tables-base c = word_fits c.requires.laid 5 (omega arith) c.loop-m.invariant.0 c.loop-m.m (small c.before)
 
-add-m : tie.Need-overflow-add-m invariant-loop decreases-loop
-add-m c = record { fits = omega (arith, small c.before.before, c.before.before.before.before.before.before.before.before.before.before.before.requires.loaded.few_modules) }
+overflow_add-m : tie.Need-overflow_add-m invariant-loop-m decreases-loop-m
+overflow_add-m c = record { fits = omega (arith, small c.before, c.requires.loaded.few_modules) }
 
-loop-less : tie.Need-loop-smaller invariant-loop decreases-loop
-loop-less c = omega (arith, c.before.before.if1.true)
+loop-m-smaller : tie.Need-loop-m-smaller invariant-loop-m decreases-loop-m
+loop-m-smaller c = omega (arith, c.loop-m-test.true)
 
-loop-again : tie.Need-loop-preserved invariant-loop decreases-loop
+loop-m-preserved : tie.Need-loop-m-preserved invariant-loop-m decreases-loop-m
 unfolding sizes
-loop-again c =
-    let i = c.before.before.before.before.loop.invariant in
-    let t = c.before.before.before.before.before.before.before.before.before.before.before.requires.laid in
-    let n = small c.before.before in (
-      kept_written t 5 (omega arith) i.0 c.before.before.before.before.loop.m n c.first-verdict.result,
-      omega (arith, c.before.before.if1.true),
-      section_written t 5 (omega arith) i.0 c.before.before.before.before.loop.m n c.first-verdict.result ∙ fill_step _ _ _ c.before.before.before.before.loop.m _ i.2 (omega (arith, n, verdicts_long t)) c.first-verdict.ensures,
+loop-m-preserved c =
+    let i = c.loop-m.invariant in
+    let t = c.requires.laid in
+    let n = small c.before in (
+      kept_written t 5 (omega arith) i.0 c.loop-m.m n c.first_verdict.result,
+      omega (arith, c.loop-m-test.true),
+      section_written t 5 (omega arith) i.0 c.loop-m.m n c.first_verdict.result ∙ fill_step _ _ _ c.loop-m.m _ i.2 (omega (arith, n, verdicts_long t)) c.first_verdict.ensures,
     )
 
-same_length : tie.Need-same-length invariant-loop decreases-loop
-same_length c = c.before.before.loop.invariant.0.same_length
+shape_of-tables : tie.Need-shape_of-tables invariant-loop-m decreases-loop-m
+shape_of-tables c = c.loop-m.invariant.0.same_length
 
-returns : tie.Need-returns invariant-loop decreases-loop
+returns : tie.Need-returns invariant-loop-m decreases-loop-m
 unfolding first_verdicts graph_in
 returns c =
-    let s = c.before.before.before.before.before.before.before.before.before in
-    let i = c.before.before.loop.invariant in
-    let z : c.before.before.loop.m ≡ (header_in s.args.numbers.now).modules = omega (arith, c.if1.false, i.1, ap (λ q. q.modules) c.before.before.before.before.before.before.header_of.ensures) in
-    (fill_done _ _ _ _ i.2 (omega (arith, z, verdicts_long s.requires.laid)) ∙ ap (tabulate (first_verdict (graph_in s.args.numbers.now)) 0) z, i.0)
+    let i = c.loop-m.invariant in
+    let z : c.loop-m.m ≡ (header_in c.args.numbers.now).modules = omega (arith, c.loop-m-test.false, i.1, ap (λ q. q.modules) c.header_of-h.ensures) in
+    (fill_done _ _ _ _ i.2 (omega (arith, z, verdicts_long c.requires.laid)) ∙ ap (tabulate (first_verdict (graph_in c.args.numbers.now)) 0) z, i.0)
 
-pub first-verdicts-spec : {M : Type 1} → statement M
-first-verdicts-spec =
+pub first_verdicts_spec : {M : Type 1} → statement M
+first_verdicts_spec =
     tie.close
     (tie.spec
-    invariant-loop
-    decreases-loop
-    header-of-requires
-    relaxed-requires
-    slice-read-base
-    loop-holds
-    first-verdict-requires
-    add-tables
-    mul-tables
-    slice-write-tables
-    add-m
-    loop-less
-    loop-again
-    same_length
+    invariant-loop-m
+    decreases-loop-m
+    header_of-h-requires
+    relaxed-again-requires
+    bounds-tables-5
+    loop-m-init
+    first_verdict-requires
+    overflow_add-tables
+    offset_bounds-tables-base
+    bounds-tables-base
+    overflow_add-m
+    loop-m-smaller
+    loop-m-preserved
+    shape_of-tables
     returns)

@@ -6,27 +6,27 @@ use Rattle.determine_side_effects.proofs.InSection.{verdicts_kept}
 use Rattle.determine_side_effects.proofs.last_verdicts.Statement.{statement}
 use Rattle.determine_side_effects.proofs.last_verdicts.Tie as tie
 
-first-verdicts-requires : tie.Need-first-verdicts-requires
-first-verdicts-requires c κs = c.before.before.before.requires
+first_verdicts-requires : tie.Need-first_verdicts-requires
+first_verdicts-requires c κs = c.requires
 
 settle-requires : tie.Need-settle-requires
-settle-requires c κs = verdicts_kept c.before.before.before.before.before.before.before.requires c.before.before.before.first-verdicts.ensures.1
+settle-requires c κs = verdicts_kept c.requires c.first_verdicts.ensures.1
 
-same_length : tie.Need-same-length
-same_length c = (kept_both c.before.before.before.before.before.before.first-verdicts.ensures.1 c.before.before.settle.ensures.1).same_length
+shape_of-tables : tie.Need-shape_of-tables
+shape_of-tables c = (kept_both c.first_verdicts.ensures.1 c.settle.ensures.1).same_length
 
 returns : tie.Need-returns
 unfolding last_verdicts
 returns c =
-    let f = c.before.before.before.before.before.before.first-verdicts.ensures in
-    let s = c.before.before.settle.ensures in
-    (s.0 ∙ ap (settle (graph_in c.before.before.before.before.before.before.before.before.before.before.args.numbers.now)) f.0, kept_both f.1 s.1)
+    let f = c.first_verdicts.ensures in
+    let s = c.settle.ensures in
+    (s.0 ∙ ap (settle (graph_in c.args.numbers.now)) f.0, kept_both f.1 s.1)
 
-pub last-verdicts-spec : {M : Type 1} → statement M
-last-verdicts-spec =
+pub last_verdicts_spec : {M : Type 1} → statement M
+last_verdicts_spec =
     tie.close
     (tie.spec
-    first-verdicts-requires
+    first_verdicts-requires
     settle-requires
-    same_length
+    shape_of-tables
     returns)

@@ -17,94 +17,91 @@ use Rattle.determine_side_effects.proofs.Reading.{moves_external, moves-other, m
 use Rattle.determine_side_effects.proofs.moves.Statement.{statement}
 use Rattle.determine_side_effects.proofs.moves.Tie as tie
 
-abbrev invariant-loop : tie.invariant-loop
-invariant-loop numbers tables m i count k₀ k = (k ≤ count) × (some (λ row. seeds (graph_in numbers) row || reaches (verdicts_in tables) row) (drop k (import_records (module_of (graph_in numbers) m.0))) ≡ some (λ row. seeds (graph_in numbers) row || reaches (verdicts_in tables) row) (import_records (module_of (graph_in numbers) m.0)))
+abbrev invariant-loop-k : tie.invariant-loop-k
+invariant-loop-k numbers tables m i count k₀ k = (k ≤ count) × (some (λ row. seeds (graph_in numbers) row || reaches (verdicts_in tables) row) (drop k (import_records (module_of (graph_in numbers) m.0))) ≡ some (λ row. seeds (graph_in numbers) row || reaches (verdicts_in tables) row) (import_records (module_of (graph_in numbers) m.0)))
 
-abbrev decreases-loop : tie.decreases-loop
-decreases-loop numbers tables m i count k₀ k = count - k
+abbrev decreases-loop-k : tie.decreases-loop-k
+decreases-loop-k numbers tables m i count k₀ k = count - k
 
 -- record k is one of the module's
-listed : (c : tie.In-loop invariant-loop decreases-loop) → c.before.loop.k < length (import_records (module_of (graph_in c.before.before.before.before.before.before.before.before.before.before.args.numbers.now) c.before.before.before.before.before.before.before.before.before.before.args.m.0))
-listed c = omega (arith, c.loop-test.true, c.before.before.import-record-count.ensures.0)
+listed : (c : tie.In-loop-k invariant-loop-k decreases-loop-k) → c.loop-k.k < length (import_records (module_of (graph_in c.args.numbers.now) c.args.m.0))
+listed c = omega (arith, c.loop-k-test.true, c.import_record_count-count.ensures.0)
 
 -- the module is normal; if it is without effects so far, its records decide
-whole : (c : tie.After-import-record-count invariant-loop decreases-loop) → get_or c.before.before.before.section.result.now c.before.before.before.before.before.before.before.before.args.m.0 0 ≡ 0 → some (λ row. seeds (graph_in c.before.before.before.before.before.before.before.before.args.numbers.now) row || reaches (verdicts_in c.before.before.before.before.before.before.before.before.args.tables.now) row) (import_records (module_of (graph_in c.before.before.before.before.before.before.before.before.args.numbers.now) c.before.before.before.before.before.before.before.before.args.m.0)) ≡ moves (graph_in c.before.before.before.before.before.before.before.before.args.numbers.now) (verdicts_in c.before.before.before.before.before.before.before.before.args.tables.now) c.before.before.before.before.before.before.before.before.args.m.0
+whole : (c : tie.After-import_record_count-count invariant-loop-k decreases-loop-k) → get_or c.section-verdicts.result.now c.args.m.0 0 ≡ 0 → some (λ row. seeds (graph_in c.args.numbers.now) row || reaches (verdicts_in c.args.tables.now) row) (import_records (module_of (graph_in c.args.numbers.now) c.args.m.0)) ≡ moves (graph_in c.args.numbers.now) (verdicts_in c.args.tables.now) c.args.m.0
 whole c z =
-    let s = c.before.before.before.before.before.before.before.before in
-    moves-some _ _ _ (sym c.before.before.before.before.before.is_normal.ensures ∙ not-false _ c.before.before.before.before.if1.false) (sym (ap (λ v. get_or v s.args.m.0 0) c.before.before.before.section.ensures) ∙ z)
+    moves-some _ _ _ (sym c.is_normal.ensures ∙ not-false _ c.if-not-is_normal.false) (sym (ap (λ v. get_or v c.args.m.0 0) c.section-verdicts.ensures) ∙ z)
 
-is-normal-requires : tie.Need-is-normal-requires invariant-loop decreases-loop
-is-normal-requires c κs = (c.before.before.requires.0.loaded, c.before.before.requires.1)
+is_normal-requires : tie.Need-is_normal-requires invariant-loop-k decreases-loop-k
+is_normal-requires c κs = (c.requires.0.loaded, c.requires.1)
 
-returns : tie.Need-returns invariant-loop decreases-loop
-returns c = moves_external _ _ _ (sym c.before.is_normal.ensures ∙ not_true _ c.if1.true)
+returns-then-not-is_normal : tie.Need-returns-then-not-is_normal invariant-loop-k decreases-loop-k
+returns-then-not-is_normal c = moves_external _ _ _ (sym c.is_normal.ensures ∙ not_true _ c.if-not-is_normal.true)
 
-section-requires : tie.Need-section-requires invariant-loop decreases-loop
-section-requires c κs = inside c.before.before.before.before.requires.0.laid 5 (omega arith)
+section-verdicts-requires : tie.Need-section-verdicts-requires invariant-loop-k decreases-loop-k
+section-verdicts-requires c κs = inside c.requires.0.laid 5 (omega arith)
 
-mul-if2 : tie.Need-overflow-mul-if2 invariant-loop decreases-loop
-mul-if2 c = record { fits = omega (arith, c.before.before.before.before.before.requires.1, c.before.before.before.before.before.requires.0.loaded.few_modules) }
+offset_bounds-verdicts-i : tie.Need-offset_bounds-verdicts-i invariant-loop-k decreases-loop-k
+offset_bounds-verdicts-i c = record { fits = omega (arith, c.requires.1, c.requires.0.loaded.few_modules) }
 
-shared-slice-read-if2 : tie.Need-shared-slice-read-if2 invariant-loop decreases-loop
-shared-slice-read-if2 c = omega (arith, ap length c.before.section.ensures, verdicts_long c.before.before.before.before.before.before.requires.0.laid, c.before.before.before.before.before.before.requires.1)
+bounds-verdicts-i : tie.Need-bounds-verdicts-i invariant-loop-k decreases-loop-k
+bounds-verdicts-i c = omega (arith, ap length c.section-verdicts.ensures, verdicts_long c.requires.0.laid, c.requires.1)
 
-returns-2 : tie.Need-returns-2 invariant-loop decreases-loop
-returns-2 c =
-    let s = c.before.before.before.before.before.before.before in
-    moves-other _ _ _ (sym c.before.before.before.before.is_normal.ensures ∙ not-false _ c.before.before.before.if1.false) (omega (arith, c.if2.true, ap (λ v. get_or v s.args.m.0 0) c.before.before.section.ensures))
+returns-then-verdicts-i-ne0 : tie.Need-returns-then-verdicts-i-ne0 invariant-loop-k decreases-loop-k
+returns-then-verdicts-i-ne0 c =
+    moves-other _ _ _ (sym c.is_normal.ensures ∙ not-false _ c.if-not-is_normal.false) (omega (arith, c.if-verdicts-i-ne0.true, ap (λ v. get_or v c.args.m.0 0) c.section-verdicts.ensures))
 
-import-record-count-requires : tie.Need-import-record-count-requires invariant-loop decreases-loop
-import-record-count-requires c κs = (c.before.before.before.before.before.before.before.requires.0.loaded, c.before.before.before.before.before.before.before.requires.1)
+import_record_count-count-requires : tie.Need-import_record_count-count-requires invariant-loop-k decreases-loop-k
+import_record_count-count-requires c κs = (c.requires.0.loaded, c.requires.1)
 
-loop-holds : tie.Need-loop-init invariant-loop decreases-loop
-loop-holds c = (omega arith, refl)
+loop-k-init : tie.Need-loop-k-init invariant-loop-k decreases-loop-k
+loop-k-init c = (omega arith, refl)
 
-seeds-requires : tie.Need-seeds-requires invariant-loop decreases-loop
-seeds-requires c κs = (c.before.before.before.before.before.before.before.before.before.before.requires.0.loaded, (c.before.before.before.before.before.before.before.before.before.before.requires.1, listed c))
+seeds-requires : tie.Need-seeds-requires invariant-loop-k decreases-loop-k
+seeds-requires c κs = (c.requires.0.loaded, (c.requires.1, listed c))
 
-returns-3 : tie.Need-returns-3 invariant-loop decreases-loop
-returns-3 c = rows_seeded _ _ _ _ (listed c.before.before) c.before.before.before.loop.invariant.1 c.before.seeds.ensures c.if3.true ∙ whole c.before.before.before.before c.before.before.before.before.before.if2.false
+returns-then-seeds : tie.Need-returns-then-seeds invariant-loop-k decreases-loop-k
+returns-then-seeds c = rows_seeded _ _ _ _ (listed c.before.before) c.loop-k.invariant.1 c.seeds.ensures c.if-seeds.true ∙ whole c.before.before.before.before c.if-verdicts-i-ne0.false
 
-reaches-requires : tie.Need-reaches-requires invariant-loop decreases-loop
-reaches-requires c κs = (c.before.before.before.before.before.before.before.before.before.before.before.before.requires.0, (c.before.before.before.before.before.before.before.before.before.before.before.before.requires.1, listed c.before.before))
+reaches-requires : tie.Need-reaches-requires invariant-loop-k decreases-loop-k
+reaches-requires c κs = (c.requires.0, (c.requires.1, listed c.before.before))
 
-returns-4 : tie.Need-returns-4 invariant-loop decreases-loop
-returns-4 c = rows_reached _ _ _ _ (listed c.before.before.before.before) c.before.before.before.before.before.loop.invariant.1 c.before.before.before.seeds.ensures c.before.before.if3.false c.before.reaches.ensures c.if4.true ∙ whole c.before.before.before.before.before.before c.before.before.before.before.before.before.before.if2.false
+returns-then-reaches : tie.Need-returns-then-reaches invariant-loop-k decreases-loop-k
+returns-then-reaches c = rows_reached _ _ _ _ (listed c.before.before.before.before) c.loop-k.invariant.1 c.seeds.ensures c.if-seeds.false c.reaches.ensures c.if-reaches.true ∙ whole c.before.before.before.before.before.before c.if-verdicts-i-ne0.false
 
-add-k : tie.Need-overflow-add-k invariant-loop decreases-loop
-add-k c = record { fits = omega (arith, c.before.before.before.before.loop-test.true, c.before.before.before.before.before.before.import-record-count.ensures.1) }
+overflow_add-k : tie.Need-overflow_add-k invariant-loop-k decreases-loop-k
+overflow_add-k c = record { fits = omega (arith, c.loop-k-test.true, c.import_record_count-count.ensures.1) }
 
-loop-less : tie.Need-loop-smaller invariant-loop decreases-loop
-loop-less c = omega (arith, c.before.before.before.before.loop-test.true)
+loop-k-smaller : tie.Need-loop-k-smaller invariant-loop-k decreases-loop-k
+loop-k-smaller c = omega (arith, c.loop-k-test.true)
 
-loop-again : tie.Need-loop-preserved invariant-loop decreases-loop
-loop-again c = (omega (arith, c.before.before.before.before.loop-test.true), rows_on _ _ _ _ (listed c.before.before.before.before) c.before.before.before.before.before.loop.invariant.1 c.before.before.before.seeds.ensures c.before.before.if3.false c.before.reaches.ensures c.if4.false)
+loop-k-preserved : tie.Need-loop-k-preserved invariant-loop-k decreases-loop-k
+loop-k-preserved c = (omega (arith, c.loop-k-test.true), rows_on _ _ _ _ (listed c.before.before.before.before) c.loop-k.invariant.1 c.seeds.ensures c.if-seeds.false c.reaches.ensures c.if-reaches.false)
 
-returns-5 : tie.Need-returns-5 invariant-loop decreases-loop
-returns-5 c =
-    let s = c.before.before.before.before.before.before.before.before.before.before in
-    let l : length (import_records (module_of (graph_in s.args.numbers.now) s.args.m.0)) ≤ c.before.loop.k = omega (arith, c.loop-test.false, c.before.before.import-record-count.ensures.0) in
-    sym (some_end _ [] _ _ l) ∙ c.before.loop.invariant.1 ∙ whole c.before.before c.before.before.before.if2.false
+returns : tie.Need-returns invariant-loop-k decreases-loop-k
+returns c =
+    let l : length (import_records (module_of (graph_in c.args.numbers.now) c.args.m.0)) ≤ c.loop-k.k = omega (arith, c.loop-k-test.false, c.import_record_count-count.ensures.0) in
+    sym (some_end _ [] _ _ l) ∙ c.loop-k.invariant.1 ∙ whole c.before.before c.if-verdicts-i-ne0.false
 
-pub moves-spec : {M : Type 1} → statement M
-moves-spec =
+pub moves_spec : {M : Type 1} → statement M
+moves_spec =
     tie.close
     (tie.spec
-    invariant-loop
-    decreases-loop
-    is-normal-requires
-    returns
-    section-requires
-    mul-if2
-    shared-slice-read-if2
-    returns-2
-    import-record-count-requires
-    loop-holds
+    invariant-loop-k
+    decreases-loop-k
+    is_normal-requires
+    returns-then-not-is_normal
+    section-verdicts-requires
+    offset_bounds-verdicts-i
+    bounds-verdicts-i
+    returns-then-verdicts-i-ne0
+    import_record_count-count-requires
+    loop-k-init
     seeds-requires
-    returns-3
+    returns-then-seeds
     reaches-requires
-    returns-4
-    add-k
-    loop-less
-    loop-again
-    returns-5)
+    returns-then-reaches
+    overflow_add-k
+    loop-k-smaller
+    loop-k-preserved
+    returns)

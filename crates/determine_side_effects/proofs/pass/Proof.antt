@@ -12,96 +12,96 @@ use Rattle.determine_side_effects.proofs.Reading.{pass_moved, pass_kept, pass_do
 use Rattle.determine_side_effects.proofs.pass.Statement.{statement}
 use Rattle.determine_side_effects.proofs.pass.Tie as tie
 
-abbrev invariant-loop : tie.invariant-loop
-invariant-loop numbers tables₀ base moved₀ m₀ tables moved m = Kept (start_of (header_in numbers) at_verdicts) tables₀ tables × (m ≤ m₀) × (pass (graph_in numbers) m (verdicts_in tables) ≡ pass (graph_in numbers) m₀ (verdicts_in tables₀)) × (moved ≡ false → verdicts_in tables ≡ verdicts_in tables₀)
+abbrev invariant-loop-m : tie.invariant-loop-m
+invariant-loop-m numbers tables₀ base moved₀ m₀ tables moved m = Kept (start_of (header_in numbers) at_verdicts) tables₀ tables × (m ≤ m₀) × (pass (graph_in numbers) m (verdicts_in tables) ≡ pass (graph_in numbers) m₀ (verdicts_in tables₀)) × (moved ≡ false → verdicts_in tables ≡ verdicts_in tables₀)
 
-abbrev decreases-loop : tie.decreases-loop
-decreases-loop numbers tables₀ base moved₀ m₀ tables moved m = m
+abbrev decreases-loop-m : tie.decreases-loop-m
+decreases-loop-m numbers tables₀ base moved₀ m₀ tables moved m = m
 
 -- the module in hand is one
-small : (c : tie.In-loop invariant-loop decreases-loop) → c.before.loop.m - 1 < (header_in c.before.before.before.before.before.before.args.numbers.now).modules
-small c = omega (arith, c.loop-test.true, c.before.loop.invariant.1, ap (λ q. q.modules) c.before.before.before.header_of.ensures)
+small : (c : tie.In-loop-m invariant-loop-m decreases-loop-m) → c.loop-m.m - 1 < (header_in c.args.numbers.now).modules
+small c = omega (arith, c.loop-m-test.true, c.loop-m.invariant.1, ap (λ q. q.modules) c.header_of-h.ensures)
 
-header-of-requires : tie.Need-header-of-requires invariant-loop decreases-loop
-header-of-requires c κs = c.before.before.requires.loaded.long
+header_of-h-requires : tie.Need-header_of-h-requires invariant-loop-m decreases-loop-m
+header_of-h-requires c κs = c.requires.loaded.long
 
-slice-read-base : tie.Need-slice-read-base invariant-loop decreases-loop
-slice-read-base c = word_inside c.before.before.before.before.requires.laid 5 (omega arith)
+bounds-tables-5 : tie.Need-bounds-tables-5 invariant-loop-m decreases-loop-m
+bounds-tables-5 c = word_inside c.requires.laid 5 (omega arith)
 
-loop-holds : tie.Need-loop-init invariant-loop decreases-loop
-loop-holds c = (kept_none, omega arith, refl, λ e. refl)
+loop-m-init : tie.Need-loop-m-init invariant-loop-m decreases-loop-m
+loop-m-init c = (kept_none, omega arith, refl, λ e. refl)
 
-sub-m : tie.Need-overflow-sub-m invariant-loop decreases-loop
-sub-m c = c.loop-test.true
+overflow_sub-m : tie.Need-overflow_sub-m invariant-loop-m decreases-loop-m
+overflow_sub-m c = c.loop-m-test.true
 
-moves-requires : tie.Need-moves-requires invariant-loop decreases-loop
-moves-requires c κs = (verdicts_kept c.before.before.before.before.before.before.before.requires c.before.before.loop.invariant.0, small c.before)
+moves-requires : tie.Need-moves-requires invariant-loop-m decreases-loop-m
+moves-requires c κs = (verdicts_kept c.requires c.loop-m.invariant.0, small c)
 
-add-tables : tie.Need-overflow-add-tables invariant-loop decreases-loop
+overflow_add-tables : tie.Need-overflow_add-tables invariant-loop-m decreases-loop-m
 unfolding sizes
-add-tables c =
-    let i = word_fits c.before.before.before.before.before.before.before.before.before.requires.laid 5 (omega arith) c.before.before.before.before.loop.invariant.0 (c.before.before.before.before.loop.m - 1) (small c.before.before.before) in
-    record { fits = omega (arith, i, (verdicts_kept c.before.before.before.before.before.before.before.before.before.requires c.before.before.before.before.loop.invariant.0).laid.few) }
+overflow_add-tables c =
+    let i = word_fits c.requires.laid 5 (omega arith) c.loop-m.invariant.0 (c.loop-m.m - 1) (small c.before.before) in
+    record { fits = omega (arith, i, (verdicts_kept c.requires c.loop-m.invariant.0).laid.few) }
 
-mul-tables : tie.Need-overflow-mul-tables invariant-loop decreases-loop
+offset_bounds-tables-base : tie.Need-offset_bounds-tables-base invariant-loop-m decreases-loop-m
 unfolding sizes
-mul-tables c =
-    let i = word_fits c.before.before.before.before.before.before.before.before.before.requires.laid 5 (omega arith) c.before.before.before.before.loop.invariant.0 (c.before.before.before.before.loop.m - 1) (small c.before.before.before) in
-    record { fits = omega (arith, i, (verdicts_kept c.before.before.before.before.before.before.before.before.before.requires c.before.before.before.before.loop.invariant.0).laid.few) }
+offset_bounds-tables-base c =
+    let i = word_fits c.requires.laid 5 (omega arith) c.loop-m.invariant.0 (c.loop-m.m - 1) (small c.before.before) in
+    record { fits = omega (arith, i, (verdicts_kept c.requires c.loop-m.invariant.0).laid.few) }
 
-slice-write-tables : tie.Need-slice-write-tables invariant-loop decreases-loop
+bounds-tables-base : tie.Need-bounds-tables-base invariant-loop-m decreases-loop-m
 unfolding sizes
-slice-write-tables c = word_fits c.before.before.before.before.before.before.before.before.before.requires.laid 5 (omega arith) c.before.before.before.before.loop.invariant.0 (c.before.before.before.before.loop.m - 1) (small c.before.before.before)
+bounds-tables-base c = word_fits c.requires.laid 5 (omega arith) c.loop-m.invariant.0 (c.loop-m.m - 1) (small c.before.before)
 
-loop-less : tie.Need-loop-smaller invariant-loop decreases-loop
-loop-less c = omega (arith, c.before.before.before.loop-test.true)
+loop-m-smaller-then-moves : tie.Need-loop-m-smaller-then-moves invariant-loop-m decreases-loop-m
+loop-m-smaller-then-moves c = omega (arith, c.loop-m-test.true)
 
-loop-again : tie.Need-loop-preserved invariant-loop decreases-loop
+loop-m-preserved-then-moves : tie.Need-loop-m-preserved-then-moves invariant-loop-m decreases-loop-m
 unfolding sizes
-loop-again c =
-    let i = c.before.before.before.before.loop.invariant in
-    let t = c.before.before.before.before.before.before.before.before.before.requires.laid in
-    let w = section_written t 5 (omega arith) i.0 (c.before.before.before.before.loop.m - 1) (small c.before.before.before) 1 in (
-      kept_written t 5 (omega arith) i.0 (c.before.before.before.before.loop.m - 1) (small c.before.before.before) 1,
+loop-m-preserved-then-moves c =
+    let i = c.loop-m.invariant in
+    let t = c.requires.laid in
+    let w = section_written t 5 (omega arith) i.0 (c.loop-m.m - 1) (small c.before.before) 1 in (
+      kept_written t 5 (omega arith) i.0 (c.loop-m.m - 1) (small c.before.before) 1,
       omega (arith, i.1),
-      ap (pass (graph_in c.before.before.before.before.before.before.before.before.before.args.numbers.now) (c.before.before.before.before.loop.m - 1)) w ∙ pass_moved _ _ _ c.before.before.before.loop-test.true c.before.moves.ensures c.if1.true ∙ i.2,
+      ap (pass (graph_in c.args.numbers.now) (c.loop-m.m - 1)) w ∙ pass_moved _ _ _ c.loop-m-test.true c.moves.ensures c.if-moves.true ∙ i.2,
       λ e. absurd (true≢false e),
     )
 
-loop-less-2 : tie.Need-loop-smaller-2 invariant-loop decreases-loop
-loop-less-2 c = omega (arith, c.before.before.before.loop-test.true)
+loop-m-smaller : tie.Need-loop-m-smaller invariant-loop-m decreases-loop-m
+loop-m-smaller c = omega (arith, c.loop-m-test.true)
 
-loop-again-2 : tie.Need-loop-preserved-2 invariant-loop decreases-loop
-loop-again-2 c =
-    let i = c.before.before.before.before.loop.invariant in
-    (i.0, omega (arith, i.1), pass_kept _ _ _ c.before.before.before.loop-test.true c.before.moves.ensures c.if1.false ∙ i.2, i.3)
+loop-m-preserved : tie.Need-loop-m-preserved invariant-loop-m decreases-loop-m
+loop-m-preserved c =
+    let i = c.loop-m.invariant in
+    (i.0, omega (arith, i.1), pass_kept _ _ _ c.loop-m-test.true c.moves.ensures c.if-moves.false ∙ i.2, i.3)
 
-same_length : tie.Need-same-length invariant-loop decreases-loop
-same_length c = c.before.loop.invariant.0.same_length
+shape_of-tables : tie.Need-shape_of-tables invariant-loop-m decreases-loop-m
+shape_of-tables c = c.loop-m.invariant.0.same_length
 
-returns : tie.Need-returns invariant-loop decreases-loop
+returns : tie.Need-returns invariant-loop-m decreases-loop-m
 returns c =
-    let i = c.before.loop.invariant in
-    let h = ap (λ q. pass (graph_in c.before.before.before.before.before.before.args.numbers.now) q.modules (verdicts_in c.before.before.before.before.before.before.args.tables.now)) c.before.before.before.header_of.ensures in
-    (pass_done _ _ _ _ c.loop-test.false i.2 ∙ h, i.3, i.0)
+    let i = c.loop-m.invariant in
+    let h = ap (λ q. pass (graph_in c.args.numbers.now) q.modules (verdicts_in c.args.tables.now)) c.header_of-h.ensures in
+    (pass_done _ _ _ _ c.loop-m-test.false i.2 ∙ h, i.3, i.0)
 
 pub pass_spec : {M : Type 1} → statement M
 pass_spec =
     tie.close
     (tie.spec
-    invariant-loop
-    decreases-loop
-    header-of-requires
-    slice-read-base
-    loop-holds
-    sub-m
+    invariant-loop-m
+    decreases-loop-m
+    header_of-h-requires
+    bounds-tables-5
+    loop-m-init
+    overflow_sub-m
     moves-requires
-    add-tables
-    mul-tables
-    slice-write-tables
-    loop-less
-    loop-again
-    loop-less-2
-    loop-again-2
-    same_length
+    overflow_add-tables
+    offset_bounds-tables-base
+    bounds-tables-base
+    loop-m-smaller-then-moves
+    loop-m-preserved-then-moves
+    loop-m-smaller
+    loop-m-preserved
+    shape_of-tables
     returns)

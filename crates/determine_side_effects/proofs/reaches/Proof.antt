@@ -10,39 +10,39 @@ use Rattle.determine_side_effects.proofs.Reading.{reaches_none, reaches_by}
 use Rattle.determine_side_effects.proofs.reaches.Statement.{statement}
 use Rattle.determine_side_effects.proofs.reaches.Tie as tie
 
-import-record-target-requires : tie.Need-import-record-target-requires
-import-record-target-requires c κs = (c.before.before.requires.0.loaded, c.before.before.requires.1)
+import_record_target-target-requires : tie.Need-import_record_target-target-requires
+import_record_target-target-requires c κs = (c.requires.0.loaded, c.requires.1)
 
-returns : tie.Need-returns
-returns c = reaches_none _ _ (sym c.before.import-record-target.ensures.0 ∙ c.if1.true)
+returns-then-target-eq0 : tie.Need-returns-then-target-eq0
+returns-then-target-eq0 c = reaches_none _ _ (sym c.import_record_target-target.ensures.0 ∙ c.if-target-eq0.true)
 
-section-requires : tie.Need-section-requires
-section-requires c κs = inside c.before.before.before.before.requires.0.laid 5 (omega arith)
+section-verdicts-requires : tie.Need-section-verdicts-requires
+section-verdicts-requires c κs = inside c.requires.0.laid 5 (omega arith)
 
-sub-effectful : tie.Need-overflow-sub-effectful
-sub-effectful c = omega (arith, c.before.if1.false)
+overflow_sub-target : tie.Need-overflow_sub-target
+overflow_sub-target c = omega (arith, c.if-target-eq0.false)
 
-mul-effectful : tie.Need-overflow-mul-effectful
-mul-effectful c = record { fits = omega (arith, c.before.if1.false, c.before.before.import-record-target.ensures.1, c.before.before.before.before.before.requires.0.loaded.few_modules) }
+offset_bounds-verdicts-target : tie.Need-offset_bounds-verdicts-target
+offset_bounds-verdicts-target c = record { fits = omega (arith, c.if-target-eq0.false, c.import_record_target-target.ensures.1, c.requires.0.loaded.few_modules) }
 
-shared-slice-read-effectful : tie.Need-shared-slice-read-effectful
-shared-slice-read-effectful c = omega (arith, c.before.before.if1.false, c.before.before.before.import-record-target.ensures.1, ap length c.before.section.ensures, verdicts_long c.before.before.before.before.before.before.requires.0.laid)
+bounds-verdicts-target : tie.Need-bounds-verdicts-target
+bounds-verdicts-target c = omega (arith, c.if-target-eq0.false, c.import_record_target-target.ensures.1, ap length c.section-verdicts.ensures, verdicts_long c.requires.0.laid)
 
 effectful-requires : tie.Need-effectful-requires
 effectful-requires c κs = search rules
 
-returns-2 : tie.Need-returns-2
-returns-2 c = reaches_by _ _ _ c.before.before.before.before.import-record-target.ensures.0 c.before.before.before.if1.false (c.effectful.ensures ∙ ap (λ v. effectful (get_or v (c.before.before.before.before.import-record-target.result - 1) 0)) c.before.before.section.ensures)
+returns : tie.Need-returns
+returns c = reaches_by _ _ _ c.import_record_target-target.ensures.0 c.if-target-eq0.false (c.effectful.ensures ∙ ap (λ v. effectful (get_or v (c.import_record_target-target.result - 1) 0)) c.section-verdicts.ensures)
 
-pub reaches-spec : {M : Type 1} → statement M
-reaches-spec =
+pub reaches_spec : {M : Type 1} → statement M
+reaches_spec =
     tie.close
     (tie.spec
-    import-record-target-requires
-    returns
-    section-requires
-    sub-effectful
-    mul-effectful
-    shared-slice-read-effectful
+    import_record_target-target-requires
+    returns-then-target-eq0
+    section-verdicts-requires
+    overflow_sub-target
+    offset_bounds-verdicts-target
+    bounds-verdicts-target
     effectful-requires
-    returns-2)
+    returns)

@@ -6,51 +6,51 @@ use Rattle.determine_side_effects.proofs.Reading.{recomputed_external, recompute
 use Rattle.determine_side_effects.proofs.recomputed.Statement.{statement}
 use Rattle.determine_side_effects.proofs.recomputed.Tie as tie
 
-is-normal-requires : tie.Need-is-normal-requires
-is-normal-requires c κs = c.before.before.requires
+is_normal-requires : tie.Need-is_normal-requires
+is_normal-requires c κs = c.requires
 
 effects-requires : tie.Need-effects-requires
-effects-requires c κs = c.before.before.before.before.requires
+effects-requires c κs = c.requires
 
-returns : tie.Need-returns
-returns c = c.effects.ensures.0 ∙ recomputed_external _ _ (sym c.before.before.is_normal.ensures ∙ not_true _ c.before.if1.true)
+returns-then-not-is_normal : tie.Need-returns-then-not-is_normal
+returns-then-not-is_normal c = c.effects.ensures.0 ∙ recomputed_external _ _ (sym c.is_normal.ensures ∙ not_true _ c.if-not-is_normal.true)
 
-scan-effects-requires : tie.Need-scan-effects-requires
-scan-effects-requires c κs = c.before.before.before.before.requires
+scan_effects-scan-requires : tie.Need-scan_effects-scan-requires
+scan_effects-scan-requires c κs = c.requires
 
-returns-2 : tie.Need-returns-2
-returns-2 c =
-    let e = c.before.scan-effects.ensures.0 in
-    e ∙ recomputed-other _ _ (sym c.before.before.before.is_normal.ensures ∙ not-false _ c.before.before.if1.false) (λ z. c.if2.true (e ∙ z))
+returns-then-scan-ne1 : tie.Need-returns-then-scan-ne1
+returns-then-scan-ne1 c =
+    let e = c.scan_effects-scan.ensures.0 in
+    e ∙ recomputed-other _ _ (sym c.is_normal.ensures ∙ not-false _ c.if-not-is_normal.false) (λ z. c.if-scan-ne1.true (e ∙ z))
 
 flags-requires : tie.Need-flags-requires
-flags-requires c κs = c.before.before.before.before.before.before.requires
+flags-requires c κs = c.requires
 
 flag-requires : tie.Need-flag-requires
 flag-requires c κs = (omega arith)
 
 rescanned-requires : tie.Need-rescanned-requires
-rescanned-requires c κs = c.before.before.before.before.before.before.before.before.before.requires
+rescanned-requires c κs = c.requires
 
-returns-3 : tie.Need-returns-3
-returns-3 c =
+returns-then-flag : tie.Need-returns-then-flag
+returns-then-flag c =
     c.rescanned.ensures
-    ∙ recomputed-relaxed _ _ (sym c.before.before.before.before.before.before.before.is_normal.ensures ∙ not-false _ c.before.before.before.before.before.before.if1.false) (sym c.before.before.before.before.before.scan-effects.ensures.0 ∙ c.before.before.before.before.if2.false) (sym (c.before.before.flag.ensures ∙ ap (λ x. flag 5 x) c.before.before.before.flags.ensures) ∙ c.before.if3.true)
+    ∙ recomputed-relaxed _ _ (sym c.is_normal.ensures ∙ not-false _ c.if-not-is_normal.false) (sym c.scan_effects-scan.ensures.0 ∙ c.if-scan-ne1.false) (sym (c.flag.ensures ∙ ap (λ x. flag 5 x) c.flags.ensures) ∙ c.if-flag.true)
 
-returns-4 : tie.Need-returns-4
-returns-4 c = recomputed-one _ _ (sym c.before.before.before.before.before.before.is_normal.ensures ∙ not-false _ c.before.before.before.before.before.if1.false) (sym c.before.before.before.before.scan-effects.ensures.0 ∙ c.before.before.before.if2.false) (sym (c.before.flag.ensures ∙ ap (λ x. flag 5 x) c.before.before.flags.ensures) ∙ c.if3.false)
+returns : tie.Need-returns
+returns c = recomputed-one _ _ (sym c.is_normal.ensures ∙ not-false _ c.if-not-is_normal.false) (sym c.scan_effects-scan.ensures.0 ∙ c.if-scan-ne1.false) (sym (c.flag.ensures ∙ ap (λ x. flag 5 x) c.flags.ensures) ∙ c.if-flag.false)
 
-pub recomputed-spec : {M : Type 1} → statement M
-recomputed-spec =
+pub recomputed_spec : {M : Type 1} → statement M
+recomputed_spec =
     tie.close
     (tie.spec
-    is-normal-requires
+    is_normal-requires
     effects-requires
-    returns
-    scan-effects-requires
-    returns-2
+    returns-then-not-is_normal
+    scan_effects-scan-requires
+    returns-then-scan-ne1
     flags-requires
     flag-requires
     rescanned-requires
-    returns-3
-    returns-4)
+    returns-then-flag
+    returns)

@@ -12,61 +12,61 @@ use Rattle.determine_side_effects.proofs.Reading.{relaxed-stop, relaxed-on, rela
 use Rattle.determine_side_effects.proofs.relaxed.Statement.{statement}
 use Rattle.determine_side_effects.proofs.relaxed.Tie as tie
 
-abbrev invariant-loop : tie.invariant-loop
-invariant-loop numbers tables h m₀ m = (m ≤ h.modules) × (some (λ x. flag 5 (flags x)) (drop m (modules_in numbers)) ≡ some (λ x. flag 5 (flags x)) (modules_in numbers))
+abbrev invariant-loop-m : tie.invariant-loop-m
+invariant-loop-m numbers tables h m₀ m = (m ≤ h.modules) × (some (λ x. flag 5 (flags x)) (drop m (modules_in numbers)) ≡ some (λ x. flag 5 (flags x)) (modules_in numbers))
 
-abbrev decreases-loop : tie.decreases-loop
-decreases-loop numbers tables h m₀ m = h.modules - m
+abbrev decreases-loop-m : tie.decreases-loop-m
+decreases-loop-m numbers tables h m₀ m = h.modules - m
 
 -- module m is one
-small : (c : tie.Then1 invariant-loop decreases-loop) → c.before.before.loop.m < (header_in c.before.before.before.before.before.before.args.numbers.now).modules
-small c = omega (arith, c.if1.true, ap (λ q. q.modules) c.before.before.before.header_of.ensures)
+small : (c : tie.In-loop-m invariant-loop-m decreases-loop-m) → c.loop-m.m < (header_in c.args.numbers.now).modules
+small c = omega (arith, c.loop-m-test.true, ap (λ q. q.modules) c.header_of-h.ensures)
 
-listed : (c : tie.Then1 invariant-loop decreases-loop) → c.before.before.loop.m < length (modules_in c.before.before.before.before.before.before.args.numbers.now)
-listed c = omega (arith, modules_long _ _ c.before.before.before.before.before.before.requires.of_modules, small c)
+listed : (c : tie.In-loop-m invariant-loop-m decreases-loop-m) → c.loop-m.m < length (modules_in c.args.numbers.now)
+listed c = omega (arith, modules_long _ _ c.requires.of_modules, small c)
 
-header-of-requires : tie.Need-header-of-requires invariant-loop decreases-loop
-header-of-requires c κs = c.before.before.requires.long
+header_of-h-requires : tie.Need-header_of-h-requires invariant-loop-m decreases-loop-m
+header_of-h-requires c κs = c.requires.long
 
-loop-holds : tie.Need-loop-init invariant-loop decreases-loop
-loop-holds c = (omega arith, refl)
+loop-m-init : tie.Need-loop-m-init invariant-loop-m decreases-loop-m
+loop-m-init c = (omega arith, refl)
 
-flags-requires : tie.Need-flags-requires invariant-loop decreases-loop
-flags-requires c κs = (c.before.before.before.before.before.before.requires, small c)
+flags-requires : tie.Need-flags-requires invariant-loop-m decreases-loop-m
+flags-requires c κs = (c.requires, small c)
 
-flag-requires : tie.Need-flag-requires invariant-loop decreases-loop
+flag-requires : tie.Need-flag-requires invariant-loop-m decreases-loop-m
 flag-requires c κs = (omega arith)
 
-returns : tie.Need-returns invariant-loop decreases-loop
+returns-then-flag : tie.Need-returns-then-flag invariant-loop-m decreases-loop-m
 unfolding relaxed graph_in module_of
-returns c = relaxed-stop (modules_in c.before.before.before.before.before.before.before.before.before.args.numbers.now) c.before.before.before.before.before.loop.m c.before.before.before.before.before.loop.invariant.1 (listed c.before.before.before) _ c.before.before.flags.ensures c.before.flag.ensures c.if2.true
+returns-then-flag c = relaxed-stop (modules_in c.args.numbers.now) c.loop-m.m c.loop-m.invariant.1 (listed c.before.before.before) _ c.flags.ensures c.flag.ensures c.if-flag.true
 
-add-m : tie.Need-overflow-add-m invariant-loop decreases-loop
-add-m c = record { fits = omega (arith, small c.before.before.before, c.before.before.before.before.before.before.before.before.before.requires.few_modules) }
+overflow_add-m : tie.Need-overflow_add-m invariant-loop-m decreases-loop-m
+overflow_add-m c = record { fits = omega (arith, small c.before.before.before, c.requires.few_modules) }
 
-loop-less : tie.Need-loop-smaller invariant-loop decreases-loop
-loop-less c = omega (arith, c.before.before.before.if1.true)
+loop-m-smaller : tie.Need-loop-m-smaller invariant-loop-m decreases-loop-m
+loop-m-smaller c = omega (arith, c.loop-m-test.true)
 
-loop-again : tie.Need-loop-preserved invariant-loop decreases-loop
+loop-m-preserved : tie.Need-loop-m-preserved invariant-loop-m decreases-loop-m
 unfolding graph_in module_of
-loop-again c = (omega (arith, c.before.before.before.if1.true), relaxed-on (modules_in c.before.before.before.before.before.before.before.before.before.args.numbers.now) c.before.before.before.before.before.loop.m c.before.before.before.before.before.loop.invariant.1 (listed c.before.before.before) _ c.before.before.flags.ensures c.before.flag.ensures c.if2.false)
+loop-m-preserved c = (omega (arith, c.loop-m-test.true), relaxed-on (modules_in c.args.numbers.now) c.loop-m.m c.loop-m.invariant.1 (listed c.before.before.before) _ c.flags.ensures c.flag.ensures c.if-flag.false)
 
-returns-2 : tie.Need-returns-2 invariant-loop decreases-loop
+returns : tie.Need-returns invariant-loop-m decreases-loop-m
 unfolding relaxed graph_in
-returns-2 c = relaxed_end (modules_in c.before.before.before.before.before.before.args.numbers.now) c.before.before.loop.m c.before.before.loop.invariant.1 (omega (arith, modules_long _ _ c.before.before.before.before.before.before.requires.of_modules, c.if1.false, ap (λ q. q.modules) c.before.before.before.header_of.ensures))
+returns c = relaxed_end (modules_in c.args.numbers.now) c.loop-m.m c.loop-m.invariant.1 (omega (arith, modules_long _ _ c.requires.of_modules, c.loop-m-test.false, ap (λ q. q.modules) c.header_of-h.ensures))
 
-pub relaxed-spec : {M : Type 1} → statement M
-relaxed-spec =
+pub relaxed_spec : {M : Type 1} → statement M
+relaxed_spec =
     tie.close
     (tie.spec
-    invariant-loop
-    decreases-loop
-    header-of-requires
-    loop-holds
+    invariant-loop-m
+    decreases-loop-m
+    header_of-h-requires
+    loop-m-init
     flags-requires
     flag-requires
-    returns
-    add-m
-    loop-less
-    loop-again
-    returns-2)
+    returns-then-flag
+    overflow_add-m
+    loop-m-smaller
+    loop-m-preserved
+    returns)

@@ -9,77 +9,73 @@ use Rattle.determine_side_effects.proofs.Reading.{scan_over, scan-hit, scan-on}
 use Rattle.determine_side_effects.proofs.rescanned.Statement.{statement}
 use Rattle.determine_side_effects.proofs.rescanned.Tie as tie
 
-abbrev invariant-loop : tie.invariant-loop
-invariant-loop numbers tables m all scanned i₀ i = (i ≤ all) × (some (λ x. flag 1 (statement_bits x)) (drop i (take (scan_statement_count (module_of (graph_in numbers) m.0)) (statement_list (graph_in numbers) m.0))) ≡ some (λ x. flag 1 (statement_bits x)) (take (scan_statement_count (module_of (graph_in numbers) m.0)) (statement_list (graph_in numbers) m.0)))
+abbrev invariant-loop-i : tie.invariant-loop-i
+invariant-loop-i numbers tables m all scanned i₀ i = (i ≤ all) × (some (λ x. flag 1 (statement_bits x)) (drop i (take (scan_statement_count (module_of (graph_in numbers) m.0)) (statement_list (graph_in numbers) m.0))) ≡ some (λ x. flag 1 (statement_bits x)) (take (scan_statement_count (module_of (graph_in numbers) m.0)) (statement_list (graph_in numbers) m.0)))
 
-abbrev decreases-loop : tie.decreases-loop
-decreases-loop numbers tables m all scanned i₀ i = all - i
+abbrev decreases-loop-i : tie.decreases-loop-i
+decreases-loop-i numbers tables m all scanned i₀ i = all - i
 
 -- statement i is one of the module's
-listed : (c : tie.In-loop invariant-loop decreases-loop) → c.before.loop.i < length (statement_list (graph_in c.before.before.before.before.before.before.args.numbers.now) c.before.before.before.before.before.before.args.m.0)
-listed c = omega (arith, c.loop-test.true, c.before.before.before.statement-count.ensures.0)
+listed : (c : tie.In-loop-i invariant-loop-i decreases-loop-i) → c.loop-i.i < length (statement_list (graph_in c.args.numbers.now) c.args.m.0)
+listed c = omega (arith, c.loop-i-test.true, c.statement_count-all.ensures.0)
 
-statement-count-requires : tie.Need-statement-count-requires invariant-loop decreases-loop
-statement-count-requires c κs = c.before.before.requires
+statement_count-all-requires : tie.Need-statement_count-all-requires invariant-loop-i decreases-loop-i
+statement_count-all-requires c κs = c.requires
 
-scan-statement-count-requires : tie.Need-scan-statement-count-requires invariant-loop decreases-loop
-scan-statement-count-requires c κs = c.before.before.before.requires
+scan_statement_count-scanned-requires : tie.Need-scan_statement_count-scanned-requires invariant-loop-i decreases-loop-i
+scan_statement_count-scanned-requires c κs = c.requires
 
-loop-holds : tie.Need-loop-init invariant-loop decreases-loop
-loop-holds c = (omega arith, refl)
+loop-i-init : tie.Need-loop-i-init invariant-loop-i decreases-loop-i
+loop-i-init c = (omega arith, refl)
 
-returns : tie.Need-returns invariant-loop decreases-loop
-returns c =
-    let s = c.before.before.before.before.before.before.before in
-    let g = graph_in s.args.numbers.now in
-    let m = s.args.m.0 in
-    scan_over g m c.before.before.loop.i c.before.before.loop.invariant.1 (omega (arith, length-take (scan_statement_count (module_of g m)) (statement_list g m), c.if1.true, c.before.before.before.scan-statement-count.ensures))
+returns-then-i-scanned : tie.Need-returns-then-i-scanned invariant-loop-i decreases-loop-i
+returns-then-i-scanned c =
+    let g = graph_in c.args.numbers.now in
+    let m = c.args.m.0 in
+    scan_over g m c.loop-i.i c.loop-i.invariant.1 (omega (arith, length-take (scan_statement_count (module_of g m)) (statement_list g m), c.if-i-scanned.true, c.scan_statement_count-scanned.ensures))
 
-bits-requires : tie.Need-bits-requires invariant-loop decreases-loop
-bits-requires c κs = (c.before.before.before.before.before.before.before.requires.0, (c.before.before.before.before.before.before.before.requires.1, listed c.before))
+bits-requires : tie.Need-bits-requires invariant-loop-i decreases-loop-i
+bits-requires c κs = (c.requires.0, (c.requires.1, listed c.before))
 
-flag-requires : tie.Need-flag-requires invariant-loop decreases-loop
+flag-requires : tie.Need-flag-requires invariant-loop-i decreases-loop-i
 flag-requires c κs = (omega arith)
 
-returns-2 : tie.Need-returns-2 invariant-loop decreases-loop
+returns-then-flag : tie.Need-returns-then-flag invariant-loop-i decreases-loop-i
 unfolding statement_of
-returns-2 c =
-    let s = c.before.before.before.before.before.before.before.before.before.before in
-    scan-hit (graph_in s.args.numbers.now) s.args.m.0 c.before.before.before.before.before.loop.i c.before.before.before.before.before.loop.invariant.1 (omega (arith, c.before.before.before.if1.false, c.before.before.before.before.before.before.scan-statement-count.ensures)) (listed c.before.before.before.before) (c.before.flag.ensures ∙ ap (λ x. flag 1 x) c.before.before.bits.ensures) c.if2.true
+returns-then-flag c =
+    scan-hit (graph_in c.args.numbers.now) c.args.m.0 c.loop-i.i c.loop-i.invariant.1 (omega (arith, c.if-i-scanned.false, c.scan_statement_count-scanned.ensures)) (listed c.before.before.before.before) (c.flag.ensures ∙ ap (λ x. flag 1 x) c.bits.ensures) c.if-flag.true
 
-add-i : tie.Need-overflow-add-i invariant-loop decreases-loop
-add-i c = record { fits = omega (arith, c.before.before.before.before.loop-test.true, c.before.before.before.before.before.before.before.statement-count.ensures.1) }
+overflow_add-i : tie.Need-overflow_add-i invariant-loop-i decreases-loop-i
+overflow_add-i c = record { fits = omega (arith, c.loop-i-test.true, c.statement_count-all.ensures.1) }
 
-loop-less : tie.Need-loop-smaller invariant-loop decreases-loop
-loop-less c = omega (arith, c.before.before.before.before.loop-test.true)
+loop-i-smaller : tie.Need-loop-i-smaller invariant-loop-i decreases-loop-i
+loop-i-smaller c = omega (arith, c.loop-i-test.true)
 
-loop-again : tie.Need-loop-preserved invariant-loop decreases-loop
+loop-i-preserved : tie.Need-loop-i-preserved invariant-loop-i decreases-loop-i
 unfolding statement_of
-loop-again c =
-    let s = c.before.before.before.before.before.before.before.before.before.before in
-    (omega (arith, c.before.before.before.before.loop-test.true), scan-on (graph_in s.args.numbers.now) s.args.m.0 c.before.before.before.before.before.loop.i c.before.before.before.before.before.loop.invariant.1 (omega (arith, c.before.before.before.if1.false, c.before.before.before.before.before.before.scan-statement-count.ensures)) (listed c.before.before.before.before) (c.before.flag.ensures ∙ ap (λ x. flag 1 x) c.before.before.bits.ensures) c.if2.false)
+loop-i-preserved c =
+    (omega (arith, c.loop-i-test.true), scan-on (graph_in c.args.numbers.now) c.args.m.0 c.loop-i.i c.loop-i.invariant.1 (omega (arith, c.if-i-scanned.false, c.scan_statement_count-scanned.ensures)) (listed c.before.before.before.before) (c.flag.ensures ∙ ap (λ x. flag 1 x) c.bits.ensures) c.if-flag.false)
 
-returns-3 : tie.Need-returns-3 invariant-loop decreases-loop
-returns-3 c =
-    let s = c.before.before.before.before.before.before in
-    let g = graph_in s.args.numbers.now in
-    let m = s.args.m.0 in
-    scan_over g m c.before.loop.i c.before.loop.invariant.1 (omega (arith, length-take (scan_statement_count (module_of g m)) (statement_list g m), c.loop-test.false, c.before.before.before.statement-count.ensures.0))
+returns : tie.Need-returns invariant-loop-i decreases-loop-i
+returns c =
+    let g = graph_in c.args.numbers.now in
+    let m = c.args.m.0 in
+    scan_over g m c.loop-i.i c.loop-i.invariant.1 (omega (arith, length-take (scan_statement_count (module_of g m)) (statement_list g m), c.loop-i-test.false, c.statement_count-all.ensures.0))
 
-pub rescanned-spec : {M : Type 1} → statement M
-rescanned-spec =
+pub rescanned_spec : {M : Type 1} → statement M
+rescanned_spec =
     tie.close
     (tie.spec
-    invariant-loop
-    decreases-loop
-    statement-count-requires
-    scan-statement-count-requires
-    loop-holds
-    returns
+    invariant-loop-i
+    decreases-loop-i
+    statement_count-all-requires
+    scan_statement_count-scanned-requires
+    loop-i-init
+    returns-then-i-scanned
     bits-requires
     flag-requires
-    returns-2
-    add-i
-    loop-less
-    loop-again
-    returns-3)
+    returns-then-flag
+    overflow_add-i
+    loop-i-smaller
+    loop-i-preserved
+    returns)

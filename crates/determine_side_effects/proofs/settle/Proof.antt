@@ -11,70 +11,70 @@ use Rattle.determine_side_effects.proofs.Reading.{passes_turn, passes_stop, pass
 use Rattle.determine_side_effects.proofs.settle.Statement.{statement}
 use Rattle.determine_side_effects.proofs.settle.Tie as tie
 
-abbrev invariant-loop : tie.invariant-loop
-invariant-loop numbers tables₀ left₀ tables left = Kept (start_of (header_in numbers) at_verdicts) tables₀ tables × (passes (graph_in numbers) left (verdicts_in tables) ≡ passes (graph_in numbers) left₀ (verdicts_in tables₀))
+abbrev invariant-loop-left : tie.invariant-loop-left
+invariant-loop-left numbers tables₀ left₀ tables left = Kept (start_of (header_in numbers) at_verdicts) tables₀ tables × (passes (graph_in numbers) left (verdicts_in tables) ≡ passes (graph_in numbers) left₀ (verdicts_in tables₀))
 
-abbrev decreases-loop : tie.decreases-loop
-decreases-loop numbers tables₀ left₀ tables left = left
+abbrev decreases-loop-left : tie.decreases-loop-left
+decreases-loop-left numbers tables₀ left₀ tables left = left
 
 -- as many passes as there are modules
-whole : (c : tie.After-header-of invariant-loop decreases-loop) → passes (graph_in c.before.before.before.args.numbers.now) c.header_of.result.modules (verdicts_in c.before.before.before.args.tables.now) ≡ settle (graph_in c.before.before.before.args.numbers.now) (verdicts_in c.before.before.before.args.tables.now)
+whole : (c : tie.After-header_of-h invariant-loop-left decreases-loop-left) → passes (graph_in c.args.numbers.now) c.header_of-h.result.modules (verdicts_in c.args.tables.now) ≡ settle (graph_in c.args.numbers.now) (verdicts_in c.args.tables.now)
 unfolding settle graph_in
-whole c = ap (λ q. passes (graph_in c.before.before.before.args.numbers.now) q.modules (verdicts_in c.before.before.before.args.tables.now)) c.header_of.ensures
+whole c = ap (λ q. passes (graph_in c.args.numbers.now) q.modules (verdicts_in c.args.tables.now)) c.header_of-h.ensures
 
-header-of-requires : tie.Need-header-of-requires invariant-loop decreases-loop
-header-of-requires c κs = c.before.before.requires.loaded.long
+header_of-h-requires : tie.Need-header_of-h-requires invariant-loop-left decreases-loop-left
+header_of-h-requires c κs = c.requires.loaded.long
 
-loop-holds : tie.Need-loop-init invariant-loop decreases-loop
-loop-holds c = (kept_none, refl)
+loop-left-init : tie.Need-loop-left-init invariant-loop-left decreases-loop-left
+loop-left-init c = (kept_none, refl)
 
-sub-left : tie.Need-overflow-sub-left invariant-loop decreases-loop
-sub-left c = c.loop-test.true
+overflow_sub-left : tie.Need-overflow_sub-left invariant-loop-left decreases-loop-left
+overflow_sub-left c = c.loop-left-test.true
 
-pass-requires : tie.Need-pass-requires invariant-loop decreases-loop
-pass-requires c κs = verdicts_kept c.before.before.before.before.before.before.requires c.before.before.loop.invariant.0
+pass-requires : tie.Need-pass-requires invariant-loop-left decreases-loop-left
+pass-requires c κs = verdicts_kept c.requires c.loop-left.invariant.0
 
-same_length : tie.Need-same-length invariant-loop decreases-loop
-same_length c = (kept_both c.before.before.before.before.before.before.loop.invariant.0 c.before.before.before.pass.ensures.2).same_length
+shape_of-tables-then-not-pass : tie.Need-shape_of-tables-then-not-pass invariant-loop-left decreases-loop-left
+shape_of-tables-then-not-pass c = (kept_both c.loop-left.invariant.0 c.pass.ensures.2).same_length
 
-returns : tie.Need-returns invariant-loop decreases-loop
+returns-then-not-pass : tie.Need-returns-then-not-pass invariant-loop-left decreases-loop-left
 unfolding graph_in
+returns-then-not-pass c =
+    let i = c.loop-left.invariant in
+    let e = c.pass.ensures in
+    (passes_stop _ _ _ c.loop-left-test.true _ e.0 (e.1 (not_true _ c.if-not-pass.true)) ∙ i.1 ∙ whole c.before.before.before.before.before.before.before, kept_both i.0 e.2)
+
+loop-left-smaller : tie.Need-loop-left-smaller invariant-loop-left decreases-loop-left
+loop-left-smaller c = omega (arith, c.loop-left-test.true)
+
+loop-left-preserved : tie.Need-loop-left-preserved invariant-loop-left decreases-loop-left
+unfolding graph_in
+loop-left-preserved c =
+    let i = c.loop-left.invariant in
+    let e = c.pass.ensures in
+    (kept_both i.0 e.2, passes_turn _ _ _ c.loop-left-test.true _ e.0 ∙ i.1)
+
+shape_of-tables : tie.Need-shape_of-tables invariant-loop-left decreases-loop-left
+shape_of-tables c = c.loop-left.invariant.0.same_length
+
+returns : tie.Need-returns invariant-loop-left decreases-loop-left
 returns c =
-    let i = c.before.before.before.before.before.before.loop.invariant in
-    let e = c.before.before.before.pass.ensures in
-    (passes_stop _ _ _ c.before.before.before.before.before.loop-test.true _ e.0 (e.1 (not_true _ c.if1.true)) ∙ i.1 ∙ whole c.before.before.before.before.before.before.before, kept_both i.0 e.2)
+    let i = c.loop-left.invariant in
+    (passes_done _ _ _ _ c.loop-left-test.false i.1 ∙ whole c.before.before, i.0)
 
-loop-less : tie.Need-loop-smaller invariant-loop decreases-loop
-loop-less c = omega (arith, c.before.before.before.before.before.loop-test.true)
-
-loop-again : tie.Need-loop-preserved invariant-loop decreases-loop
-unfolding graph_in
-loop-again c =
-    let i = c.before.before.before.before.before.before.loop.invariant in
-    let e = c.before.before.before.pass.ensures in
-    (kept_both i.0 e.2, passes_turn _ _ _ c.before.before.before.before.before.loop-test.true _ e.0 ∙ i.1)
-
-same-length-2 : tie.Need-same-length-2 invariant-loop decreases-loop
-same-length-2 c = c.before.loop.invariant.0.same_length
-
-returns-2 : tie.Need-returns-2 invariant-loop decreases-loop
-returns-2 c =
-    let i = c.before.loop.invariant in
-    (passes_done _ _ _ _ c.loop-test.false i.1 ∙ whole c.before.before, i.0)
-
-pub settle-spec : {M : Type 1} → statement M
-settle-spec =
+pub settle_spec : {M : Type 1} → statement M
+settle_spec =
     tie.close
     (tie.spec
-    invariant-loop
-    decreases-loop
-    header-of-requires
-    loop-holds
-    sub-left
+    invariant-loop-left
+    decreases-loop-left
+    header_of-h-requires
+    loop-left-init
+    overflow_sub-left
     pass-requires
-    same_length
-    returns
-    loop-less
-    loop-again
-    same-length-2
-    returns-2)
+    shape_of-tables-then-not-pass
+    returns-then-not-pass
+    loop-left-smaller
+    loop-left-preserved
+    shape_of-tables
+    returns)

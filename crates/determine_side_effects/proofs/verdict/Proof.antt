@@ -7,24 +7,24 @@ use Rattle.determine_side_effects.proofs.InSection.{word_fits, verdicts_long}
 use Rattle.determine_side_effects.proofs.verdict.Statement.{statement}
 use Rattle.determine_side_effects.proofs.verdict.Tie as tie
 
-section-requires : tie.Need-section-requires
-section-requires c κs = inside c.before.before.requires.0.laid 5 (omega arith)
+section-verdicts-requires : tie.Need-section-verdicts-requires
+section-verdicts-requires c κs = inside c.requires.0.laid 5 (omega arith)
 
-mul-result : tie.Need-overflow-mul-result
+offset_bounds-verdicts-i : tie.Need-offset_bounds-verdicts-i
 unfolding sizes
-mul-result c = record { fits = omega (arith, word_fits c.before.before.before.requires.0.laid 5 (omega arith) kept_none c.before.before.before.args.m.0 c.before.before.before.requires.1, c.before.before.before.requires.0.laid.few) }
+offset_bounds-verdicts-i c = record { fits = omega (arith, word_fits c.requires.0.laid 5 (omega arith) kept_none c.args.m.0 c.requires.1, c.requires.0.laid.few) }
 
-shared-slice-read-result : tie.Need-shared-slice-read-result
-shared-slice-read-result c = omega (arith, ap length c.before.section.ensures, verdicts_long c.before.before.before.before.requires.0.laid, c.before.before.before.before.requires.1)
+bounds-verdicts-i : tie.Need-bounds-verdicts-i
+bounds-verdicts-i c = omega (arith, ap length c.section-verdicts.ensures, verdicts_long c.requires.0.laid, c.requires.1)
 
 returns : tie.Need-returns
-returns c = ap (λ v. get_or v c.before.before.before.before.args.m.0 0) (c.before.section.ensures ∙ c.before.before.before.before.requires.0.are_last)
+returns c = ap (λ v. get_or v c.args.m.0 0) (c.section-verdicts.ensures ∙ c.requires.0.are_last)
 
-pub verdict-spec : {M : Type 1} → statement M
-verdict-spec =
+pub verdict_spec : {M : Type 1} → statement M
+verdict_spec =
     tie.close
     (tie.spec
-    section-requires
-    mul-result
-    shared-slice-read-result
+    section-verdicts-requires
+    offset_bounds-verdicts-i
+    bounds-verdicts-i
     returns)

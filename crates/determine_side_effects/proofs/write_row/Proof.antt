@@ -15,81 +15,81 @@ use Rattle.determine_side_effects.proofs.Reading.{fill_start, fill_step}
 use Rattle.determine_side_effects.proofs.write_row.Statement.{statement}
 use Rattle.determine_side_effects.proofs.write_row.Tie as tie
 
-abbrev invariant-loop : tie.invariant-loop
-invariant-loop numbers tables row₀ verdicts count m₀ row m = (m ≤ count) × (length row ≡ length row₀) × (row ≡ tabulate (λ i. get_or verdicts i 0) 0 m ++ drop m row₀)
+abbrev invariant-loop-m : tie.invariant-loop-m
+invariant-loop-m numbers tables row₀ verdicts count m₀ row m = (m ≤ count) × (length row ≡ length row₀) × (row ≡ tabulate (λ i. get_or verdicts i 0) 0 m ++ drop m row₀)
 
-abbrev decreases-loop : tie.decreases-loop
-decreases-loop numbers tables row₀ verdicts count m₀ row m = count - m
+abbrev decreases-loop-m : tie.decreases-loop-m
+decreases-loop-m numbers tables row₀ verdicts count m₀ row m = count - m
 
 -- the slice that is read holds the last verdicts, one for each module
-last : (c : tie.After-section invariant-loop decreases-loop) → c.section.result.now ≡ last_verdicts (graph_in c.before.before.before.before.args.numbers.now)
-last c = c.section.ensures ∙ c.before.before.before.before.requires.0.1
+last : (c : tie.After-section-verdicts invariant-loop-m decreases-loop-m) → c.section-verdicts.result.now ≡ last_verdicts (graph_in c.args.numbers.now)
+last c = c.section-verdicts.ensures ∙ c.requires.0.1
 
-long : (c : tie.After-section invariant-loop decreases-loop) → length c.section.result.now ≡ (header_in c.before.before.before.before.args.numbers.now).modules
-long c = ap length c.section.ensures ∙ verdicts_long c.before.before.before.before.requires.0.0.laid
+long : (c : tie.After-section-verdicts invariant-loop-m decreases-loop-m) → length c.section-verdicts.result.now ≡ (header_in c.args.numbers.now).modules
+long c = ap length c.section-verdicts.ensures ∙ verdicts_long c.requires.0.0.laid
 
-section-requires : tie.Need-section-requires invariant-loop decreases-loop
-section-requires c κs = inside c.before.before.before.requires.0.0.laid 5 (omega arith)
+section-verdicts-requires : tie.Need-section-verdicts-requires invariant-loop-m decreases-loop-m
+section-verdicts-requires c κs = inside c.requires.0.0.laid 5 (omega arith)
 
-loop-holds : tie.Need-loop-init invariant-loop decreases-loop
-loop-holds c = (omega arith, refl, fill_start _ _)
+loop-m-init : tie.Need-loop-m-init invariant-loop-m decreases-loop-m
+loop-m-init c = (omega arith, refl, fill_start _ _)
 
-mul-narrow : tie.Need-overflow-mul-narrow invariant-loop decreases-loop
-mul-narrow c = record { fits = omega (arith, c.loop-test.true, long c.before.before, c.before.before.before.before.before.before.requires.0.0.loaded.few_modules) }
+offset_bounds-verdicts-m : tie.Need-offset_bounds-verdicts-m invariant-loop-m decreases-loop-m
+offset_bounds-verdicts-m c = record { fits = omega (arith, c.loop-m-test.true, long c.before.before, c.requires.0.0.loaded.few_modules) }
 
-shared-slice-read-narrow : tie.Need-shared-slice-read-narrow invariant-loop decreases-loop
-shared-slice-read-narrow c = c.before.loop-test.true
+bounds-verdicts-m : tie.Need-bounds-verdicts-m invariant-loop-m decreases-loop-m
+bounds-verdicts-m c = c.loop-m-test.true
 
-narrow-requires : tie.Need-narrow-requires invariant-loop decreases-loop
-narrow-requires c κs = (omega (arith, ap (λ v. get_or v c.before.before.loop.m 0) (last c.before.before.before), last_below c.before.before.before.before.before.before.before.requires.0.0.loaded c.before.before.loop.m))
+narrow-requires : tie.Need-narrow-requires invariant-loop-m decreases-loop-m
+narrow-requires c κs = (omega (arith, ap (λ v. get_or v c.loop-m.m 0) (last c.before.before.before), last_below c.requires.0.0.loaded c.loop-m.m))
 
-mul-row : tie.Need-overflow-mul-row invariant-loop decreases-loop
-mul-row c = record { fits = omega (arith, c.before.before.loop-test.true, long c.before.before.before.before, c.before.before.before.before.before.before.before.before.requires.0.0.loaded.few_modules) }
+offset_bounds-row-m : tie.Need-offset_bounds-row-m invariant-loop-m decreases-loop-m
+offset_bounds-row-m c = record { fits = omega (arith, c.loop-m-test.true, long c.before.before.before.before, c.requires.0.0.loaded.few_modules) }
 
-slice-write-row : tie.Need-slice-write-row invariant-loop decreases-loop
-slice-write-row c = omega (arith, c.before.before.loop-test.true, long c.before.before.before.before, c.before.before.before.before.before.before.before.before.requires.1, c.before.before.before.loop.invariant.1)
+bounds-row-m : tie.Need-bounds-row-m invariant-loop-m decreases-loop-m
+bounds-row-m c = omega (arith, c.loop-m-test.true, long c.before.before.before.before, c.requires.1, c.loop-m.invariant.1)
 
-add-m : tie.Need-overflow-add-m invariant-loop decreases-loop
-add-m c = record { fits = omega (arith, c.before.before.loop-test.true, long c.before.before.before.before, c.before.before.before.before.before.before.before.before.requires.0.0.loaded.few_modules) }
+overflow_add-m : tie.Need-overflow_add-m invariant-loop-m decreases-loop-m
+overflow_add-m c = record { fits = omega (arith, c.loop-m-test.true, long c.before.before.before.before, c.requires.0.0.loaded.few_modules) }
 
-loop-less : tie.Need-loop-smaller invariant-loop decreases-loop
-loop-less c = omega (arith, c.before.before.loop-test.true)
+loop-m-smaller : tie.Need-loop-m-smaller invariant-loop-m decreases-loop-m
+loop-m-smaller c = omega (arith, c.loop-m-test.true)
 
-loop-again : tie.Need-loop-preserved invariant-loop decreases-loop
-loop-again c =
-    let i = c.before.before.before.loop.invariant in (
-      omega (arith, c.before.before.loop-test.true),
-      length-set c.before.before.before.loop.row c.before.before.before.loop.m c.narrow.result ∙ i.1,
-      fill_step _ _ _ c.before.before.before.loop.m _ i.2 (omega (arith, c.before.before.loop-test.true, long c.before.before.before.before, c.before.before.before.before.before.before.before.before.requires.1)) c.narrow.ensures,
+loop-m-preserved : tie.Need-loop-m-preserved invariant-loop-m decreases-loop-m
+loop-m-preserved c =
+    let i = c.loop-m.invariant in (
+      omega (arith, c.loop-m-test.true),
+      length-set c.loop-m.row c.loop-m.m c.narrow.result ∙ i.1,
+      fill_step _ _ _ c.loop-m.m _ i.2 (omega (arith, c.loop-m-test.true, long c.before.before.before.before, c.requires.1)) c.narrow.ensures,
     )
 
-same_length : tie.Need-same-length invariant-loop decreases-loop
-same_length c = c.before.loop.invariant.1
+shape_of-row : tie.Need-shape_of-row invariant-loop-m decreases-loop-m
+shape_of-row c = c.loop-m.invariant.1
 
-returns : tie.Need-returns invariant-loop decreases-loop
+returns : tie.Need-returns invariant-loop-m decreases-loop-m
 returns c =
-    let i = c.before.loop.invariant in
-    let z : c.before.loop.m ≡ length c.before.before.section.result.now = omega (arith, c.loop-test.false, i.0) in
+    let i = c.loop-m.invariant in
+    let z : c.loop-m.m ≡ length c.section-verdicts.result.now = omega (arith, c.loop-m-test.false, i.0) in
     i.2
-    ∙ ap (λ k. tabulate (λ j. get_or c.before.before.section.result.now j 0) 0 k ++ drop k c.before.before.before.before.before.before.args.row.now) z
-    ∙ ap (λ v. v ++ drop (length c.before.before.section.result.now) c.before.before.before.before.before.before.args.row.now) (tabulate_get_D c.before.before.section.result.now ∙ last c.before.before)
-    ∙ ap (λ k. last_verdicts (graph_in c.before.before.before.before.before.before.args.numbers.now) ++ drop k c.before.before.before.before.before.before.args.row.now) (long c.before.before)
+    ∙ ap (λ k. tabulate (λ j. get_or c.section-verdicts.result.now j 0) 0 k ++ drop k c.args.row.now) z
+    ∙ ap (λ v. v ++ drop (length c.section-verdicts.result.now) c.args.row.now) (tabulate_get_D c.section-verdicts.result.now ∙ last c.before.before)
+    ∙ ap (λ k. last_verdicts (graph_in c.args.numbers.now) ++ drop k c.args.row.now) (long c.before.before)
 
-pub write-row-spec : {M : Type 1} → statement M
-write-row-spec =
+pub write_row_spec : {M : Type 1} → statement M
+write_row_spec =
     tie.close
     (tie.spec
-    invariant-loop
-    decreases-loop
-    section-requires
-    loop-holds
-    mul-narrow
-    shared-slice-read-narrow
+    invariant-loop-m
+    decreases-loop-m
+    section-verdicts-requires
+    loop-m-init
+    offset_bounds-verdicts-m
+    bounds-verdicts-m
     narrow-requires
-    mul-row
-    slice-write-row
-    add-m
-    loop-less
-    loop-again
-    same_length
+    offset_bounds-row-m
+    bounds-row-m
+    overflow_add-m
+    loop-m-smaller
+    loop-m-preserved
+    shape_of-row
     returns)

@@ -3,103 +3,103 @@ use Rattle.drain_parts.proofs.InOrder.{partners_fit, tier_enough, tier_refused, 
 use Rattle.drain_parts.proofs.drain_in.Statement.{statement}
 use Rattle.drain_parts.proofs.drain_in.Tie as tie
 
-lengths-of-requires : tie.Need-lengths-of-requires
-lengths-of-requires c κs = _
+lengths_of-lengths-requires : tie.Need-lengths_of-lengths-requires
+lengths_of-lengths-requires c κs = _
 
-may-begin-requires : tie.Need-may-begin-requires
-may-begin-requires c κs = let s = c.before.before.before.before.before.before.before.before.before.before.before.before.before.before.before.before.before.before.before.before in (s.requires.0, s.requires.1.0)
+may_begin-requires : tie.Need-may_begin-requires
+may_begin-requires c κs = (c.requires.0, c.requires.1.0)
 
-enum-known-n : tie.Need-enum-known-n
-enum-known-n c = c.match.keys1
+enum_known-n : tie.Need-enum_known-n
+enum_known-n c = c.in-Refused.keys1
 
-enum_told : tie.Need-enum-told
-enum_told c = c.match.keys2
+enum_told-1 : tie.Need-enum_told-1
+enum_told-1 c = c.in-Accepted.keys2
 
-work-and-show-requires : tie.Need-work-and-show-requires
-work-and-show-requires c κs = let s = c.before.before.before.before.before.before.before.before.before.before.before.before.before.before.before.before.before.before.before.before.before.before.before.before.before.before.before.before.before.before.before.before.before.before.before in let g = c.before.before.before.before.before.before.before.before.before.before.before.before.before.before.may-begin.ensures in let e = c.before.before.before.before.before.before.before.before.before.before.enum_told.given.1 in (g.good e, ((partners_fit _ _ _ s.requires.0.is s.requires.1.1.0, s.requires.1.1.1), tier_enough _ _ _ _ _ _ c.before.before.before.before.before.before.before.before.before.before.before.before.before.before.before.before.lengths-of.ensures g e))
+work_and_show-requires : tie.Need-work_and_show-requires
+work_and_show-requires c κs = let g = c.may_begin.ensures in let e = c.in-Accepted.is in (g.good e, ((partners_fit _ _ _ c.requires.0.is c.requires.1.1.0, c.requires.1.1.1), tier_enough _ _ _ _ _ _ c.lengths_of-lengths.ensures g e))
 
-same_length : tie.Need-same-length
-same_length c = c.before.before.before.before.before.may-begin.auto.1.1.1.1.1.0
+shape_of-tables-in-Refused : tie.Need-shape_of-tables-in-Refused
+shape_of-tables-in-Refused c = c.may_begin.auto.1.1.1.1.1.0
 
-same-length-2 : tie.Need-same-length-2
-same-length-2 c = refl
+shape_of-modules_row-in-Refused : tie.Need-shape_of-modules_row-in-Refused
+shape_of-modules_row-in-Refused c = refl
 
-same-length-3 : tie.Need-same-length-3
-same-length-3 c = refl
+shape_of-statements_row-in-Refused : tie.Need-shape_of-statements_row-in-Refused
+shape_of-statements_row-in-Refused c = refl
 
-same-length-4 : tie.Need-same-length-4
-same-length-4 c = refl
+shape_of-used-in-Refused : tie.Need-shape_of-used-in-Refused
+shape_of-used-in-Refused c = refl
 
-same-length-5 : tie.Need-same-length-5
-same-length-5 c = refl
+shape_of-external-in-Refused : tie.Need-shape_of-external-in-Refused
+shape_of-external-in-Refused c = refl
 
-same-length-6 : tie.Need-same-length-6
-same-length-6 c = refl
+shape_of-json-in-Refused : tie.Need-shape_of-json-in-Refused
+shape_of-json-in-Refused c = refl
 
-same-length-7 : tie.Need-same-length-7
-same-length-7 c = refl
+shape_of-reason-in-Refused : tie.Need-shape_of-reason-in-Refused
+shape_of-reason-in-Refused c = refl
 
-returns : tie.Need-returns
-returns c = tier_refused _ _ _ _ _ _ c.before.before.before.before.before.before.before.lengths-of.ensures c.before.before.before.before.before.may-begin.ensures c.before.n.given.1
+returns-in-Refused : tie.Need-returns-in-Refused
+returns-in-Refused c = tier_refused _ _ _ _ _ _ c.lengths_of-lengths.ensures c.may_begin.ensures c.in-Refused.is
 
-same-length-8 : tie.Need-same-length-8
-same-length-8 c = c.before.before.before.before.before.before.before.before.before.before.before.before.before.before.before.before.before.before.before.before.before.before.before.before.before.before.before.before.before.before.before.before.before.may-begin.auto.1.1.1.1.1.0
+shape_of-tables-in-Accepted : tie.Need-shape_of-tables-in-Accepted
+shape_of-tables-in-Accepted c = c.may_begin.auto.1.1.1.1.1.0
 
-same-length-9 : tie.Need-same-length-9
-same-length-9 c = c.before.before.before.before.before.before.before.before.before.before.before.before.before.before.before.before.before.before.work-and-show.auto.1.1.1.0
+shape_of-partners : tie.Need-shape_of-partners
+shape_of-partners c = c.work_and_show.auto.1.1.1.0
 
-same-length-10 : tie.Need-same-length-10
-same-length-10 c = c.before.before.before.before.before.before.before.before.before.before.before.before.before.before.before.before.before.before.work-and-show.auto.1.1.1.1.0
+shape_of-marks : tie.Need-shape_of-marks
+shape_of-marks c = c.work_and_show.auto.1.1.1.1.0
 
-same-length-11 : tie.Need-same-length-11
-same-length-11 c = c.before.before.before.before.before.before.before.before.before.before.before.before.before.before.before.before.before.before.work-and-show.auto.1.1.1.1.1.0
+shape_of-lines : tie.Need-shape_of-lines
+shape_of-lines c = c.work_and_show.auto.1.1.1.1.1.0
 
-same-length-12 : tie.Need-same-length-12
-same-length-12 c = c.before.before.before.before.before.before.before.before.before.before.before.before.before.before.before.before.before.before.work-and-show.auto.1.1.1.1.1.1.0
+shape_of-modules_row-in-Accepted : tie.Need-shape_of-modules_row-in-Accepted
+shape_of-modules_row-in-Accepted c = c.work_and_show.auto.1.1.1.1.1.1.0
 
-same-length-13 : tie.Need-same-length-13
-same-length-13 c = c.before.before.before.before.before.before.before.before.before.before.before.before.before.before.before.before.before.before.work-and-show.auto.1.1.1.1.1.1.1.0
+shape_of-statements_row-in-Accepted : tie.Need-shape_of-statements_row-in-Accepted
+shape_of-statements_row-in-Accepted c = c.work_and_show.auto.1.1.1.1.1.1.1.0
 
-same-length-14 : tie.Need-same-length-14
-same-length-14 c = c.before.before.before.before.before.before.before.before.before.before.before.before.before.before.before.before.before.before.work-and-show.auto.1.1.1.1.1.1.1.1.0
+shape_of-used-in-Accepted : tie.Need-shape_of-used-in-Accepted
+shape_of-used-in-Accepted c = c.work_and_show.auto.1.1.1.1.1.1.1.1.0
 
-same-length-15 : tie.Need-same-length-15
-same-length-15 c = c.before.before.before.before.before.before.before.before.before.before.before.before.before.before.before.before.before.before.work-and-show.auto.1.1.1.1.1.1.1.1.1.0
+shape_of-external-in-Accepted : tie.Need-shape_of-external-in-Accepted
+shape_of-external-in-Accepted c = c.work_and_show.auto.1.1.1.1.1.1.1.1.1.0
 
-same-length-16 : tie.Need-same-length-16
-same-length-16 c = c.before.before.before.before.before.before.before.before.before.before.before.before.before.before.before.before.before.before.work-and-show.auto.1.1.1.1.1.1.1.1.1.1.0
+shape_of-json-in-Accepted : tie.Need-shape_of-json-in-Accepted
+shape_of-json-in-Accepted c = c.work_and_show.auto.1.1.1.1.1.1.1.1.1.1.0
 
-same-length-17 : tie.Need-same-length-17
-same-length-17 c = c.before.before.before.before.before.before.before.before.before.before.before.before.before.before.before.before.before.before.work-and-show.auto.1.1.1.1.1.1.1.1.1.1.1.0
+shape_of-reason-in-Accepted : tie.Need-shape_of-reason-in-Accepted
+shape_of-reason-in-Accepted c = c.work_and_show.auto.1.1.1.1.1.1.1.1.1.1.1.0
 
-returns-2 : tie.Need-returns-2
-returns-2 c = tier_worked _ _ _ _ _ _ c.before.before.before.before.before.before.before.before.before.before.before.before.before.before.before.before.before.before.before.before.before.before.before.before.before.before.before.before.before.before.before.before.before.before.before.lengths-of.ensures c.before.before.before.before.before.before.before.before.before.before.before.before.before.before.before.before.before.before.before.before.before.before.before.before.before.before.before.before.before.before.before.before.before.may-begin.ensures c.before.before.before.before.before.before.before.before.before.before.before.before.before.before.before.before.before.before.before.before.before.before.before.before.before.before.before.before.before.enum_told.given.1 c.before.before.before.before.before.before.before.before.before.before.before.before.before.before.before.before.before.before.work-and-show.ensures
+returns-in-Accepted : tie.Need-returns-in-Accepted
+returns-in-Accepted c = tier_worked _ _ _ _ _ _ c.lengths_of-lengths.ensures c.may_begin.ensures c.in-Accepted.is c.work_and_show.ensures
 
-pub drain-in-spec : {M : Type 1} → statement M
-drain-in-spec =
+pub drain_in_spec : {M : Type 1} → statement M
+drain_in_spec =
     tie.close
     (tie.spec
-    lengths-of-requires
-    may-begin-requires
-    enum-known-n
-    enum_told
-    work-and-show-requires
-    same_length
-    same-length-2
-    same-length-3
-    same-length-4
-    same-length-5
-    same-length-6
-    same-length-7
-    returns
-    same-length-8
-    same-length-9
-    same-length-10
-    same-length-11
-    same-length-12
-    same-length-13
-    same-length-14
-    same-length-15
-    same-length-16
-    same-length-17
-    returns-2)
+    lengths_of-lengths-requires
+    may_begin-requires
+    enum_known-n
+    enum_told-1
+    work_and_show-requires
+    shape_of-tables-in-Refused
+    shape_of-modules_row-in-Refused
+    shape_of-statements_row-in-Refused
+    shape_of-used-in-Refused
+    shape_of-external-in-Refused
+    shape_of-json-in-Refused
+    shape_of-reason-in-Refused
+    returns-in-Refused
+    shape_of-tables-in-Accepted
+    shape_of-partners
+    shape_of-marks
+    shape_of-lines
+    shape_of-modules_row-in-Accepted
+    shape_of-statements_row-in-Accepted
+    shape_of-used-in-Accepted
+    shape_of-external-in-Accepted
+    shape_of-json-in-Accepted
+    shape_of-reason-in-Accepted
+    returns-in-Accepted)

@@ -7,82 +7,82 @@ use Rattle.drain_parts.proofs.may_begin.Statement.{statement}
 use Rattle.drain_parts.proofs.may_begin.Tie as tie
 
 ready-requires : tie.Need-ready-requires
-ready-requires c κs = c.before.before.before.before.requires
+ready-requires c κs = c.requires
 
-enum-known-n : tie.Need-enum-known-n
-enum-known-n c = c.match.keys1
+enum_known-n : tie.Need-enum_known-n
+enum_known-n c = c.in-Refused.keys1
 
-enum_told : tie.Need-enum-told
-enum_told c = c.match.keys2
+enum_told-1 : tie.Need-enum_told-1
+enum_told-1 c = c.in-Accepted.keys2
 
 check-requires : tie.Need-check-requires
-check-requires c κs = (c.before.before.before.before.before.ready.ensures.1.known c.before.enum_told.given.1).0.loaded
+check-requires c κs = (c.ready.ensures.1.known c.in-Accepted.is).0.loaded
 
-enum-known-n-2 : tie.Need-enum-known-n-2
-enum-known-n-2 c = c.match2.keys1
+enum_known-n-in-Fault-1 : tie.Need-enum_known-n-in-Fault-1
+enum_known-n-in-Fault-1 c = c.in-Fault.keys1
 
-enum-told-2 : tie.Need-enum-told-2
-enum-told-2 c = c.match2.keys2
+enum_told-in-At : tie.Need-enum_told-in-At
+enum_told-in-At c = c.in-At.keys2
 
-mark-count-requires : tie.Need-mark-count-requires
-mark-count-requires c κs = (c.before.before.before.before.before.before.before.before.before.ready.ensures.1.known c.before.before.before.before.before.enum_told.given.1).0.loaded
+mark_count-requires : tie.Need-mark_count-requires
+mark_count-requires c κs = (c.ready.ensures.1.known c.in-Accepted.is).0.loaded
 
-bytes-for-requires : tie.Need-bytes-for-requires
-bytes-for-requires c κs = omega (arith, c.mark-count.ensures, few_marks _ _ (c.before.before.before.before.before.before.before.before.before.before.ready.ensures.1.known c.before.before.before.before.before.before.enum_told.given.1).0.loaded)
+bytes_for-requires : tie.Need-bytes_for-requires
+bytes_for-requires c κs = omega (arith, c.mark_count.ensures, few_marks _ _ (c.ready.ensures.1.known c.in-Accepted.is).0.loaded)
 
-same_length : tie.Need-same-length
-same_length c = c.before.before.before.before.before.before.before.before.before.before.before.before.ready.auto.1.1.0
+shape_of-tables-then-marks-bytes_for : tie.Need-shape_of-tables-then-marks-bytes_for
+shape_of-tables-then-marks-bytes_for c = c.ready.auto.1.1.0
 
-returns : tie.Need-returns
-returns c = by-marks _ _ _ _ _ (sym c.before.before.before.before.before.before.before.before.before.before.before.before.ready.ensures.0 ∙ c.before.before.before.before.before.before.before.before.enum_told.given.1) (sym c.before.before.before.before.before.before.check.ensures.0 ∙ c.before.before.before.before.enum-told2.given.1) c.before.before.mark-count.ensures c.before.bytes-for.ensures c.if1.true
+returns-then-marks-bytes_for : tie.Need-returns-then-marks-bytes_for
+returns-then-marks-bytes_for c = by-marks _ _ _ _ _ (sym c.ready.ensures.0 ∙ c.in-Accepted.is) (sym c.check.ensures.0 ∙ c.in-At.is) c.mark_count.ensures c.bytes_for.ensures c.if-marks-bytes_for.true
 
-are-long-enough-requires : tie.Need-are-long-enough-requires
-are-long-enough-requires c κs = let p = c.before.before.before.before.before.before.before.before.before.before.before.before.before.ready.ensures.1.known c.before.before.before.before.before.before.before.before.before.enum_told.given.1 in (p.0.loaded, p.1)
+are_long_enough-requires : tie.Need-are_long_enough-requires
+are_long_enough-requires c κs = let p = c.ready.ensures.1.known c.in-Accepted.is in (p.0.loaded, p.1)
 
-same-length-2 : tie.Need-same-length-2
-same-length-2 c = c.before.before.before.before.before.before.before.before.before.before.before.before.before.before.before.ready.auto.1.1.0
+shape_of-tables-then-not-are_long_enough : tie.Need-shape_of-tables-then-not-are_long_enough
+shape_of-tables-then-not-are_long_enough c = c.ready.auto.1.1.0
 
-returns-2 : tie.Need-returns-2
-returns-2 c = by_rows _ _ _ _ _ (sym c.before.before.before.before.before.before.before.before.before.before.before.before.before.before.before.ready.ensures.0 ∙ c.before.before.before.before.before.before.before.before.before.before.before.enum_told.given.1) (sym c.before.before.before.before.before.before.before.before.before.check.ensures.0 ∙ c.before.before.before.before.before.before.before.enum-told2.given.1) c.before.before.before.before.before.mark-count.ensures c.before.before.before.before.bytes-for.ensures c.before.before.before.if1.false c.before.are-long-enough.ensures (not_true _ c.if2.true)
+returns-then-not-are_long_enough : tie.Need-returns-then-not-are_long_enough
+returns-then-not-are_long_enough c = by_rows _ _ _ _ _ (sym c.ready.ensures.0 ∙ c.in-Accepted.is) (sym c.check.ensures.0 ∙ c.in-At.is) c.mark_count.ensures c.bytes_for.ensures c.if-marks-bytes_for.false c.are_long_enough.ensures (not_true _ c.if-not-are_long_enough.true)
 
-same-length-3 : tie.Need-same-length-3
-same-length-3 c = c.before.before.before.before.before.ready.auto.1.1.0
+shape_of-tables-in-Refused : tie.Need-shape_of-tables-in-Refused
+shape_of-tables-in-Refused c = c.ready.auto.1.1.0
 
-returns-3 : tie.Need-returns-3
-returns-3 c = by_check _ _ _ _ _ (sym c.before.before.before.before.before.ready.ensures.0 ∙ c.before.n.given.1)
+returns-in-Refused : tie.Need-returns-in-Refused
+returns-in-Refused c = by_check _ _ _ _ _ (sym c.ready.ensures.0 ∙ c.in-Refused.is)
 
-same-length-4 : tie.Need-same-length-4
-same-length-4 c = c.before.before.before.before.before.before.before.before.before.ready.auto.1.1.0
+shape_of-tables-in-Fault : tie.Need-shape_of-tables-in-Fault
+shape_of-tables-in-Fault c = c.ready.auto.1.1.0
 
-returns-4 : tie.Need-returns-4
-returns-4 c = by-starts _ _ _ _ _ (sym c.before.before.before.before.before.before.before.before.before.ready.ensures.0 ∙ c.before.before.before.before.before.enum_told.given.1) (sym c.before.before.before.check.ensures.0 ∙ c.before.n2.given.1)
+returns-in-Fault : tie.Need-returns-in-Fault
+returns-in-Fault c = by-starts _ _ _ _ _ (sym c.ready.ensures.0 ∙ c.in-Accepted.is) (sym c.check.ensures.0 ∙ c.in-Fault.is)
 
-same-length-5 : tie.Need-same-length-5
-same-length-5 c = c.before.before.before.before.before.before.before.before.before.before.before.before.before.before.before.ready.auto.1.1.0
+shape_of-tables-else-not-are_long_enough : tie.Need-shape_of-tables-else-not-are_long_enough
+shape_of-tables-else-not-are_long_enough c = c.ready.auto.1.1.0
 
-returns-5 : tie.Need-returns-5
-returns-5 c = begins _ _ _ _ _ (sym c.before.before.before.before.before.before.before.before.before.before.before.before.before.before.before.ready.ensures.0 ∙ c.before.before.before.before.before.before.before.before.before.before.before.enum_told.given.1) (sym c.before.before.before.before.before.before.before.before.before.check.ensures.0 ∙ c.before.before.before.before.before.before.before.enum-told2.given.1) c.before.before.before.before.before.mark-count.ensures c.before.before.before.before.bytes-for.ensures c.before.before.before.if1.false c.before.are-long-enough.ensures (not-false _ c.if2.false) (c.before.before.before.before.before.before.before.before.before.before.before.before.before.before.before.ready.ensures.1.known c.before.before.before.before.before.before.before.before.before.before.before.enum_told.given.1) (c.before.before.before.before.before.before.before.before.before.check.ensures.1.known _ c.before.before.before.before.before.before.before.enum-told2.given.1)
+returns-else-not-are_long_enough : tie.Need-returns-else-not-are_long_enough
+returns-else-not-are_long_enough c = begins _ _ _ _ _ (sym c.ready.ensures.0 ∙ c.in-Accepted.is) (sym c.check.ensures.0 ∙ c.in-At.is) c.mark_count.ensures c.bytes_for.ensures c.if-marks-bytes_for.false c.are_long_enough.ensures (not-false _ c.if-not-are_long_enough.false) (c.ready.ensures.1.known c.in-Accepted.is) (c.check.ensures.1.known _ c.in-At.is)
 
-pub may-begin-spec : {M : Type 1} → statement M
-may-begin-spec =
+pub may_begin_spec : {M : Type 1} → statement M
+may_begin_spec =
     tie.close
     (tie.spec
     ready-requires
-    enum-known-n
-    enum_told
+    enum_known-n
+    enum_told-1
     check-requires
-    enum-known-n-2
-    enum-told-2
-    mark-count-requires
-    bytes-for-requires
-    same_length
-    returns
-    are-long-enough-requires
-    same-length-2
-    returns-2
-    same-length-3
-    returns-3
-    same-length-4
-    returns-4
-    same-length-5
-    returns-5)
+    enum_known-n-in-Fault-1
+    enum_told-in-At
+    mark_count-requires
+    bytes_for-requires
+    shape_of-tables-then-marks-bytes_for
+    returns-then-marks-bytes_for
+    are_long_enough-requires
+    shape_of-tables-then-not-are_long_enough
+    returns-then-not-are_long_enough
+    shape_of-tables-in-Refused
+    returns-in-Refused
+    shape_of-tables-in-Fault
+    returns-in-Fault
+    shape_of-tables-else-not-are_long_enough
+    returns-else-not-are_long_enough)

@@ -7,57 +7,57 @@ use Rattle.drain_parts.proofs.work.Tie as tie
 clear-requires : tie.Need-clear-requires
 clear-requires c κs = _
 
-drain-starts-requires : tie.Need-drain-starts-requires
+drain_starts-requires : tie.Need-drain_starts-requires
 unfolding graph_in
-drain-starts-requires c κs = let s = c.before.before.before.before.before.before.before.before.before.before.before.before.before.before.before.before in (s.requires.0, (held_start _ s.args.marks.now s.args.lines.now _ _ s.requires.1.0.0 c.before.before.before.before.before.before.before.clear.ensures.0 c.before.before.before.before.before.before.before.clear.ensures.1, (linked_none _ _ s.requires.1.0.1 s.requires.1.0.2, s.requires.1.1)))
+drain_starts-requires c κs = (c.requires.0, (held_start _ c.args.marks.now c.args.lines.now _ _ c.requires.1.0.0 c.clear.ensures.0 c.clear.ensures.1, (linked_none _ _ c.requires.1.0.1 c.requires.1.0.2, c.requires.1.1)))
 
-enum_told : tie.Need-enum-told
-enum_told c = c.match.keys1
+enum_told-1 : tie.Need-enum_told-1
+enum_told-1 c = c.in-Full.keys1
 
-clear-requires-2 : tie.Need-clear-requires-2
-clear-requires-2 c κs = _
+clear-requires-in-Full : tie.Need-clear-requires-in-Full
+clear-requires-in-Full c κs = _
 
-enum-known-n : tie.Need-enum-known-n
-enum-known-n c = c.match.keys2
+enum_known-n : tie.Need-enum_known-n
+enum_known-n c = c.in-Lines.keys2
 
-same_length : tie.Need-same-length
-same_length c = c.before.before.before.before.before.before.before.before.before.before.before.before.before.before.before.drain-starts.auto.1.1.1.0
+shape_of-partners-in-Full : tie.Need-shape_of-partners-in-Full
+shape_of-partners-in-Full c = c.drain_starts.auto.1.1.1.0
 
-same-length-2 : tie.Need-same-length-2
-same-length-2 c = c.before.before.before.before.clear2.auto.0 ∙ (c.before.before.before.before.before.before.before.before.before.before.before.before.before.before.before.drain-starts.auto.1.1.1.1.0 ∙ c.before.before.before.before.before.before.before.before.before.before.before.before.before.before.before.before.before.before.before.before.before.before.before.clear.auto.0)
+shape_of-marks-in-Full : tie.Need-shape_of-marks-in-Full
+shape_of-marks-in-Full c = c.clear-in-Full.auto.0 ∙ (c.drain_starts.auto.1.1.1.1.0 ∙ c.clear.auto.0)
 
-same-length-3 : tie.Need-same-length-3
-same-length-3 c = c.before.before.before.before.clear2.auto.1.0 ∙ (c.before.before.before.before.before.before.before.before.before.before.before.before.before.before.before.drain-starts.auto.1.1.1.1.1.0 ∙ c.before.before.before.before.before.before.before.before.before.before.before.before.before.before.before.before.before.before.before.before.before.before.before.clear.auto.1.0)
+shape_of-lines-in-Full : tie.Need-shape_of-lines-in-Full
+shape_of-lines-in-Full c = c.clear-in-Full.auto.1.0 ∙ (c.drain_starts.auto.1.1.1.1.1.0 ∙ c.clear.auto.1.0)
 
-returns : tie.Need-returns
-returns c = work_full _ _ _ _ _ _ _ c.before.before.before.before.before.before.before.before.before.before.before.before.before.before.before.drain-starts.ensures _ _ c.before.before.before.before.before.before.before.enum_told.given.1 (c.before.before.before.before.before.before.before.before.before.before.before.before.before.before.before.drain-starts.auto.1.1.1.1.0 ∙ c.before.before.before.before.before.before.before.before.before.before.before.before.before.before.before.before.before.before.before.before.before.before.before.clear.auto.0) (c.before.before.before.before.before.before.before.before.before.before.before.before.before.before.before.drain-starts.auto.1.1.1.1.1.0 ∙ c.before.before.before.before.before.before.before.before.before.before.before.before.before.before.before.before.before.before.before.before.before.before.before.clear.auto.1.0) c.before.before.before.before.clear2.ensures.0 c.before.before.before.before.clear2.ensures.1
+returns-in-Full : tie.Need-returns-in-Full
+returns-in-Full c = work_full _ _ _ _ _ _ _ c.drain_starts.ensures _ _ c.in-Full.is (c.drain_starts.auto.1.1.1.1.0 ∙ c.clear.auto.0) (c.drain_starts.auto.1.1.1.1.1.0 ∙ c.clear.auto.1.0) c.clear-in-Full.ensures.0 c.clear-in-Full.ensures.1
 
-same-length-4 : tie.Need-same-length-4
-same-length-4 c = c.before.before.before.before.before.before.before.before.before.drain-starts.auto.1.1.1.0
+shape_of-partners-in-Lines : tie.Need-shape_of-partners-in-Lines
+shape_of-partners-in-Lines c = c.drain_starts.auto.1.1.1.0
 
-same-length-5 : tie.Need-same-length-5
-same-length-5 c = c.before.before.before.before.before.before.before.before.before.drain-starts.auto.1.1.1.1.0 ∙ c.before.before.before.before.before.before.before.before.before.before.before.before.before.before.before.before.before.clear.auto.0
+shape_of-marks-in-Lines : tie.Need-shape_of-marks-in-Lines
+shape_of-marks-in-Lines c = c.drain_starts.auto.1.1.1.1.0 ∙ c.clear.auto.0
 
-same-length-6 : tie.Need-same-length-6
-same-length-6 c = c.before.before.before.before.before.before.before.before.before.drain-starts.auto.1.1.1.1.1.0 ∙ c.before.before.before.before.before.before.before.before.before.before.before.before.before.before.before.before.before.clear.auto.1.0
+shape_of-lines-in-Lines : tie.Need-shape_of-lines-in-Lines
+shape_of-lines-in-Lines c = c.drain_starts.auto.1.1.1.1.1.0 ∙ c.clear.auto.1.0
 
-returns-2 : tie.Need-returns-2
-returns-2 c = work_holds _ _ _ _ _ _ _ c.before.before.before.before.before.before.before.before.before.drain-starts.ensures _ c.before.n.given.1
+returns-in-Lines : tie.Need-returns-in-Lines
+returns-in-Lines c = work_holds _ _ _ _ _ _ _ c.drain_starts.ensures _ c.in-Lines.is
 
-pub work-spec : {M : Type 1} → statement M
-work-spec =
+pub work_spec : {M : Type 1} → statement M
+work_spec =
     tie.close
     (tie.spec
     clear-requires
-    drain-starts-requires
-    enum_told
-    clear-requires-2
-    enum-known-n
-    same_length
-    same-length-2
-    same-length-3
-    returns
-    same-length-4
-    same-length-5
-    same-length-6
-    returns-2)
+    drain_starts-requires
+    enum_told-1
+    clear-requires-in-Full
+    enum_known-n
+    shape_of-partners-in-Full
+    shape_of-marks-in-Full
+    shape_of-lines-in-Full
+    returns-in-Full
+    shape_of-partners-in-Lines
+    shape_of-marks-in-Lines
+    shape_of-lines-in-Lines
+    returns-in-Lines)

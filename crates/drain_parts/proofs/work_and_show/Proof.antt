@@ -7,79 +7,79 @@ use Rattle.drain_parts.proofs.work_and_show.Tie as tie
 
 work-requires : tie.Need-work-requires
 unfolding graph_in rooms_of
-work-requires c κs = let s = c.before.before.before.before.before.before.before.before.before.before.before.before.before.before.before in (s.requires.0.0, (((fits _ _ s.requires.1.1).0, s.requires.1.0.0, s.requires.1.0.1), s.requires.0.2))
+work-requires c κs = (c.requires.0.0, (((fits _ _ c.requires.1.1).0, c.requires.1.0.0, c.requires.1.0.1), c.requires.0.2))
 
-enum_told : tie.Need-enum-told
-enum_told c = c.match.keys1
+enum_told-1 : tie.Need-enum_told-1
+enum_told-1 c = c.in-Full.keys1
 
-enum-known-n : tie.Need-enum-known-n
-enum-known-n c = c.match.keys2
+enum_known-n : tie.Need-enum_known-n
+enum_known-n c = c.in-Lines.keys2
 
-show-all-requires : tie.Need-show-all-requires
+show_all-requires : tie.Need-show_all-requires
 unfolding rooms_of
-show-all-requires c κs = let s = c.before.before.before.before.before.before.before.before.before.before.before.before.before.before.before.before.before.before.before.before.before.before.before.before.before.before.before.before.before.before.before.before in let h = (c.before.before.before.before.before.before.before.before.before.before.before.before.before.before.before.before.work.ensures.holds _ c.before.before.before.before.before.before.before.before.n.given.1).1 in ((s.requires.0.0, s.requires.0.1), ((fits _ _ s.requires.1.1).1, (omega arith, h.room, h.good)))
+show_all-requires c κs = let h = (c.work.ensures.holds _ c.in-Lines.is).1 in ((c.requires.0.0, c.requires.0.1), ((fits _ _ c.requires.1.1).1, (omega arith, h.room, h.good)))
 
-same_length : tie.Need-same-length
-same_length c = c.before.before.before.before.before.before.before.before.work.auto.1.1.1.0
+shape_of-partners-in-Full : tie.Need-shape_of-partners-in-Full
+shape_of-partners-in-Full c = c.work.auto.1.1.1.0
 
-same-length-2 : tie.Need-same-length-2
-same-length-2 c = c.before.before.before.before.before.before.before.before.work.auto.1.1.1.1.0
+shape_of-marks-in-Full : tie.Need-shape_of-marks-in-Full
+shape_of-marks-in-Full c = c.work.auto.1.1.1.1.0
 
-same-length-3 : tie.Need-same-length-3
-same-length-3 c = c.before.before.before.before.before.before.before.before.work.auto.1.1.1.1.1.0
+shape_of-lines-in-Full : tie.Need-shape_of-lines-in-Full
+shape_of-lines-in-Full c = c.work.auto.1.1.1.1.1.0
 
-returns : tie.Need-returns
-returns c = ends_short _ _ _ _ _ _ c.before.before.before.before.before.before.before.before.work.ensures c.enum_told.given.1
+returns-in-Full : tie.Need-returns-in-Full
+returns-in-Full c = ends_short _ _ _ _ _ _ c.work.ensures c.in-Full.is
 
-same-length-4 : tie.Need-same-length-4
-same-length-4 c = c.before.before.before.before.before.before.before.before.before.before.before.before.before.before.before.before.before.before.before.before.before.before.before.before.before.before.before.before.before.work.auto.1.1.1.0
+shape_of-partners-in-Lines : tie.Need-shape_of-partners-in-Lines
+shape_of-partners-in-Lines c = c.work.auto.1.1.1.0
 
-same-length-5 : tie.Need-same-length-5
-same-length-5 c = c.before.before.before.before.before.before.before.before.before.before.before.before.before.before.before.before.before.before.before.before.before.before.before.before.before.before.before.before.before.work.auto.1.1.1.1.0
+shape_of-marks-in-Lines : tie.Need-shape_of-marks-in-Lines
+shape_of-marks-in-Lines c = c.work.auto.1.1.1.1.0
 
-same-length-6 : tie.Need-same-length-6
-same-length-6 c = c.before.before.before.before.before.before.before.before.before.before.before.before.before.before.before.before.before.before.before.before.before.before.before.before.before.before.before.before.before.work.auto.1.1.1.1.1.0
+shape_of-lines-in-Lines : tie.Need-shape_of-lines-in-Lines
+shape_of-lines-in-Lines c = c.work.auto.1.1.1.1.1.0
 
-same-length-7 : tie.Need-same-length-7
-same-length-7 c = c.before.before.before.before.before.before.before.before.before.before.before.before.show-all.auto.1.1.1.1.1.0
+shape_of-modules_row : tie.Need-shape_of-modules_row
+shape_of-modules_row c = c.show_all.auto.1.1.1.1.1.0
 
-same-length-8 : tie.Need-same-length-8
-same-length-8 c = c.before.before.before.before.before.before.before.before.before.before.before.before.show-all.auto.1.1.1.1.1.1.0
+shape_of-statements_row : tie.Need-shape_of-statements_row
+shape_of-statements_row c = c.show_all.auto.1.1.1.1.1.1.0
 
-same-length-9 : tie.Need-same-length-9
-same-length-9 c = c.before.before.before.before.before.before.before.before.before.before.before.before.show-all.auto.1.1.1.1.1.1.1.0
+shape_of-used : tie.Need-shape_of-used
+shape_of-used c = c.show_all.auto.1.1.1.1.1.1.1.0
 
-same-length-10 : tie.Need-same-length-10
-same-length-10 c = c.before.before.before.before.before.before.before.before.before.before.before.before.show-all.auto.1.1.1.1.1.1.1.1.0
+shape_of-external : tie.Need-shape_of-external
+shape_of-external c = c.show_all.auto.1.1.1.1.1.1.1.1.0
 
-same-length-11 : tie.Need-same-length-11
-same-length-11 c = c.before.before.before.before.before.before.before.before.before.before.before.before.show-all.auto.1.1.1.1.1.1.1.1.1.0
+shape_of-json : tie.Need-shape_of-json
+shape_of-json c = c.show_all.auto.1.1.1.1.1.1.1.1.1.0
 
-same-length-12 : tie.Need-same-length-12
-same-length-12 c = c.before.before.before.before.before.before.before.before.before.before.before.before.show-all.auto.1.1.1.1.1.1.1.1.1.1.0
+shape_of-reason : tie.Need-shape_of-reason
+shape_of-reason c = c.show_all.auto.1.1.1.1.1.1.1.1.1.1.0
 
-returns-2 : tie.Need-returns-2
-returns-2 c = ends_done _ _ _ _ _ c.before.before.before.before.before.before.before.before.before.before.before.before.before.before.before.before.before.before.before.before.before.before.before.before.before.before.before.before.before.work.ensures _ c.before.before.before.before.before.before.before.before.before.before.before.before.before.before.before.before.before.before.before.before.before.n.given.1 c.before.before.before.before.before.before.before.before.before.before.before.before.before.before.before.before.before.before.before.before.before.before.before.before.before.before.before.before.before.work.auto.1.1.1.1.0 c.before.before.before.before.before.before.before.before.before.before.before.before.before.before.before.before.before.before.before.before.before.before.before.before.before.before.before.before.before.work.auto.1.1.1.1.1.0 (λ i. (c.before.before.before.before.before.before.before.before.before.before.before.before.before.before.before.before.before.before.before.before.before.before.before.before.before.slice-known11.given i).fits) c.before.before.before.before.before.before.before.before.before.before.before.before.show-all.ensures
+returns-in-Lines : tie.Need-returns-in-Lines
+returns-in-Lines c = ends_done _ _ _ _ _ c.work.ensures _ c.in-Lines.is c.work.auto.1.1.1.1.0 c.work.auto.1.1.1.1.1.0 (λ i. (c.slice_known-11-1.given i).fits) c.show_all.ensures
 
-pub work-and-show-spec : {M : Type 1} → statement M
-work-and-show-spec =
+pub work_and_show_spec : {M : Type 1} → statement M
+work_and_show_spec =
     tie.close
     (tie.spec
     work-requires
-    enum_told
-    enum-known-n
-    show-all-requires
-    same_length
-    same-length-2
-    same-length-3
-    returns
-    same-length-4
-    same-length-5
-    same-length-6
-    same-length-7
-    same-length-8
-    same-length-9
-    same-length-10
-    same-length-11
-    same-length-12
-    returns-2)
+    enum_told-1
+    enum_known-n
+    show_all-requires
+    shape_of-partners-in-Full
+    shape_of-marks-in-Full
+    shape_of-lines-in-Full
+    returns-in-Full
+    shape_of-partners-in-Lines
+    shape_of-marks-in-Lines
+    shape_of-lines-in-Lines
+    shape_of-modules_row
+    shape_of-statements_row
+    shape_of-used
+    shape_of-external
+    shape_of-json
+    shape_of-reason
+    returns-in-Lines)

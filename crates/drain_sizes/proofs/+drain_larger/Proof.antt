@@ -154,8 +154,8 @@ same-length-32 t c = c.before.before.before.before.before.before.before.before.b
 returns-4 : (t : ℕ) → lts.Need-returns-4 (claims t) (here t) larger.Post
 returns-4 t c = c.before.before.before.before.before.before.before.before.before.before.before.before.before.before.before.before.drain-largest.ensures
 
-pub +drain-larger-spec : {M : Type 1} → statement M
-+drain-larger-spec =
+pub +drain_larger_spec : {M : Type 1} → statement M
++drain_larger_spec =
     close μ λ t. lts.spec (claims t) (here t) larger.Post
     (sub-drain-larger t)
     (drain-larger-requires t)

@@ -6,55 +6,55 @@ use Rattle.drain_sizes.proofs.Tiers.{partners_long}
 use Rattle.drain_sizes.proofs.drain_small.Statement.{statement}
 use Rattle.drain_sizes.proofs.drain_small.Tie as tie
 
-slice-aggregate-drain-in : tie.Need-slice-aggregate-drain-in
-slice-aggregate-drain-in c = refl
+slice_bounds-drain_in-end : tie.Need-slice_bounds-drain_in-end
+slice_bounds-drain_in-end c = refl
 
-slice-aggregate-drain-in-2 : tie.Need-slice-aggregate-drain-in-2
-slice-aggregate-drain-in-2 c = refl
+slice_bounds-drain_in-end-2 : tie.Need-slice_bounds-drain_in-end-2
+slice_bounds-drain_in-end-2 c = refl
 
-drain-in-requires : tie.Need-drain-in-requires
-drain-in-requires c κs = let s = c.before.before.before.before.before.before.before.before.before.before.before.before.before.before.before.before.before.before.before.before in (s.requires.0, (tables_long s.args.h Small 363 refl (omega arith) s.requires.1, partners_long s.args.h 16 64 112 (omega arith) s.requires.1.0 s.requires.1.1))
+drain_in-requires : tie.Need-drain_in-requires
+drain_in-requires c κs = (c.requires.0, (tables_long c.args.h Small 363 refl (omega arith) c.requires.1, partners_long c.args.h 16 64 112 (omega arith) c.requires.1.0 c.requires.1.1))
 
-same_length : tie.Need-same-length
-same_length c = c.before.before.before.before.before.before.before.before.before.before.before.before.before.before.before.before.before.before.drain_in.auto.1.1.1.1.1.0
+shape_of-marks : tie.Need-shape_of-marks
+shape_of-marks c = c.drain_in.auto.1.1.1.1.1.0
 
-same-length-2 : tie.Need-same-length-2
-same-length-2 c = c.before.before.before.before.before.before.before.before.before.before.before.before.before.before.before.before.before.before.drain_in.auto.1.1.1.1.1.1.0
+shape_of-lines : tie.Need-shape_of-lines
+shape_of-lines c = c.drain_in.auto.1.1.1.1.1.1.0
 
-same-length-3 : tie.Need-same-length-3
-same-length-3 c = c.before.before.before.before.before.before.before.before.before.before.before.before.before.before.before.before.before.before.drain_in.auto.1.1.1.1.1.1.1.0
+shape_of-modules_row : tie.Need-shape_of-modules_row
+shape_of-modules_row c = c.drain_in.auto.1.1.1.1.1.1.1.0
 
-same-length-4 : tie.Need-same-length-4
-same-length-4 c = c.before.before.before.before.before.before.before.before.before.before.before.before.before.before.before.before.before.before.drain_in.auto.1.1.1.1.1.1.1.1.0
+shape_of-statements_row : tie.Need-shape_of-statements_row
+shape_of-statements_row c = c.drain_in.auto.1.1.1.1.1.1.1.1.0
 
-same-length-5 : tie.Need-same-length-5
-same-length-5 c = c.before.before.before.before.before.before.before.before.before.before.before.before.before.before.before.before.before.before.drain_in.auto.1.1.1.1.1.1.1.1.1.0
+shape_of-used : tie.Need-shape_of-used
+shape_of-used c = c.drain_in.auto.1.1.1.1.1.1.1.1.1.0
 
-same-length-6 : tie.Need-same-length-6
-same-length-6 c = c.before.before.before.before.before.before.before.before.before.before.before.before.before.before.before.before.before.before.drain_in.auto.1.1.1.1.1.1.1.1.1.1.0
+shape_of-external : tie.Need-shape_of-external
+shape_of-external c = c.drain_in.auto.1.1.1.1.1.1.1.1.1.1.0
 
-same-length-7 : tie.Need-same-length-7
-same-length-7 c = c.before.before.before.before.before.before.before.before.before.before.before.before.before.before.before.before.before.before.drain_in.auto.1.1.1.1.1.1.1.1.1.1.1.0
+shape_of-json : tie.Need-shape_of-json
+shape_of-json c = c.drain_in.auto.1.1.1.1.1.1.1.1.1.1.1.0
 
-same-length-8 : tie.Need-same-length-8
-same-length-8 c = c.before.before.before.before.before.before.before.before.before.before.before.before.before.before.before.before.before.before.drain_in.auto.1.1.1.1.1.1.1.1.1.1.1.1.0
+shape_of-reason : tie.Need-shape_of-reason
+shape_of-reason c = c.drain_in.auto.1.1.1.1.1.1.1.1.1.1.1.1.0
 
 returns : tie.Need-returns
-returns c = c.before.before.before.before.before.before.before.before.before.before.before.before.before.before.before.before.before.before.drain_in.ensures
+returns c = c.drain_in.ensures
 
-pub drain-small-spec : {M : Type 1} → statement M
-drain-small-spec =
+pub drain_small_spec : {M : Type 1} → statement M
+drain_small_spec =
     tie.close
     (tie.spec
-    slice-aggregate-drain-in
-    slice-aggregate-drain-in-2
-    drain-in-requires
-    same_length
-    same-length-2
-    same-length-3
-    same-length-4
-    same-length-5
-    same-length-6
-    same-length-7
-    same-length-8
+    slice_bounds-drain_in-end
+    slice_bounds-drain_in-end-2
+    drain_in-requires
+    shape_of-marks
+    shape_of-lines
+    shape_of-modules_row
+    shape_of-statements_row
+    shape_of-used
+    shape_of-external
+    shape_of-json
+    shape_of-reason
     returns)

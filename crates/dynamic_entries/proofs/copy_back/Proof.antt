@@ -9,70 +9,70 @@ use Rattle.dynamic_entries.proofs.copy_back.Reads as reads
 use Rattle.dynamic_entries.proofs.copy_back.Lts as lts
 use Rattle.determine_side_effects.proofs.rows_crate.wide.Reads as wide-reads
 
-abbrev invariant-loop : tie.invariant-loop
-invariant-loop list count plan₀ users i₀ plan i = Copies list count users plan₀ i plan
+abbrev invariant-loop-i : tie.invariant-loop-i
+invariant-loop-i list count plan₀ users i₀ plan i = Copies list count users plan₀ i plan
 
-abbrev decreases-loop : tie.decreases-loop
-decreases-loop list count plan₀ users i₀ plan i = count - i
+abbrev decreases-loop-i : tie.decreases-loop-i
+decreases-loop-i list count plan₀ users i₀ plan i = count - i
 
 -- the place to write to
-room : (c : tie.After-wide invariant-loop decreases-loop) → c.before.before.before.before.before.before.args.users + c.before.before.before.loop.i < length c.before.before.before.loop.plan
-room c = copy-room _ _ _ _ c.before.before.before.before.before.before.requires _ _ c.before.before.before.loop.invariant c.before.before.loop-test.true
+room : (c : tie.After-wide invariant-loop-i decreases-loop-i) → c.args.users + c.loop-i.i < length c.loop-i.plan
+room c = copy-room _ _ _ _ c.requires _ _ c.loop-i.invariant c.loop-i-test.true
 
-wide : (c : tie.After-wide invariant-loop decreases-loop) → length c.before.before.before.loop.plan * 8 < 2 ^ 63
-wide c = let s = c.before.before.before.before.before.before in let k = c.before.before.before.loop.invariant.fill.long in omega (arith, k, s.well-formed.1.1.0.1)
+wide : (c : tie.After-wide invariant-loop-i decreases-loop-i) → length c.loop-i.plan * 8 < 2 ^ 63
+wide c = let k = c.loop-i.invariant.fill.long in omega (arith, k, c.well-formed.1.1.0.1)
 
-loop-holds : tie.Need-loop-init invariant-loop decreases-loop
-loop-holds c = copies_start _ _ _ _ c.before.before.requires
+loop-i-init : tie.Need-loop-i-init invariant-loop-i decreases-loop-i
+loop-i-init c = copies_start _ _ _ _ c.requires
 
-mul_wide : tie.Need-overflow-mul-wide invariant-loop decreases-loop
-mul_wide c = let s = c.before.before.before.before in let l = c.loop-test.true in record { fits = omega (arith, l, s.requires.0, s.well-formed.0.1) }
+offset_bounds-list-i : tie.Need-offset_bounds-list-i invariant-loop-i decreases-loop-i
+offset_bounds-list-i c = let l = c.loop-i-test.true in record { fits = omega (arith, l, c.requires.0, c.well-formed.0.1) }
 
-shared-slice-read-wide : tie.Need-shared-slice-read-wide invariant-loop decreases-loop
-shared-slice-read-wide c = let s = c.before.before.before.before.before in let l = c.before.loop-test.true in omega (arith, l, s.requires.0)
+bounds-list-i : tie.Need-bounds-list-i invariant-loop-i decreases-loop-i
+bounds-list-i c = let l = c.loop-i-test.true in omega (arith, l, c.requires.0)
 
-wide-requires : tie.Need-wide-requires invariant-loop decreases-loop
+wide-requires : tie.Need-wide-requires invariant-loop-i decreases-loop-i
 wide-requires c κs = search rules
 
-add-plan : tie.Need-overflow-add-plan invariant-loop decreases-loop
-add-plan c = let r = room c in let w = wide c in record { fits = omega (arith, r, w) }
+overflow_add-plan : tie.Need-overflow_add-plan invariant-loop-i decreases-loop-i
+overflow_add-plan c = let r = room c in let w = wide c in record { fits = omega (arith, r, w) }
 
-mul-plan : tie.Need-overflow-mul-plan invariant-loop decreases-loop
-mul-plan c = let r = room c in let w = wide c in record { fits = omega (arith, r, w) }
+offset_bounds-plan-users : tie.Need-offset_bounds-plan-users invariant-loop-i decreases-loop-i
+offset_bounds-plan-users c = let r = room c in let w = wide c in record { fits = omega (arith, r, w) }
 
-slice-write-plan : tie.Need-slice-write-plan invariant-loop decreases-loop
-slice-write-plan c = room c
+bounds-plan-users : tie.Need-bounds-plan-users invariant-loop-i decreases-loop-i
+bounds-plan-users c = room c
 
-add-i : tie.Need-overflow-add-i invariant-loop decreases-loop
-add-i c = let r = room c in let w = wide c in record { fits = omega (arith, r, w) }
+overflow_add-i : tie.Need-overflow_add-i invariant-loop-i decreases-loop-i
+overflow_add-i c = let r = room c in let w = wide c in record { fits = omega (arith, r, w) }
 
-loop-less : tie.Need-loop-smaller invariant-loop decreases-loop
-loop-less c = let l = c.before.before.loop-test.true in omega (arith, l)
+loop-i-smaller : tie.Need-loop-i-smaller invariant-loop-i decreases-loop-i
+loop-i-smaller c = let l = c.loop-i-test.true in omega (arith, l)
 
-loop-again : tie.Need-loop-preserved invariant-loop decreases-loop
-loop-again c = copy-next _ _ _ _ c.before.before.before.before.before.before.requires _ _ c.before.before.before.loop.invariant c.before.before.loop-test.true _ c.wide.ensures
+loop-i-preserved : tie.Need-loop-i-preserved invariant-loop-i decreases-loop-i
+loop-i-preserved c = copy-next _ _ _ _ c.requires _ _ c.loop-i.invariant c.loop-i-test.true _ c.wide.ensures
 
-same_length : tie.Need-same-length invariant-loop decreases-loop
-same_length c = c.before.loop.invariant.fill.long
+shape_of-plan : tie.Need-shape_of-plan invariant-loop-i decreases-loop-i
+shape_of-plan c = c.loop-i.invariant.fill.long
 
-returns : tie.Need-returns invariant-loop decreases-loop
-returns c = copies-done _ _ _ _ c.before.before.before.before.requires _ _ c.before.loop.invariant c.loop-test.false
+returns : tie.Need-returns invariant-loop-i decreases-loop-i
+returns c = copies-done _ _ _ _ c.requires _ _ c.loop-i.invariant c.loop-i-test.false
 
-pub copy-back-spec : {M : Type 1} → statement M
-copy-back-spec =
+pub copy_back_spec : {M : Type 1} → statement M
+copy_back_spec =
     tie.close
     (tie.spec
-    invariant-loop
-    decreases-loop
-    loop-holds
-    mul_wide
-    shared-slice-read-wide
+    invariant-loop-i
+    decreases-loop-i
+    loop-i-init
+    offset_bounds-list-i
+    bounds-list-i
     wide-requires
-    add-plan
-    mul-plan
-    slice-write-plan
-    add-i
-    loop-less
-    loop-again
-    same_length
+    overflow_add-plan
+    offset_bounds-plan-users
+    bounds-plan-users
+    overflow_add-i
+    loop-i-smaller
+    loop-i-preserved
+    shape_of-plan
     returns)

@@ -5,35 +5,35 @@ use Rattle.dynamic_entries.proofs.goes_first.Tie as tie
 use Rattle.dynamic_entries.proofs.goes_first.Reads as reads
 use Rattle.dynamic_entries.proofs.goes_first.Lts as lts
 
-add-if1 : tie.Need-overflow-add-if1
-add-if1 c = search rules
+overflow_add-at : tie.Need-overflow_add-at
+overflow_add-at c = search rules
 
-mul-if1 : tie.Need-overflow-mul-if1
-mul-if1 c = search rules
+offset_bounds-plan-at : tie.Need-offset_bounds-plan-at
+offset_bounds-plan-at c = search rules
 
-shared-slice-read-if1 : tie.Need-shared-slice-read-if1
-shared-slice-read-if1 c = search rules
+bounds-plan-at : tie.Need-bounds-plan-at
+bounds-plan-at c = search rules
+
+returns-then-plan-at-eq1 : tie.Need-returns-then-plan-at-eq1
+returns-then-plan-at-eq1 c = rw (eq-eqb _ _ c.if-plan-at-eq1.true)
+
+offset_bounds-outs-m : tie.Need-offset_bounds-outs-m
+offset_bounds-outs-m c = search rules
+
+bounds-outs-m : tie.Need-bounds-outs-m
+bounds-outs-m c = search rules
 
 returns : tie.Need-returns
-returns c = rw (eq-eqb _ _ c.if1.true)
+returns c = rw (ne_eqb _ _ c.if-plan-at-eq1.false)
 
-mul-result : tie.Need-overflow-mul-result
-mul-result c = search rules
-
-shared-slice-read-result : tie.Need-shared-slice-read-result
-shared-slice-read-result c = search rules
-
-returns-2 : tie.Need-returns-2
-returns-2 c = rw (ne_eqb _ _ c.before.if1.false)
-
-pub goes-first-spec : {M : Type 1} → statement M
-goes-first-spec =
+pub goes_first_spec : {M : Type 1} → statement M
+goes_first_spec =
     tie.close
     (tie.spec
-    add-if1
-    mul-if1
-    shared-slice-read-if1
-    returns
-    mul-result
-    shared-slice-read-result
-    returns-2)
+    overflow_add-at
+    offset_bounds-plan-at
+    bounds-plan-at
+    returns-then-plan-at-eq1
+    offset_bounds-outs-m
+    bounds-outs-m
+    returns)

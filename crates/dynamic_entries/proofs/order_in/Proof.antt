@@ -9,135 +9,132 @@ use Rattle.dynamic_entries.proofs.Building.{orders_done, built_holds, built_full
 use Rattle.dynamic_entries.proofs.order_in.Statement.{statement}
 use Rattle.dynamic_entries.proofs.order_in.Tie as tie
 
-header-of-requires : tie.Need-header-of-requires
-header-of-requires c κs = c.before.before.before.before.before.before.before.before.before.before.before.requires.0.long
+header_of-h-requires : tie.Need-header_of-h-requires
+header_of-h-requires c κs = c.requires.0.long
 
-sub-count : tie.Need-overflow-sub-count
-sub-count c = users_inside _ _ _ c.before.before.before.before.before.before.before.before.before.before.before.before.before.requires.1.0.0 _ c.before.header_of.ensures
+overflow_sub-count : tie.Need-overflow_sub-count
+overflow_sub-count c = users_inside _ _ _ c.requires.1.0.0 _ c.header_of-h.ensures
 
-mul-entry-graph : tie.Need-overflow-mul-entry-graph
-mul-entry-graph c = let u = users_long _ _ _ c.before.before.before.before.before.before.before.before.before.before.before.before.before.requires.1.0.0 in let w = c.before.before.before.before.before.before.before.before.before.before.before.before.before.requires.1.0.1.few in record { fits = omega (arith, u, w) }
+offset_bounds-plan-users : tie.Need-offset_bounds-plan-users
+offset_bounds-plan-users c = let u = users_long _ _ _ c.requires.1.0.0 in let w = c.requires.1.0.1.few in record { fits = omega (arith, u, w) }
 
-sub-entry-graph : tie.Need-overflow-sub-entry-graph
-sub-entry-graph c = users_long _ _ _ c.before.before.before.before.before.before.before.before.before.before.before.before.before.requires.1.0.0
+slice_bounds-entry_graph-count : tie.Need-slice_bounds-entry_graph-count
+slice_bounds-entry_graph-count c = users_long _ _ _ c.requires.1.0.0
 
-part-entry-graph-start : tie.Need-slice-bounds-entry-graph-start
-part-entry-graph-start c = users_long _ _ _ c.before.before.before.before.before.before.before.before.before.before.before.before.before.before.requires.1.0.0
+slice_bounds-entry_graph-start : tie.Need-slice_bounds-entry_graph-start
+slice_bounds-entry_graph-start c = users_long _ _ _ c.requires.1.0.0
 
-part-entry-graph-end : tie.Need-slice-bounds-entry-graph-end
-part-entry-graph-end c = omega arith
+slice_bounds-entry_graph-end : tie.Need-slice_bounds-entry_graph-end
+slice_bounds-entry_graph-end c = omega arith
 
-entry-graph-requires : tie.Need-entry-graph-requires
-entry-graph-requires c κs =
-    let s = c.before.before.before.before.before.before.before.before.before.before.before.before.before.before.before.before.before.before.before.before.before.before in
-    let e = part_below _ _ _ s.requires.1.0.0 _ c.before.before.before.before.before.before.before.before.before.before.header_of.ensures in
-    let l : (header_in s.args.numbers.now).modules ≤ length s.args.chain.now = omega (arith, s.requires.1.1.1.1) in
-    rw (part_to_end s.args.plan.now s.args.users) (s.requires.0, (e, ((s.requires.1.1.1.0, l), s.requires.1.1.0)))
+entry_graph-requires : tie.Need-entry_graph-requires
+entry_graph-requires c κs =
+    let e = part_below _ _ _ c.requires.1.0.0 _ c.header_of-h.ensures in
+    let l : (header_in c.args.numbers.now).modules ≤ length c.args.chain.now = omega (arith, c.requires.1.1.1.1) in
+    rw (part_to_end c.args.plan.now c.args.users) (c.requires.0, (e, ((c.requires.1.1.1.0, l), c.requires.1.1.0)))
 
-enum_told : tie.Need-enum-told
-enum_told c = c.match.keys1
+enum_told-1 : tie.Need-enum_told-1
+enum_told-1 c = c.in-Full.keys1
 
-enum-known-n : tie.Need-enum-known-n
-enum-known-n c = c.match.keys2
+enum_known-n : tie.Need-enum_known-n
+enum_known-n c = c.in-Nodes.keys2
 
-sort-by-graph-requires : tie.Need-sort-by-graph-requires
-sort-by-graph-requires c κs =
-    let s = c.before.before.before.before.before.before.before.before.before.before.before.before.before.before.before.before.before.before.before.before.before.before.before.before.before.before.before.before.before.before.before.before.before.before.before.before.before.before.before.before.before.before.before.before.before.before.before.before in
-    let b = rw (part_to_end s.args.plan.now s.args.users) at c.before.before.before.before.before.before.before.before.before.before.before.before.before.before.before.before.before.before.before.before.before.before.before.before.before.entry-graph.ensures in
-    let o : (header_in s.args.numbers.now).modules ≤ length c.before.before.before.before.before.before.before.before.before.before.before.before.before.before.before.before.before.before.before.before.before.before.before.before.before.entry-graph.new.1.1.1.1.1.0 = omega (arith, s.requires.1.1.1.0, c.before.before.before.before.before.before.before.before.before.before.before.before.before.before.before.before.before.before.before.before.before.before.before.before.before.entry-graph.auto.1.1.1.1.1.0) in
-    let l : (header_in s.args.numbers.now).modules + (header_in s.args.numbers.now).entries ≤ length c.before.before.before.before.before.before.before.before.before.before.before.before.before.before.before.before.before.before.before.before.before.before.before.before.before.entry-graph.new.1.1.1.1.1.1.0 = omega (arith, s.requires.1.1.1.1, c.before.before.before.before.before.before.before.before.before.before.before.before.before.before.before.before.before.before.before.before.before.before.before.before.before.entry-graph.auto.1.1.1.1.1.1.0) in
-    (s.requires.0, ((s.requires.1.0.0, s.requires.1.0.1, built_holds _ _ _ s.requires.1.0.0 _ c.before.before.before.before.before.before.before.before.before.before.before.before.before.before.before.before.before.before.before.before.before.before.before.before.before.before.before.before.before.before.before.before.before.before.before.before.header_of.ensures _ _ _ _ _ _ b _ c.before.before.before.before.before.before.before.before.before.n.given.1), (o, l, s.requires.1.1.1.2)))
+sort_by_graph-requires : tie.Need-sort_by_graph-requires
+sort_by_graph-requires c κs =
+    let b = rw (part_to_end c.args.plan.now c.args.users) at c.entry_graph.ensures in
+    let o : (header_in c.args.numbers.now).modules ≤ length c.entry_graph.new.1.1.1.1.1.0 = omega (arith, c.requires.1.1.1.0, c.entry_graph.auto.1.1.1.1.1.0) in
+    let l : (header_in c.args.numbers.now).modules + (header_in c.args.numbers.now).entries ≤ length c.entry_graph.new.1.1.1.1.1.1.0 = omega (arith, c.requires.1.1.1.1, c.entry_graph.auto.1.1.1.1.1.1.0) in
+    (c.requires.0, ((c.requires.1.0.0, c.requires.1.0.1, built_holds _ _ _ c.requires.1.0.0 _ c.header_of-h.ensures _ _ _ _ _ _ b _ c.in-Nodes.is), (o, l, c.requires.1.1.1.2)))
 
-same_length : tie.Need-same-length
-same_length c = c.before.before.before.before.before.before.before.before.before.before.before.before.before.before.before.before.entry-graph.auto.1.1.1.1.1.1.1.0
+shape_of-visited-in-Full : tie.Need-shape_of-visited-in-Full
+shape_of-visited-in-Full c = c.entry_graph.auto.1.1.1.1.1.1.1.0
 
-same-length-2 : tie.Need-same-length-2
-same-length-2 c = c.before.before.before.before.before.before.before.before.before.before.before.before.before.before.before.before.entry-graph.auto.1.1.1.1.1.1.1.1.0
+shape_of-nodes-in-Full : tie.Need-shape_of-nodes-in-Full
+shape_of-nodes-in-Full c = c.entry_graph.auto.1.1.1.1.1.1.1.1.0
 
-same-length-3 : tie.Need-same-length-3
-same-length-3 c = c.before.before.before.before.before.before.before.before.before.before.before.before.before.before.before.before.entry-graph.auto.1.1.1.1.1.1.1.1.1.0
+shape_of-outs-in-Full : tie.Need-shape_of-outs-in-Full
+shape_of-outs-in-Full c = c.entry_graph.auto.1.1.1.1.1.1.1.1.1.0
 
-same-length-4 : tie.Need-same-length-4
-same-length-4 c = c.before.before.before.before.before.before.before.before.before.before.before.before.before.before.before.before.entry-graph.auto.1.1.1.1.1.1.1.1.1.1.0
+shape_of-succs-in-Full : tie.Need-shape_of-succs-in-Full
+shape_of-succs-in-Full c = c.entry_graph.auto.1.1.1.1.1.1.1.1.1.1.0
 
-same-length-5 : tie.Need-same-length-5
-same-length-5 c = c.before.before.before.before.before.before.before.before.before.before.before.before.before.before.before.before.entry-graph.auto.1.1.1.1.1.1.1.1.1.1.1.0
+shape_of-edges-in-Full : tie.Need-shape_of-edges-in-Full
+shape_of-edges-in-Full c = c.entry_graph.auto.1.1.1.1.1.1.1.1.1.1.1.0
 
-same-length-6 : tie.Need-same-length-6
-same-length-6 c = c.before.before.before.before.before.before.before.before.before.before.before.before.before.before.before.before.entry-graph.auto.1.1.1.1.1.0
+shape_of-order-in-Full : tie.Need-shape_of-order-in-Full
+shape_of-order-in-Full c = c.entry_graph.auto.1.1.1.1.1.0
 
-same-length-7 : tie.Need-same-length-7
-same-length-7 c = c.before.before.before.before.before.before.before.before.before.before.before.before.before.before.before.before.entry-graph.auto.1.1.1.1.1.1.0
+shape_of-chain-in-Full : tie.Need-shape_of-chain-in-Full
+shape_of-chain-in-Full c = c.entry_graph.auto.1.1.1.1.1.1.0
 
-same-length-8 : tie.Need-same-length-8
-same-length-8 c = refl
+shape_of-plan-in-Full : tie.Need-shape_of-plan-in-Full
+shape_of-plan-in-Full c = refl
 
-returns : tie.Need-returns
-returns c =
-    let s = c.before.before.before.before.before.before.before.before.before.before.before.before.before.before.before.before.before.before.before.before.before.before.before.before.before.before.before.before.before.before.before.before.before.before.before.before.before.before.before in
-    let b = rw (part_to_end s.args.plan.now s.args.users) at c.before.before.before.before.before.before.before.before.before.before.before.before.before.before.before.before.entry-graph.ensures in
-    built_full _ _ _ s.requires.1.0.0 _ c.before.before.before.before.before.before.before.before.before.before.before.before.before.before.before.before.before.before.before.before.before.before.before.before.before.before.before.header_of.ensures _ _ _ _ _ _ b c.enum_told.given.1
+returns-in-Full : tie.Need-returns-in-Full
+returns-in-Full c =
+    let b = rw (part_to_end c.args.plan.now c.args.users) at c.entry_graph.ensures in
+    built_full _ _ _ c.requires.1.0.0 _ c.header_of-h.ensures _ _ _ _ _ _ b c.in-Full.is
 
-same-length-9 : tie.Need-same-length-9
-same-length-9 c = c.before.before.before.before.before.before.before.before.before.before.before.before.before.before.before.before.before.before.before.before.before.before.before.before.before.before.before.before.before.before.before.before.before.before.entry-graph.auto.1.1.1.1.1.1.1.0
+shape_of-visited-in-Nodes : tie.Need-shape_of-visited-in-Nodes
+shape_of-visited-in-Nodes c = c.entry_graph.auto.1.1.1.1.1.1.1.0
 
-same-length-10 : tie.Need-same-length-10
-same-length-10 c = c.before.before.before.before.before.before.before.before.before.before.before.before.before.before.before.before.before.before.before.before.before.before.before.before.before.before.before.before.before.before.before.before.before.before.entry-graph.auto.1.1.1.1.1.1.1.1.0
+shape_of-nodes-in-Nodes : tie.Need-shape_of-nodes-in-Nodes
+shape_of-nodes-in-Nodes c = c.entry_graph.auto.1.1.1.1.1.1.1.1.0
 
-same-length-11 : tie.Need-same-length-11
-same-length-11 c = c.before.before.before.before.before.before.before.before.before.before.before.before.before.before.before.before.before.before.before.before.before.before.before.before.before.before.before.before.before.before.before.before.before.before.entry-graph.auto.1.1.1.1.1.1.1.1.1.0
+shape_of-outs-in-Nodes : tie.Need-shape_of-outs-in-Nodes
+shape_of-outs-in-Nodes c = c.entry_graph.auto.1.1.1.1.1.1.1.1.1.0
 
-same-length-12 : tie.Need-same-length-12
-same-length-12 c = c.before.before.before.before.before.before.before.before.before.before.before.before.before.before.before.before.before.before.before.before.before.before.before.before.before.before.before.before.before.before.before.before.before.before.entry-graph.auto.1.1.1.1.1.1.1.1.1.1.0
+shape_of-succs-in-Nodes : tie.Need-shape_of-succs-in-Nodes
+shape_of-succs-in-Nodes c = c.entry_graph.auto.1.1.1.1.1.1.1.1.1.1.0
 
-same-length-13 : tie.Need-same-length-13
-same-length-13 c = c.before.before.before.before.before.before.before.before.before.before.before.before.before.before.before.before.before.before.before.before.before.before.before.before.before.before.before.before.before.before.before.before.before.before.entry-graph.auto.1.1.1.1.1.1.1.1.1.1.1.0
+shape_of-edges-in-Nodes : tie.Need-shape_of-edges-in-Nodes
+shape_of-edges-in-Nodes c = c.entry_graph.auto.1.1.1.1.1.1.1.1.1.1.1.0
 
-same-length-14 : tie.Need-same-length-14
-same-length-14 c = c.before.before.before.before.before.before.before.before.sort-by-graph.auto.1.1.1.1.1.1.1.1.1.0 ∙ c.before.before.before.before.before.before.before.before.before.before.before.before.before.before.before.before.before.before.before.before.before.before.before.before.before.before.before.before.before.before.before.before.before.before.entry-graph.auto.1.1.1.1.1.0
+shape_of-order-in-Nodes : tie.Need-shape_of-order-in-Nodes
+shape_of-order-in-Nodes c = c.sort_by_graph.auto.1.1.1.1.1.1.1.1.1.0 ∙ c.entry_graph.auto.1.1.1.1.1.0
 
-same-length-15 : tie.Need-same-length-15
-same-length-15 c = c.before.before.before.before.before.before.before.before.sort-by-graph.auto.1.1.1.1.1.1.1.1.1.1.0 ∙ c.before.before.before.before.before.before.before.before.before.before.before.before.before.before.before.before.before.before.before.before.before.before.before.before.before.before.before.before.before.before.before.before.before.before.entry-graph.auto.1.1.1.1.1.1.0
+shape_of-chain-in-Nodes : tie.Need-shape_of-chain-in-Nodes
+shape_of-chain-in-Nodes c = c.sort_by_graph.auto.1.1.1.1.1.1.1.1.1.1.0 ∙ c.entry_graph.auto.1.1.1.1.1.1.0
 
-same-length-16 : tie.Need-same-length-16
-same-length-16 c = c.before.before.before.before.before.before.before.before.sort-by-graph.auto.1.1.1.1.1.1.1.1.1.1.1.0
+shape_of-list : tie.Need-shape_of-list
+shape_of-list c = c.sort_by_graph.auto.1.1.1.1.1.1.1.1.1.1.1.0
 
-same-length-17 : tie.Need-same-length-17
-same-length-17 c = c.before.before.before.before.before.before.before.before.sort-by-graph.auto.1.1.1.1.1.1.1.1.1.1.1.1.0
+shape_of-plan-in-Nodes : tie.Need-shape_of-plan-in-Nodes
+shape_of-plan-in-Nodes c = c.sort_by_graph.auto.1.1.1.1.1.1.1.1.1.1.1.1.0
 
-returns-2 : tie.Need-returns-2
-returns-2 c = orders_done _ _ _ _ _ c.before.before.before.before.before.before.before.before.sort-by-graph.ensures
+returns-in-Nodes : tie.Need-returns-in-Nodes
+returns-in-Nodes c = orders_done _ _ _ _ _ c.sort_by_graph.ensures
 
-pub order-in-spec : {M : Type 1} → statement M
-order-in-spec =
+pub order_in_spec : {M : Type 1} → statement M
+order_in_spec =
     tie.close
     (tie.spec
-    header-of-requires
-    sub-count
-    mul-entry-graph
-    sub-entry-graph
-    part-entry-graph-start
-    part-entry-graph-end
-    entry-graph-requires
-    enum_told
-    enum-known-n
-    sort-by-graph-requires
-    same_length
-    same-length-2
-    same-length-3
-    same-length-4
-    same-length-5
-    same-length-6
-    same-length-7
-    same-length-8
-    returns
-    same-length-9
-    same-length-10
-    same-length-11
-    same-length-12
-    same-length-13
-    same-length-14
-    same-length-15
-    same-length-16
-    same-length-17
-    returns-2)
+    header_of-h-requires
+    overflow_sub-count
+    offset_bounds-plan-users
+    slice_bounds-entry_graph-count
+    slice_bounds-entry_graph-start
+    slice_bounds-entry_graph-end
+    entry_graph-requires
+    enum_told-1
+    enum_known-n
+    sort_by_graph-requires
+    shape_of-visited-in-Full
+    shape_of-nodes-in-Full
+    shape_of-outs-in-Full
+    shape_of-succs-in-Full
+    shape_of-edges-in-Full
+    shape_of-order-in-Full
+    shape_of-chain-in-Full
+    shape_of-plan-in-Full
+    returns-in-Full
+    shape_of-visited-in-Nodes
+    shape_of-nodes-in-Nodes
+    shape_of-outs-in-Nodes
+    shape_of-succs-in-Nodes
+    shape_of-edges-in-Nodes
+    shape_of-order-in-Nodes
+    shape_of-chain-in-Nodes
+    shape_of-list
+    shape_of-plan-in-Nodes
+    returns-in-Nodes)

@@ -13,49 +13,47 @@ use Rattle.dynamic_entries.proofs.sort_entries.Reads as sort-entries-reads
 use Rattle.entry_order.proofs.cycled_at.Reads as cycled-at-reads
 use Rattle.determine_side_effects.proofs.graph_crate.header_of.Reads as header-of-reads
 
-header-of-requires : tie.Need-header-of-requires
-header-of-requires c κs = c.before.before.before.before.before.before.before.before.before.before.requires.0.long
+header_of-h-requires : tie.Need-header_of-h-requires
+header_of-h-requires c κs = c.requires.0.long
 
-cycled-at-requires : tie.Need-cycled-at-requires
-cycled-at-requires c κs = let s = c.before.before.before.before.before.before.before.before.before.before.before in search_fits _ _ c.header_of.ensures _ _ _ _ _ _ _ _ s.requires.1.0
+cycled_at-at-requires : tie.Need-cycled_at-at-requires
+cycled_at-at-requires c κs = search_fits _ _ c.header_of-h.ensures _ _ _ _ _ _ _ _ c.requires.1.0
 
-find-cycles-requires : tie.Need-find-cycles-requires
-find-cycles-requires c κs = let s = c.before.before.before.before.before.before.before.before.before.before.before.before.before.before in rw c.before.before.cycled-at.ensures (search_ready _ _ c.before.before.before.header_of.ensures _ _ _ _ _ _ _ _ s.requires.1.0 s.args.order.now s.requires.1.1.0)
+find_cycles-found-requires : tie.Need-find_cycles-found-requires
+find_cycles-found-requires c κs = rw c.cycled_at-at.ensures (search_ready _ _ c.header_of-h.ensures _ _ _ _ _ _ _ _ c.requires.1.0 c.args.order.now c.requires.1.1.0)
 
-sort-entries-requires : tie.Need-sort-entries-requires
-sort-entries-requires c κs =
-    let s = c.before.before.before.before.before.before.before.before.before.before.before.before.before.before.before.before.before.before.before.before.before.before.before in
-    let k : length c.before.before.before.before.before.before.before.before.find-cycles.new.1.1.1.1.1.1.1.0 ≡ length s.args.order.now = c.before.before.before.before.before.before.before.before.find-cycles.auto.1.1.1.1.1.1.1.0 in
-    let d = search-done _ _ c.before.before.before.before.before.before.before.before.before.before.before.before.header_of.ensures _ _ _ _ _ _ _ _ s.requires.1.0 _ _ _ (rw c.before.before.before.before.before.before.before.before.before.before.before.cycled-at.ensures at c.before.before.before.before.before.before.before.before.find-cycles.ensures) (omega (arith, k, s.requires.1.1.0)) in
-    (s.requires.0, (d, (s.requires.1.1.1, s.requires.1.1.2, holds_length _ _ _ _ _ _ _ s.requires.1.0.2)))
+sort_entries-requires : tie.Need-sort_entries-requires
+sort_entries-requires c κs =
+    let k : length c.find_cycles-found.new.1.1.1.1.1.1.1.0 ≡ length c.args.order.now = c.find_cycles-found.auto.1.1.1.1.1.1.1.0 in
+    let d = search-done _ _ c.header_of-h.ensures _ _ _ _ _ _ _ _ c.requires.1.0 _ _ _ (rw c.cycled_at-at.ensures at c.find_cycles-found.ensures) (omega (arith, k, c.requires.1.1.0)) in
+    (c.requires.0, (d, (c.requires.1.1.1, c.requires.1.1.2, holds_length _ _ _ _ _ _ _ c.requires.1.0.2)))
 
-same_length : tie.Need-same-length
-same_length c = c.before.before.before.before.before.before.before.before.before.before.before.before.before.before.before.find-cycles.auto.1.1.1.1.1.1.1.0
+shape_of-order : tie.Need-shape_of-order
+shape_of-order c = c.find_cycles-found.auto.1.1.1.1.1.1.1.0
 
-same-length-2 : tie.Need-same-length-2
-same-length-2 c = c.before.before.before.before.before.before.sort-entries.auto.1.1.1.1.1.1.0
+shape_of-chain : tie.Need-shape_of-chain
+shape_of-chain c = c.sort_entries.auto.1.1.1.1.1.1.0
 
-same-length-3 : tie.Need-same-length-3
-same-length-3 c = c.before.before.before.before.before.before.sort-entries.auto.1.1.1.1.1.1.1.0
+shape_of-list : tie.Need-shape_of-list
+shape_of-list c = c.sort_entries.auto.1.1.1.1.1.1.1.0
 
-same-length-4 : tie.Need-same-length-4
-same-length-4 c = c.before.before.before.before.before.before.sort-entries.auto.1.1.1.1.1.1.1.1.0 ∙ c.before.before.before.before.before.before.before.before.before.before.before.before.before.before.before.find-cycles.auto.1.1.1.1.1.1.1.1.0
+shape_of-plan : tie.Need-shape_of-plan
+shape_of-plan c = c.sort_entries.auto.1.1.1.1.1.1.1.1.0 ∙ c.find_cycles-found.auto.1.1.1.1.1.1.1.1.0
 
 returns : tie.Need-returns
 returns c =
-    let s = c.before.before.before.before.before.before.before.before.before.before.before.before.before.before.before.before.before.before.before.before.before.before.before.before.before.before.before.before.before.before in
-    (c.before.before.before.before.before.before.sort-entries.ensures.0, search-unlived _ _ c.before.before.before.before.before.before.before.before.before.before.before.before.before.before.before.before.before.before.before.header_of.ensures _ _ _ _ _ _ _ _ s.requires.1.0 _ _ _ (rw c.before.before.before.before.before.before.before.before.before.before.before.before.before.before.before.before.before.before.cycled-at.ensures at c.before.before.before.before.before.before.before.before.before.before.before.before.before.before.before.find-cycles.ensures) _ c.before.before.before.before.before.before.sort-entries.ensures.1)
+    (c.sort_entries.ensures.0, search-unlived _ _ c.header_of-h.ensures _ _ _ _ _ _ _ _ c.requires.1.0 _ _ _ (rw c.cycled_at-at.ensures at c.find_cycles-found.ensures) _ c.sort_entries.ensures.1)
 
-pub sort-by-graph-spec : {M : Type 1} → statement M
-sort-by-graph-spec =
+pub sort_by_graph_spec : {M : Type 1} → statement M
+sort_by_graph_spec =
     tie.close
     (tie.spec
-    header-of-requires
-    cycled-at-requires
-    find-cycles-requires
-    sort-entries-requires
-    same_length
-    same-length-2
-    same-length-3
-    same-length-4
+    header_of-h-requires
+    cycled_at-at-requires
+    find_cycles-found-requires
+    sort_entries-requires
+    shape_of-order
+    shape_of-chain
+    shape_of-list
+    shape_of-plan
     returns)

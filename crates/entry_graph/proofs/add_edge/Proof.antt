@@ -10,156 +10,149 @@ use Rattle.entry_graph.proofs.add_edge.Statement.{statement}
 use Rattle.entry_graph.proofs.add_edge.Tie as tie
 
 -- the first end is put, and then both
-one-put : (c : tie.After-put-node) → let s = c.before.before.before.before.before.before.before in
-    Placed s.args.modules s.args.cap s.args.from s.args.nodes.now s.args.n s.args.outs.now c.put-node.new.1.1.0 c.put-node.result c.put-node.new.1.1.1.0 s.args.succs.now s.args.edges.now
-one-put c = let s = c.before.before.before.before.before.before.before in placed s.requires.0 _ s.requires.1.0 c.put-node.ensures
+one-put : (c : tie.After-put_node-first) → Placed c.args.modules c.args.cap c.args.from c.args.nodes.now c.args.n c.args.outs.now c.put_node-first.new.1.1.0 c.put_node-first.result c.put_node-first.new.1.1.1.0 c.args.succs.now c.args.edges.now
+one-put c = placed c.requires.0 _ c.requires.1.0 c.put_node-first.ensures
 
-both-put : (c : tie.After-put-node2) → let s = c.before.before.before.before.before.before.before.before.before.before.before.before.before.before in
-    Ends s.args.modules s.args.cap s.args.from s.args.to s.args.nodes.now s.args.n s.args.outs.now c.put-node2.new.1.1.0 c.put-node2.result c.put-node2.new.1.1.1.0 s.args.succs.now s.args.edges.now
-both-put c = let p = one-put c.before.before.before.before.before.before.before in ends p (placed p.stored _ c.before.before.before.before.before.before.before.before.before.before.before.before.before.before.requires.1.1 c.put-node2.ensures)
+both-put : (c : tie.After-put_node-both) → Ends c.args.modules c.args.cap c.args.from c.args.to c.args.nodes.now c.args.n c.args.outs.now c.put_node-both.new.1.1.0 c.put_node-both.result c.put_node-both.new.1.1.1.0 c.args.succs.now c.args.edges.now
+both-put c = let p = one-put c.before.before.before.before.before.before.before in ends p (placed p.stored _ c.requires.1.1 c.put_node-both.ensures)
 
 -- the edge's bit is inside
-bit-inside : (c : tie.After-cell) → c.cell.result < 8 * length c.before.before.before.before.before.before.before.before.before.before.before.before.before.before.before.before.before.before.before.args.edges.now
+bit-inside : (c : tie.After-cell-bit) → c.cell-bit.result < 8 * length c.args.edges.now
 bit-inside c =
-    let s = c.before.before.before.before.before.before.before.before.before.before.before.before.before.before.before.before.before.before.before in
-    rw c.cell.ensures (omega (arith, (both-put c.before.before.before.before.before).stored.edges_long, cell_below s.args.modules s.args.modules s.args.to s.args.from s.requires.1.1 s.requires.1.0))
+    rw c.cell-bit.ensures (omega (arith, (both-put c.before.before.before.before.before).stored.edges_long, cell_below c.args.modules c.args.modules c.args.to c.args.from c.requires.1.1 c.requires.1.0))
 
 -- there is room for a successor
-room : (c : tie.Else2) → let s = c.before.before.before.before.before.before.before.before.before.before.before.before.before.before.before.before.before.before.before.before.before.before.before.before in get_or c.before.before.before.before.before.before.before.before.before.before.put-node2.new.1.1.1.0 s.args.from 0 - 1 < s.args.cap
-room c = let s = c.before.before.before.before.before.before.before.before.before.before.before.before.before.before.before.before.before.before.before.before.before.before.before.before in let t = both-put c.before.before.before.before.before.before.before.before.before.before in omega (arith, t.stored.rows_fit s.args.from s.requires.1.0, c.if2.false)
+room : (c : tie.Else-count-cap) → get_or c.put_node-both.new.1.1.1.0 c.args.from 0 - 1 < c.args.cap
+room c = let t = both-put c.before.before.before.before.before.before.before.before.before in omega (arith, t.stored.rows_fit c.args.from c.requires.1.0, c.if-count-cap.false)
 
-cell-inside : (c : tie.After-cell2) → c.cell2.result < length c.before.before.before.before.before.before.before.before.before.before.before.before.before.before.before.before.before.before.before.before.before.before.before.before.before.args.succs.now
+cell-inside : (c : tie.After-cell-at) → c.cell-at.result < length c.args.succs.now
 cell-inside c =
-    let s = c.before.before.before.before.before.before.before.before.before.before.before.before.before.before.before.before.before.before.before.before.before.before.before.before.before in
-    rw c.cell2.ensures (omega (arith, (both-put c.before.before.before.before.before.before.before.before.before.before.before).stored.succs_long, cell_below s.args.modules s.args.cap s.args.from _ s.requires.1.0 (room c.before)))
+    rw c.cell-at.ensures (omega (arith, (both-put c.before.before.before.before.before.before.before.before.before.before).stored.succs_long, cell_below c.args.modules c.args.cap c.args.from _ c.requires.1.0 (room c.before)))
 
 fits : (x : ℕ) → x < 1026 → Fits w64 x
 fits x h = omega arith
 
-put-node-requires : tie.Need-put-node-requires
-put-node-requires c κs =
-    let s = c.before.before.before.before.before.before in (omega (arith, s.requires.0.outs_long, s.requires.1.0), λ z. omega (arith, s.requires.0.nodes_long, node-room s.requires.0 s.args.from s.requires.1.0 z))
+put_node-first-requires : tie.Need-put_node-first-requires
+put_node-first-requires c κs =
+    (omega (arith, c.requires.0.outs_long, c.requires.1.0), λ z. omega (arith, c.requires.0.nodes_long, node-room c.requires.0 c.args.from c.requires.1.0 z))
 
-put-node-requires-2 : tie.Need-put-node-requires-2
-put-node-requires-2 c κs =
+put_node-both-requires : tie.Need-put_node-both-requires
+put_node-both-requires c κs =
     let p = one-put c.before.before.before.before.before.before in
-    let s = c.before.before.before.before.before.before.before.before.before.before.before.before.before in
-    let o : s.args.to < length c.before.before.before.before.before.before.put-node.new.1.1.1.0 = omega (arith, p.stored.outs_long, s.requires.1.1) in
-    (o, λ z. let l : c.before.before.before.before.before.before.put-node.result < length c.before.before.before.before.before.before.put-node.new.1.1.0 = omega (arith, p.stored.nodes_long, node-room p.stored s.args.to s.requires.1.1 z) in l)
+    let o : c.args.to < length c.put_node-first.new.1.1.1.0 = omega (arith, p.stored.outs_long, c.requires.1.1) in
+    (o, λ z. let l : c.put_node-first.result < length c.put_node-first.new.1.1.0 = omega (arith, p.stored.nodes_long, node-room p.stored c.args.to c.requires.1.1 z) in l)
 
-cell-requires : tie.Need-cell-requires
-cell-requires c κs = let s = c.before.before.before.before.before.before.before.before.before.before.before.before.before.before.before.before.before.before in (s.requires.0.few, omega (arith, s.requires.0.few, s.requires.1.1), omega (arith, s.requires.0.few, s.requires.1.0))
+cell-bit-requires : tie.Need-cell-bit-requires
+cell-bit-requires c κs = (c.requires.0.few, omega (arith, c.requires.0.few, c.requires.1.1), omega (arith, c.requires.0.few, c.requires.1.0))
 
 test-requires : tie.Need-test-requires
-test-requires c κs = bit-inside c.before
+test-requires c κs = bit-inside c
 
-same_length : tie.Need-same-length
-same_length c = c.before.before.before.before.before.before.before.before.put-node2.auto.1.1.0 ∙ c.before.before.before.before.before.before.before.before.before.before.before.before.before.before.before.put-node.auto.1.1.0
+shape_of-nodes-then-test : tie.Need-shape_of-nodes-then-test
+shape_of-nodes-then-test c = c.put_node-both.auto.1.1.0 ∙ c.put_node-first.auto.1.1.0
 
-same-length-2 : tie.Need-same-length-2
-same-length-2 c = c.before.before.before.before.before.before.before.before.put-node2.auto.1.1.1.0 ∙ c.before.before.before.before.before.before.before.before.before.before.before.before.before.before.before.put-node.auto.1.1.1.0
+shape_of-outs-then-test : tie.Need-shape_of-outs-then-test
+shape_of-outs-then-test c = c.put_node-both.auto.1.1.1.0 ∙ c.put_node-first.auto.1.1.1.0
 
-same-length-3 : tie.Need-same-length-3
-same-length-3 c = refl
+shape_of-edges-then-test : tie.Need-shape_of-edges-then-test
+shape_of-edges-then-test c = refl
 
-returns : tie.Need-returns
-returns c = let s = c.before.before.before.before.before.before.before.before.before.before.before.before.before.before.before.before.before.before.before.before.before.before in edge_there (both-put c.before.before.before.before.before.before.before.before) s.requires.1.0 s.requires.1.1 (rw c.before.before.before.cell.ensures at (sym c.before.test.ensures ∙ c.if1.true))
+returns-then-test : tie.Need-returns-then-test
+returns-then-test c = edge_there (both-put c.before.before.before.before.before.before.before) c.requires.1.0 c.requires.1.1 (rw c.cell-bit.ensures at (sym c.test.ensures ∙ c.if-test.true))
 
-mul-count : tie.Need-overflow-mul-count
-mul-count c = let s = c.before.before.before.before.before.before.before.before.before.before.before.before.before.before.before.before.before.before.before.before.before.before in omega (arith, s.requires.0.few, s.requires.1.0)
+offset_bounds-outs-from : tie.Need-offset_bounds-outs-from
+offset_bounds-outs-from c = omega (arith, c.requires.0.few, c.requires.1.0)
 
-slice-read-count : tie.Need-slice-read-count
-slice-read-count c = let s = c.before.before.before.before.before.before.before.before.before.before.before.before.before.before.before.before.before.before.before.before.before.before.before in let l : s.args.from < length c.before.before.before.before.before.before.before.before.before.put-node2.new.1.1.1.0 = omega (arith, (both-put c.before.before.before.before.before.before.before.before.before).stored.outs_long, s.requires.1.0) in l
+bounds-outs-from : tie.Need-bounds-outs-from
+bounds-outs-from c = let l : c.args.from < length c.put_node-both.new.1.1.1.0 = omega (arith, (both-put c.before.before.before.before.before.before.before.before).stored.outs_long, c.requires.1.0) in l
 
-sub-count : tie.Need-overflow-sub-count
-sub-count c = let l : 1 ≤ get_or c.before.before.before.before.before.before.before.before.before.put-node2.new.1.1.1.0 c.before.before.before.before.before.before.before.before.before.before.before.before.before.before.before.before.before.before.before.before.before.before.before.args.from 0 = omega (arith, (both-put c.before.before.before.before.before.before.before.before.before).from_put) in l
+overflow_sub-count : tie.Need-overflow_sub-count
+overflow_sub-count c = let l : 1 ≤ get_or c.put_node-both.new.1.1.1.0 c.args.from 0 = omega (arith, (both-put c.before.before.before.before.before.before.before.before).from_put) in l
 
-same-length-4 : tie.Need-same-length-4
-same-length-4 c = c.before.before.before.before.before.before.before.before.before.before.put-node2.auto.1.1.0 ∙ c.before.before.before.before.before.before.before.before.before.before.before.before.before.before.before.before.before.put-node.auto.1.1.0
+shape_of-nodes-then-count-cap : tie.Need-shape_of-nodes-then-count-cap
+shape_of-nodes-then-count-cap c = c.put_node-both.auto.1.1.0 ∙ c.put_node-first.auto.1.1.0
 
-same-length-5 : tie.Need-same-length-5
-same-length-5 c = c.before.before.before.before.before.before.before.before.before.before.put-node2.auto.1.1.1.0 ∙ c.before.before.before.before.before.before.before.before.before.before.before.before.before.before.before.before.before.put-node.auto.1.1.1.0
+shape_of-outs-then-count-cap : tie.Need-shape_of-outs-then-count-cap
+shape_of-outs-then-count-cap c = c.put_node-both.auto.1.1.1.0 ∙ c.put_node-first.auto.1.1.1.0
 
-same-length-6 : tie.Need-same-length-6
-same-length-6 c = refl
+shape_of-edges-then-count-cap : tie.Need-shape_of-edges-then-count-cap
+shape_of-edges-then-count-cap c = refl
 
-returns-2 : tie.Need-returns-2
-returns-2 c = λ v. let s = c.before.before.before.before.before.before.before.before.before.before.before.before.before.before.before.before.before.before.before.before.before.before.before.before in edge-full (both-put c.before.before.before.before.before.before.before.before.before.before) s.requires.1.0 s.requires.1.1 (rw c.before.before.before.before.before.cell.ensures at (sym c.before.before.before.test.ensures ∙ c.before.before.if1.false)) _ refl c.if2.true v _ _ _ _ _
+returns-then-count-cap : tie.Need-returns-then-count-cap
+returns-then-count-cap c = λ v. edge-full (both-put c.before.before.before.before.before.before.before.before.before) c.requires.1.0 c.requires.1.1 (rw c.cell-bit.ensures at (sym c.test.ensures ∙ c.if-test.false)) _ refl c.if-count-cap.true v _ _ _ _ _
 
-cell-requires-2 : tie.Need-cell-requires-2
-cell-requires-2 c κs =
-    let s = c.before.before.before.before.before.before.before.before.before.before.before.before.before.before.before.before.before.before.before.before.before.before.before.before in
-    let l : get_or c.before.before.before.before.before.before.before.before.before.before.put-node2.new.1.1.1.0 s.args.from 0 - 1 < 1024 = omega (arith, room c, s.requires.0.cap_few) in
-    (s.requires.0.cap_few, omega (arith, s.requires.0.few, s.requires.1.0), l)
+cell-at-requires : tie.Need-cell-at-requires
+cell-at-requires c κs =
+    let l : get_or c.put_node-both.new.1.1.1.0 c.args.from 0 - 1 < 1024 = omega (arith, room c, c.requires.0.cap_few) in
+    (c.requires.0.cap_few, omega (arith, c.requires.0.few, c.requires.1.0), l)
 
 narrow-requires : tie.Need-narrow-requires
-narrow-requires c κs = let s = c.before.before.before.before.before.before.before.before.before.before.before.before.before.before.before.before.before.before.before.before.before.before.before.before.before in omega (arith, s.requires.0.few, s.requires.1.1)
+narrow-requires c κs = omega (arith, c.requires.0.few, c.requires.1.1)
 
-mul-succs : tie.Need-overflow-mul-succs
-mul-succs c = let s = c.before.before.before.before.before.before.before.before.before.before.before.before.before.before.before.before.before.before.before.before.before.before.before.before.before.before in let l : c.before.cell2.result < 1050000 = rw c.before.cell2.ensures (omega (arith, cell_small s.args.cap s.args.from s.requires.0.cap_few (omega (arith, s.requires.0.few, s.requires.1.0)), room c.before.before, s.requires.0.cap_few)) in omega (arith, l)
+offset_bounds-succs-at : tie.Need-offset_bounds-succs-at
+offset_bounds-succs-at c = let l : c.cell-at.result < 1050000 = rw c.cell-at.ensures (omega (arith, cell_small c.args.cap c.args.from c.requires.0.cap_few (omega (arith, c.requires.0.few, c.requires.1.0)), room c.before.before, c.requires.0.cap_few)) in omega (arith, l)
 
-slice-write-succs : tie.Need-slice-write-succs
-slice-write-succs c = cell-inside c.before
+bounds-succs-at : tie.Need-bounds-succs-at
+bounds-succs-at c = cell-inside c.before
 
-add-outs : tie.Need-overflow-add-outs
-add-outs c = let s = c.before.before.before.before.before.before.before.before.before.before.before.before.before.before.before.before.before.before.before.before.before.before.before.before.before.before in let l : get_or c.before.before.before.before.before.before.before.before.before.before.before.before.put-node2.new.1.1.1.0 s.args.from 0 - 1 + 2 < 1026 = omega (arith, room c.before.before, s.requires.0.cap_few) in fits _ l
+overflow_add-outs : tie.Need-overflow_add-outs
+overflow_add-outs c = let l : get_or c.put_node-both.new.1.1.1.0 c.args.from 0 - 1 + 2 < 1026 = omega (arith, room c.before.before, c.requires.0.cap_few) in fits _ l
 
-mul-outs : tie.Need-overflow-mul-outs
-mul-outs c = let s = c.before.before.before.before.before.before.before.before.before.before.before.before.before.before.before.before.before.before.before.before.before.before.before.before.before.before in omega (arith, s.requires.0.few, s.requires.1.0)
+offset_bounds-outs-from-2 : tie.Need-offset_bounds-outs-from-2
+offset_bounds-outs-from-2 c = omega (arith, c.requires.0.few, c.requires.1.0)
 
-slice-write-outs : tie.Need-slice-write-outs
-slice-write-outs c = let s = c.before.before.before.before.before.before.before.before.before.before.before.before.before.before.before.before.before.before.before.before.before.before.before.before.before.before in let l : s.args.from < length c.before.before.before.before.before.before.before.before.before.before.before.before.put-node2.new.1.1.1.0 = omega (arith, (both-put c.before.before.before.before.before.before.before.before.before.before.before.before).stored.outs_long, s.requires.1.0) in l
+bounds-outs-from-2 : tie.Need-bounds-outs-from-2
+bounds-outs-from-2 c = let l : c.args.from < length c.put_node-both.new.1.1.1.0 = omega (arith, (both-put c.before.before.before.before.before.before.before.before.before.before.before).stored.outs_long, c.requires.1.0) in l
 
 set-requires : tie.Need-set-requires
-set-requires c κs = bit-inside c.before.before.before.before.before.before.before.before
+set-requires c κs = bit-inside c.before.before.before.before.before.before.before
 
-same-length-7 : tie.Need-same-length-7
-same-length-7 c = c.before.before.before.before.before.before.before.before.before.before.before.before.before.before.before.before.put-node2.auto.1.1.0 ∙ c.before.before.before.before.before.before.before.before.before.before.before.before.before.before.before.before.before.before.before.before.before.before.before.put-node.auto.1.1.0
+shape_of-nodes : tie.Need-shape_of-nodes
+shape_of-nodes c = c.put_node-both.auto.1.1.0 ∙ c.put_node-first.auto.1.1.0
 
-same-length-8 : tie.Need-same-length-8
-same-length-8 c = length-set c.before.before.before.before.before.before.before.before.before.before.before.before.before.before.before.before.put-node2.new.1.1.1.0 c.before.before.before.before.before.before.before.before.before.before.before.before.before.before.before.before.before.before.before.before.before.before.before.before.before.before.before.before.before.before.args.from (get_or c.before.before.before.before.before.before.before.before.before.before.before.before.before.before.before.before.put-node2.new.1.1.1.0 c.before.before.before.before.before.before.before.before.before.before.before.before.before.before.before.before.before.before.before.before.before.before.before.before.before.before.before.before.before.before.args.from 0 - 1 + 2) ∙ c.before.before.before.before.before.before.before.before.before.before.before.before.before.before.before.before.put-node2.auto.1.1.1.0 ∙ c.before.before.before.before.before.before.before.before.before.before.before.before.before.before.before.before.before.before.before.before.before.before.before.put-node.auto.1.1.1.0
+shape_of-outs : tie.Need-shape_of-outs
+shape_of-outs c = length-set c.put_node-both.new.1.1.1.0 c.args.from (get_or c.put_node-both.new.1.1.1.0 c.args.from 0 - 1 + 2) ∙ c.put_node-both.auto.1.1.1.0 ∙ c.put_node-first.auto.1.1.1.0
 
-same-length-9 : tie.Need-same-length-9
-same-length-9 c = length-set c.before.before.before.before.before.before.before.before.before.before.before.before.before.before.before.before.before.before.before.before.before.before.before.before.before.before.before.before.before.before.args.succs.now c.before.before.before.before.before.cell2.result c.before.before.before.before.narrow.result
+shape_of-succs : tie.Need-shape_of-succs
+shape_of-succs c = length-set c.args.succs.now c.cell-at.result c.narrow.result
 
-same-length-10 : tie.Need-same-length-10
-same-length-10 c = c.before.before.set.auto.0
+shape_of-edges : tie.Need-shape_of-edges
+shape_of-edges c = c.set.auto.0
 
-returns-3 : tie.Need-returns-3
-returns-3 c = λ v.
-    let s = c.before.before.before.before.before.before.before.before.before.before.before.before.before.before.before.before.before.before.before.before.before.before.before.before.before.before.before.before.before.before in
-    rw c.before.before.before.before.before.cell2.ensures
-    (edge-added (both-put c.before.before.before.before.before.before.before.before.before.before.before.before.before.before.before.before) s.requires.1.0 s.requires.1.1 (rw c.before.before.before.before.before.before.before.before.before.before.before.cell.ensures at (sym c.before.before.before.before.before.before.before.before.before.test.ensures ∙ c.before.before.before.before.before.before.before.before.if1.false)) _ _ refl c.before.before.before.before.before.before.if2.false c.before.before.before.before.narrow.ensures _ (rw c.before.before.before.before.before.before.before.before.before.before.before.cell.ensures at c.before.before.set.ensures) c.before.before.set.auto.0 v)
+returns : tie.Need-returns
+returns c = λ v.
+    rw c.cell-at.ensures
+    (edge-added (both-put c.before.before.before.before.before.before.before.before.before.before.before.before.before.before.before) c.requires.1.0 c.requires.1.1 (rw c.cell-bit.ensures at (sym c.test.ensures ∙ c.if-test.false)) _ _ refl c.if-count-cap.false c.narrow.ensures _ (rw c.cell-bit.ensures at c.set.ensures) c.set.auto.0 v)
 
-pub add-edge-spec : {M : Type 1} → statement M
-add-edge-spec =
+pub add_edge_spec : {M : Type 1} → statement M
+add_edge_spec =
     tie.close
     (tie.spec
-    put-node-requires
-    put-node-requires-2
-    cell-requires
+    put_node-first-requires
+    put_node-both-requires
+    cell-bit-requires
     test-requires
-    same_length
-    same-length-2
-    same-length-3
-    returns
-    mul-count
-    slice-read-count
-    sub-count
-    same-length-4
-    same-length-5
-    same-length-6
-    returns-2
-    cell-requires-2
+    shape_of-nodes-then-test
+    shape_of-outs-then-test
+    shape_of-edges-then-test
+    returns-then-test
+    offset_bounds-outs-from
+    bounds-outs-from
+    overflow_sub-count
+    shape_of-nodes-then-count-cap
+    shape_of-outs-then-count-cap
+    shape_of-edges-then-count-cap
+    returns-then-count-cap
+    cell-at-requires
     narrow-requires
-    mul-succs
-    slice-write-succs
-    add-outs
-    mul-outs
-    slice-write-outs
+    offset_bounds-succs-at
+    bounds-succs-at
+    overflow_add-outs
+    offset_bounds-outs-from-2
+    bounds-outs-from-2
     set-requires
-    same-length-7
-    same-length-8
-    same-length-9
-    same-length-10
-    returns-3)
+    shape_of-nodes
+    shape_of-outs
+    shape_of-succs
+    shape_of-edges
+    returns)

@@ -2,23 +2,30 @@ use Rattle.entry_graph.specs.Steps.{behind_edge}
 use Rattle.entry_graph.proofs.behind_edge.Statement.{statement}
 use Rattle.entry_graph.proofs.behind_edge.Tie as tie
 
-enum-known-built : tie.Need-enum-known-built
-enum-known-built c = c.match.keys1
+enum_known-built : tie.Need-enum_known-built
+enum_known-built c = c.in-Nodes.keys1
 
-returns : tie.Need-returns
+returns-then-seen : tie.Need-returns-then-seen
 unfolding behind_edge
-returns c = rw (c.before.before.built.given.1, c.if1.true)
+returns-then-seen c = rw (c.in-Nodes.is, c.if-seen.true)
 
-enum_told : tie.Need-enum-told
-enum_told c = c.match.keys2
+enum_told-1 : tie.Need-enum_told-1
+enum_told-1 c = c.in-Full.keys2
 
-returns-2 : tie.Need-returns-2
+returns-else-seen : tie.Need-returns-else-seen
 unfolding behind_edge
-returns-2 c = rw (c.before.before.built.given.1, c.if1.false)
+returns-else-seen c = rw (c.in-Nodes.is, c.if-seen.false)
 
-returns-3 : tie.Need-returns-3
+returns-in-Full : tie.Need-returns-in-Full
 unfolding behind_edge
-returns-3 c = rw c.enum_told.given.1
+returns-in-Full c = rw c.in-Full.is
 
-pub behind-edge-spec : {M : Type 1} → statement M
-behind-edge-spec = tie.close (tie.spec enum-known-built returns enum_told returns-2 returns-3)
+pub behind_edge_spec : {M : Type 1} → statement M
+behind_edge_spec =
+    tie.close
+    (tie.spec
+    enum_known-built
+    returns-then-seen
+    enum_told-1
+    returns-else-seen
+    returns-in-Full)

@@ -12,231 +12,230 @@ use Rattle.entry_graph.proofs.Frames.{Stacked, stacked_start, stacked_in, stacke
 use Rattle.entry_graph.proofs.construct_dynamic_entry_graph.Statement.{statement}
 use Rattle.entry_graph.proofs.construct_dynamic_entry_graph.Tie as tie
 
-abbrev invariant-loop : tie.invariant-loop
-invariant-loop numbers tables cap n records₀ walks₀ visited₀ nodes₀ outs₀ succs₀ edges₀ h root₀ m₀ k₀ c₀ depth₀ records walks visited nodes outs succs edges root m k c depth =
+abbrev invariant-loop-i : tie.invariant-loop-i
+invariant-loop-i numbers tables cap n records₀ walks₀ visited₀ nodes₀ outs₀ succs₀ edges₀ h root₀ m₀ k₀ c₀ depth₀ records walks visited nodes outs succs edges root m k c depth =
     (length records ≡ length records₀) × (length walks ≡ length walks₀) × (length visited ≡ length visited₀) × (length nodes ≡ length nodes₀) × (length outs ≡ length outs₀)
     × (length succs ≡ length succs₀) × (length edges ≡ length edges₀)
     × Stacked (graph_in numbers) (header_in numbers).modules cap (take_from (graph_in numbers) ((header_in numbers).modules - 1) root₀ m₀ 0 (ordering_in (header_in numbers).modules cap visited₀ nodes₀ n outs₀ succs₀))
     records walks visited nodes outs succs edges root m k c depth
 
 -- each walk that starts visits a module, and each that ends takes a frame away
-abbrev decreases-loop : tie.decreases-loop
-decreases-loop numbers tables cap n records₀ walks₀ visited₀ nodes₀ outs₀ succs₀ edges₀ h root₀ m₀ k₀ c₀ depth₀ records walks visited nodes outs succs edges root m k c depth =
+abbrev decreases-loop-i : tie.decreases-loop-i
+decreases-loop-i numbers tables cap n records₀ walks₀ visited₀ nodes₀ outs₀ succs₀ edges₀ h root₀ m₀ k₀ c₀ depth₀ records walks visited nodes outs succs edges root m k c depth =
     2 * fresh (header_in numbers).modules (bit_at visited) + depth
 
 -- there is room for one frame more
-room : (c : tie.At-loop invariant-loop decreases-loop) → (c.loop.depth < length c.loop.records) × (c.loop.depth < length c.loop.walks)
+room : (c : tie.At-loop-i invariant-loop-i decreases-loop-i) → (c.loop-i.depth < length c.loop-i.records) × (c.loop-i.depth < length c.loop-i.walks)
 room c =
-    let d = c.loop.invariant.7.depth_below in
-    (omega (arith, d, c.before.before.before.before.before.before.before.before.before.before.before.before.before.before.before.requires.1.1.0.0, c.loop.invariant.0), omega (arith, d, c.before.before.before.before.before.before.before.before.before.before.before.before.before.before.before.requires.1.1.0.1, c.loop.invariant.1))
+    let d = c.loop-i.invariant.7.depth_below in
+    (omega (arith, d, c.requires.1.1.0.0, c.loop-i.invariant.0), omega (arith, d, c.requires.1.1.0.1, c.loop-i.invariant.1))
 
 -- each module has a bit
-long : (c : tie.At-loop invariant-loop decreases-loop) → (header_in c.before.before.before.before.before.before.before.before.before.before.before.before.before.before.before.args.numbers.now).modules ≤ 8 * length c.loop.visited
-long c = omega (arith, c.before.before.before.before.before.before.before.before.before.before.before.before.before.before.before.requires.1.1.1.1, c.loop.invariant.2, c.before.before.before.set.auto.0)
+long : (c : tie.At-loop-i invariant-loop-i decreases-loop-i) → (header_in c.args.numbers.now).modules ≤ 8 * length c.loop-i.visited
+long c = omega (arith, c.requires.1.1.1.1, c.loop-i.invariant.2, c.set.auto.0)
 
-header-of-requires : tie.Need-header-of-requires invariant-loop decreases-loop
-header-of-requires c κs = c.before.before.before.before.before.before.before.before.before.requires.0.long
+header_of-h-requires : tie.Need-header_of-h-requires invariant-loop-i decreases-loop-i
+header_of-h-requires c κs = c.requires.0.long
 
-set-requires : tie.Need-set-requires invariant-loop decreases-loop
-set-requires c κs = omega (arith, c.before.before.before.before.before.before.before.before.before.before.before.requires.1.1.1.0, c.before.before.before.before.before.before.before.before.before.before.before.requires.1.1.1.1)
+set-requires : tie.Need-set-requires invariant-loop-i decreases-loop-i
+set-requires c κs = omega (arith, c.requires.1.1.1.0, c.requires.1.1.1.1)
 
-loop-holds : tie.Need-loop-init invariant-loop decreases-loop
-loop-holds c = (refl, refl, refl, refl, refl, refl, refl, stacked_start c.before.before.before.before.before.before.before.before.before.before.before.before.before.before.requires.1.0 c.before.before.before.before.before.before.before.before.before.before.before.before.before.before.requires.1.1.1.0)
+loop-i-init : tie.Need-loop-i-init invariant-loop-i decreases-loop-i
+loop-i-init c = (refl, refl, refl, refl, refl, refl, refl, stacked_start c.requires.1.0 c.requires.1.1.1.0)
 
-sub-take-records : tie.Need-overflow-sub-take-records invariant-loop decreases-loop
-sub-take-records c = rw c.before.before.before.before.before.before.header_of.ensures (omega (arith, c.before.loop.invariant.7.depth_below))
+overflow_sub-h : tie.Need-overflow_sub-h invariant-loop-i decreases-loop-i
+overflow_sub-h c = rw c.header_of-h.ensures (omega (arith, c.loop-i.invariant.7.depth_below))
 
-sub-take-records-2 : tie.Need-overflow-sub-take-records-2 invariant-loop decreases-loop
-sub-take-records-2 c = rw c.before.before.before.before.before.before.header_of.ensures (omega (arith, c.before.loop.invariant.7.depth_below))
+overflow_sub-h-in-loop-i : tie.Need-overflow_sub-h-in-loop-i invariant-loop-i decreases-loop-i
+overflow_sub-h-in-loop-i c = rw c.header_of-h.ensures (omega (arith, c.loop-i.invariant.7.depth_below))
 
-take-records-requires : tie.Need-take-records-requires invariant-loop decreases-loop
-take-records-requires c κs = let i = c.before.before.before.before.before.before.loop.invariant.7 in (c.before.before.before.before.before.before.before.before.before.before.before.before.before.before.before.before.before.before.before.before.before.requires.0, (i.stored, (i.root_below, i.module_below, long c.before.before.before.before.before.before)))
+take_records-requires : tie.Need-take_records-requires invariant-loop-i decreases-loop-i
+take_records-requires c κs = let i = c.loop-i.invariant.7 in (c.requires.0, (i.stored, (i.root_below, i.module_below, long c.before.before.before.before.before)))
 
-enum-known-i : tie.Need-enum-known-i invariant-loop decreases-loop
-enum-known-i c = c.match.keys1
+enum_known-i : tie.Need-enum_known-i invariant-loop-i decreases-loop-i
+enum_known-i c = c.in-UpTo.keys1
 
-set-requires-2 : tie.Need-set-requires-2 invariant-loop decreases-loop
-set-requires-2 c κs = let t = (c.before.before.before.before.before.before.before.before.before.before.before.before.take-records.ensures.upto_below _ _ _ _ c.before.before.i.given.1).1 in omega (arith, t, long c.before.before.before.before.before.before.before.before.before.before.before.before.before.before.before.before.before.before.before)
+set-requires-in-UpTo : tie.Need-set-requires-in-UpTo invariant-loop-i decreases-loop-i
+set-requires-in-UpTo c κs = let t = (c.take_records.ensures.upto_below _ _ _ _ c.in-UpTo.is).1 in omega (arith, t, long c.before.before.before.before.before.before.before.before.before.before.before.before.before.before.before.before)
 
-mul-records : tie.Need-overflow-mul-records invariant-loop decreases-loop
-mul-records c = let i = c.before.before.before.before.before.before.before.before.before.before.before.before.before.before.before.before.before.before.before.before.before.before.loop.invariant.7 in omega (arith, i.depth_below, i.stored.few)
+offset_bounds-records-depth : tie.Need-offset_bounds-records-depth invariant-loop-i decreases-loop-i
+offset_bounds-records-depth c = let i = c.loop-i.invariant.7 in omega (arith, i.depth_below, i.stored.few)
 
-slice-write-records : tie.Need-slice-write-records invariant-loop decreases-loop
-slice-write-records c = (room c.before.before.before.before.before.before.before.before.before.before.before.before.before.before.before.before.before.before.before.before.before.before).0
+bounds-records-depth : tie.Need-bounds-records-depth invariant-loop-i decreases-loop-i
+bounds-records-depth c = (room c.before.before.before.before.before.before.before.before.before.before.before.before.before.before.before.before.before.before.before).0
 
-mul-walks : tie.Need-overflow-mul-walks invariant-loop decreases-loop
-mul-walks c = let i = c.before.before.before.before.before.before.before.before.before.before.before.before.before.before.before.before.before.before.before.before.before.before.loop.invariant.7 in omega (arith, i.module_below, i.stored.few)
+overflow_mul-walks : tie.Need-overflow_mul-walks invariant-loop-i decreases-loop-i
+overflow_mul-walks c = let i = c.loop-i.invariant.7 in omega (arith, i.module_below, i.stored.few)
 
-add-walks : tie.Need-overflow-add-walks invariant-loop decreases-loop
-add-walks c = let i = c.before.before.before.before.before.before.before.before.before.before.before.before.before.before.before.before.before.before.before.before.before.before.loop.invariant.7 in omega (arith, i.module_below, i.root_below, i.stored.few)
+overflow_add-walks : tie.Need-overflow_add-walks invariant-loop-i decreases-loop-i
+overflow_add-walks c = let i = c.loop-i.invariant.7 in omega (arith, i.module_below, i.root_below, i.stored.few)
 
-mul-walks-2 : tie.Need-overflow-mul-walks-2 invariant-loop decreases-loop
-mul-walks-2 c = let i = c.before.before.before.before.before.before.before.before.before.before.before.before.before.before.before.before.before.before.before.before.before.before.loop.invariant.7 in omega (arith, i.depth_below, i.stored.few)
+offset_bounds-walks-depth : tie.Need-offset_bounds-walks-depth invariant-loop-i decreases-loop-i
+offset_bounds-walks-depth c = let i = c.loop-i.invariant.7 in omega (arith, i.depth_below, i.stored.few)
 
-slice-write-walks : tie.Need-slice-write-walks invariant-loop decreases-loop
-slice-write-walks c = (room c.before.before.before.before.before.before.before.before.before.before.before.before.before.before.before.before.before.before.before.before.before.before).1
+bounds-walks-depth : tie.Need-bounds-walks-depth invariant-loop-i decreases-loop-i
+bounds-walks-depth c = (room c.before.before.before.before.before.before.before.before.before.before.before.before.before.before.before.before.before.before.before).1
 
-add-depth : tie.Need-overflow-add-depth invariant-loop decreases-loop
-add-depth c = let i = c.before.before.before.before.before.before.before.before.before.before.before.before.before.before.before.before.before.before.before.before.before.before.loop.invariant.7 in omega (arith, i.depth_below, i.stored.few)
+overflow_add-depth : tie.Need-overflow_add-depth invariant-loop-i decreases-loop-i
+overflow_add-depth c = let i = c.loop-i.invariant.7 in omega (arith, i.depth_below, i.stored.few)
 
-loop-less : tie.Need-loop-smaller invariant-loop decreases-loop
-loop-less c =
-    let u = c.before.before.before.before.before.before.before.before.before.before.before.before.before.before.before.take-records.ensures.upto_below _ _ _ _ c.before.before.before.before.before.i.given.1 in
-    let l = fresh_set _ _ _ _ c.before.before.set2.ensures u.1 u.3 in
+loop-i-smaller-in-UpTo : tie.Need-loop-i-smaller-in-UpTo invariant-loop-i decreases-loop-i
+loop-i-smaller-in-UpTo c =
+    let u = c.take_records.ensures.upto_below _ _ _ _ c.in-UpTo.is in
+    let l = fresh_set _ _ _ _ c.set-in-UpTo.ensures u.1 u.3 in
     omega (arith, l)
 
-loop-again : tie.Need-loop-preserved invariant-loop decreases-loop
-loop-again c = let l = c.before.before.before.before.before.before.before.before.before.before.before.before.before.before.before.before.before.before.before.before.before.before in (
-  rw length-set l.loop.invariant.0,
-  rw length-set l.loop.invariant.1,
-  c.before.before.set2.auto.0 ∙ l.loop.invariant.2,
-  c.before.before.before.before.before.before.before.before.before.before.before.before.before.before.before.take-records.auto.1.1.1.1.1.1.1.1.1.0 ∙ l.loop.invariant.3,
-  c.before.before.before.before.before.before.before.before.before.before.before.before.before.before.before.take-records.auto.1.1.1.1.1.1.1.1.1.1.0 ∙ l.loop.invariant.4,
-  c.before.before.before.before.before.before.before.before.before.before.before.before.before.before.before.take-records.auto.1.1.1.1.1.1.1.1.1.1.1.0 ∙ l.loop.invariant.5,
-  c.before.before.before.before.before.before.before.before.before.before.before.before.before.before.before.take-records.auto.1.1.1.1.1.1.1.1.1.1.1.1.0 ∙ l.loop.invariant.6,
-  stacked_in l.loop.invariant.7 (rw c.before.before.before.before.before.before.before.before.before.before.before.before.before.before.before.before.before.before.before.before.before.before.before.before.before.before.before.header_of.ensures at c.before.before.before.before.before.before.before.before.before.before.before.before.before.before.before.take-records.ensures) _ _ _ _ c.before.before.before.before.before.i.given.1 _ c.before.before.set2.ensures (room l).0 (room l).1,
+loop-i-preserved-in-UpTo : tie.Need-loop-i-preserved-in-UpTo invariant-loop-i decreases-loop-i
+loop-i-preserved-in-UpTo c = (
+  rw length-set c.loop-i.invariant.0,
+  rw length-set c.loop-i.invariant.1,
+  c.set-in-UpTo.auto.0 ∙ c.loop-i.invariant.2,
+  c.take_records.auto.1.1.1.1.1.1.1.1.1.0 ∙ c.loop-i.invariant.3,
+  c.take_records.auto.1.1.1.1.1.1.1.1.1.1.0 ∙ c.loop-i.invariant.4,
+  c.take_records.auto.1.1.1.1.1.1.1.1.1.1.1.0 ∙ c.loop-i.invariant.5,
+  c.take_records.auto.1.1.1.1.1.1.1.1.1.1.1.1.0 ∙ c.loop-i.invariant.6,
+  stacked_in c.loop-i.invariant.7 (rw c.header_of-h.ensures at c.take_records.ensures) _ _ _ _ c.in-UpTo.is _ c.set-in-UpTo.ensures (room c.before.before.before.before.before.before.before.before.before.before.before.before.before.before.before.before.before.before.before).0 (room c.before.before.before.before.before.before.before.before.before.before.before.before.before.before.before.before.before.before.before).1,
 )
 
-enum-known-d : tie.Need-enum-known-d invariant-loop decreases-loop
-enum-known-d c = c.match.keys2
+enum_known-d : tie.Need-enum_known-d invariant-loop-i decreases-loop-i
+enum_known-d c = c.in-All.keys2
 
-same_length : tie.Need-same-length invariant-loop decreases-loop
-same_length c = c.before.before.before.before.before.before.before.before.before.before.before.before.before.before.before.before.before.before.before.loop.invariant.0
+shape_of-records-then-depth-eq0 : tie.Need-shape_of-records-then-depth-eq0 invariant-loop-i decreases-loop-i
+shape_of-records-then-depth-eq0 c = c.loop-i.invariant.0
 
-same-length-2 : tie.Need-same-length-2 invariant-loop decreases-loop
-same-length-2 c = c.before.before.before.before.before.before.before.before.before.before.before.before.before.before.before.before.before.before.before.loop.invariant.1
+shape_of-walks-then-depth-eq0 : tie.Need-shape_of-walks-then-depth-eq0 invariant-loop-i decreases-loop-i
+shape_of-walks-then-depth-eq0 c = c.loop-i.invariant.1
 
-same-length-3 : tie.Need-same-length-3 invariant-loop decreases-loop
-same-length-3 c = c.before.before.before.before.before.before.before.before.before.before.before.before.before.before.before.before.before.before.before.loop.invariant.2 ∙ c.before.before.before.before.before.before.before.before.before.before.before.before.before.before.before.before.before.before.before.before.before.before.set.auto.0
+shape_of-visited-then-depth-eq0 : tie.Need-shape_of-visited-then-depth-eq0 invariant-loop-i decreases-loop-i
+shape_of-visited-then-depth-eq0 c = c.loop-i.invariant.2 ∙ c.set.auto.0
 
-same-length-4 : tie.Need-same-length-4 invariant-loop decreases-loop
-same-length-4 c = c.before.before.before.before.before.before.before.before.before.before.before.before.take-records.auto.1.1.1.1.1.1.1.1.1.0 ∙ c.before.before.before.before.before.before.before.before.before.before.before.before.before.before.before.before.before.before.before.loop.invariant.3
+shape_of-nodes-then-depth-eq0 : tie.Need-shape_of-nodes-then-depth-eq0 invariant-loop-i decreases-loop-i
+shape_of-nodes-then-depth-eq0 c = c.take_records.auto.1.1.1.1.1.1.1.1.1.0 ∙ c.loop-i.invariant.3
 
-same-length-5 : tie.Need-same-length-5 invariant-loop decreases-loop
-same-length-5 c = c.before.before.before.before.before.before.before.before.before.before.before.before.take-records.auto.1.1.1.1.1.1.1.1.1.1.0 ∙ c.before.before.before.before.before.before.before.before.before.before.before.before.before.before.before.before.before.before.before.loop.invariant.4
+shape_of-outs-then-depth-eq0 : tie.Need-shape_of-outs-then-depth-eq0 invariant-loop-i decreases-loop-i
+shape_of-outs-then-depth-eq0 c = c.take_records.auto.1.1.1.1.1.1.1.1.1.1.0 ∙ c.loop-i.invariant.4
 
-same-length-6 : tie.Need-same-length-6 invariant-loop decreases-loop
-same-length-6 c = c.before.before.before.before.before.before.before.before.before.before.before.before.take-records.auto.1.1.1.1.1.1.1.1.1.1.1.0 ∙ c.before.before.before.before.before.before.before.before.before.before.before.before.before.before.before.before.before.before.before.loop.invariant.5
+shape_of-succs-then-depth-eq0 : tie.Need-shape_of-succs-then-depth-eq0 invariant-loop-i decreases-loop-i
+shape_of-succs-then-depth-eq0 c = c.take_records.auto.1.1.1.1.1.1.1.1.1.1.1.0 ∙ c.loop-i.invariant.5
 
-same-length-7 : tie.Need-same-length-7 invariant-loop decreases-loop
-same-length-7 c = c.before.before.before.before.before.before.before.before.before.before.before.before.take-records.auto.1.1.1.1.1.1.1.1.1.1.1.1.0 ∙ c.before.before.before.before.before.before.before.before.before.before.before.before.before.before.before.before.before.before.before.loop.invariant.6
+shape_of-edges-then-depth-eq0 : tie.Need-shape_of-edges-then-depth-eq0 invariant-loop-i decreases-loop-i
+shape_of-edges-then-depth-eq0 c = c.take_records.auto.1.1.1.1.1.1.1.1.1.1.1.1.0 ∙ c.loop-i.invariant.6
 
-returns : tie.Need-returns invariant-loop decreases-loop
-returns c =
-    let s = c.before.before.before.before.before.before.before.before.before.before.before.before.before.before.before.before.before.before.before.before.before.before.before.before.before.before.before.before.before.before.before.before.before.before in
-    stacked_done c.before.before.before.before.before.before.before.before.before.before.before.before.before.before.before.before.before.before.before.loop.invariant.7 (rw c.before.before.before.before.before.before.before.before.before.before.before.before.before.before.before.before.before.before.before.before.before.before.before.before.header_of.ensures at c.before.before.before.before.before.before.before.before.before.before.before.before.take-records.ensures) _ c.before.before.d.given.1 c.if1.true
-    (walk_from _ _ _ _ _ _ _ _ _ _ _ _ s.requires.1.1.1.2 c.before.before.before.before.before.before.before.before.before.before.before.before.before.before.before.before.before.before.before.before.before.before.set.ensures (omega (arith, s.requires.1.1.1.0)))
+returns-then-depth-eq0 : tie.Need-returns-then-depth-eq0 invariant-loop-i decreases-loop-i
+returns-then-depth-eq0 c =
+    stacked_done c.loop-i.invariant.7 (rw c.header_of-h.ensures at c.take_records.ensures) _ c.in-All.is c.if-depth-eq0.true
+    (walk_from _ _ _ _ _ _ _ _ _ _ _ _ c.requires.1.1.1.2 c.set.ensures (omega (arith, c.requires.1.1.1.0)))
 
-sub-depth : tie.Need-overflow-sub-depth invariant-loop decreases-loop
-sub-depth c = omega (arith, c.if1.false)
+overflow_sub-depth : tie.Need-overflow_sub-depth invariant-loop-i decreases-loop-i
+overflow_sub-depth c = omega (arith, c.if-depth-eq0.false)
 
-mul-k : tie.Need-overflow-mul-k invariant-loop decreases-loop
-mul-k c = let i = c.before.before.before.before.before.before.before.before.before.before.before.before.before.before.before.before.before.before.before.loop.invariant.7 in omega (arith, i.depth_below, i.stored.few)
+offset_bounds-records-depth-in-All : tie.Need-offset_bounds-records-depth-in-All invariant-loop-i decreases-loop-i
+offset_bounds-records-depth-in-All c = let i = c.loop-i.invariant.7 in omega (arith, i.depth_below, i.stored.few)
 
-slice-read-k : tie.Need-slice-read-k invariant-loop decreases-loop
-slice-read-k c = omega (arith, (room c.before.before.before.before.before.before.before.before.before.before.before.before.before.before.before.before.before.before.before.before).0)
+bounds-records-depth-in-All : tie.Need-bounds-records-depth-in-All invariant-loop-i decreases-loop-i
+bounds-records-depth-in-All c = omega (arith, (room c.before.before.before.before.before.before.before.before.before.before.before.before.before.before.before.before.before).0)
 
-mul-m : tie.Need-overflow-mul-m invariant-loop decreases-loop
-mul-m c = let i = c.before.before.before.before.before.before.before.before.before.before.before.before.before.before.before.before.before.before.before.before.loop.invariant.7 in omega (arith, i.depth_below, i.stored.few)
+offset_bounds-walks-depth-in-All : tie.Need-offset_bounds-walks-depth-in-All invariant-loop-i decreases-loop-i
+offset_bounds-walks-depth-in-All c = let i = c.loop-i.invariant.7 in omega (arith, i.depth_below, i.stored.few)
 
-slice-read-m : tie.Need-slice-read-m invariant-loop decreases-loop
-slice-read-m c = omega (arith, (room c.before.before.before.before.before.before.before.before.before.before.before.before.before.before.before.before.before.before.before.before.before).1)
+bounds-walks-depth-in-All : tie.Need-bounds-walks-depth-in-All invariant-loop-i decreases-loop-i
+bounds-walks-depth-in-All c = omega (arith, (room c.before.before.before.before.before.before.before.before.before.before.before.before.before.before.before.before.before.before).1)
 
-mul-root : tie.Need-overflow-mul-root invariant-loop decreases-loop
-mul-root c = let i = c.before.before.before.before.before.before.before.before.before.before.before.before.before.before.before.before.before.before.before.before.before.loop.invariant.7 in omega (arith, i.depth_below, i.stored.few)
+offset_bounds-walks-depth-in-All-2 : tie.Need-offset_bounds-walks-depth-in-All-2 invariant-loop-i decreases-loop-i
+offset_bounds-walks-depth-in-All-2 c = let i = c.loop-i.invariant.7 in omega (arith, i.depth_below, i.stored.few)
 
-slice-read-root : tie.Need-slice-read-root invariant-loop decreases-loop
-slice-read-root c = omega (arith, (room c.before.before.before.before.before.before.before.before.before.before.before.before.before.before.before.before.before.before.before.before.before.before).1)
+bounds-walks-depth-in-All-2 : tie.Need-bounds-walks-depth-in-All-2 invariant-loop-i decreases-loop-i
+bounds-walks-depth-in-All-2 c = omega (arith, (room c.before.before.before.before.before.before.before.before.before.before.before.before.before.before.before.before.before.before.before).1)
 
-loop-less-2 : tie.Need-loop-smaller-2 invariant-loop decreases-loop
-loop-less-2 c = omega (arith, c.before.before.before.if1.false)
+loop-i-smaller : tie.Need-loop-i-smaller invariant-loop-i decreases-loop-i
+loop-i-smaller c = omega (arith, c.if-depth-eq0.false)
 
-loop-again-2 : tie.Need-loop-preserved-2 invariant-loop decreases-loop
-loop-again-2 c = let l = c.before.before.before.before.before.before.before.before.before.before.before.before.before.before.before.before.before.before.before.before.before.before in (
-  l.loop.invariant.0,
-  l.loop.invariant.1,
-  l.loop.invariant.2,
-  c.before.before.before.before.before.before.before.before.before.before.before.before.before.before.before.take-records.auto.1.1.1.1.1.1.1.1.1.0 ∙ l.loop.invariant.3,
-  c.before.before.before.before.before.before.before.before.before.before.before.before.before.before.before.take-records.auto.1.1.1.1.1.1.1.1.1.1.0 ∙ l.loop.invariant.4,
-  c.before.before.before.before.before.before.before.before.before.before.before.before.before.before.before.take-records.auto.1.1.1.1.1.1.1.1.1.1.1.0 ∙ l.loop.invariant.5,
-  c.before.before.before.before.before.before.before.before.before.before.before.before.before.before.before.take-records.auto.1.1.1.1.1.1.1.1.1.1.1.1.0 ∙ l.loop.invariant.6,
-  stacked_out l.loop.invariant.7 (rw c.before.before.before.before.before.before.before.before.before.before.before.before.before.before.before.before.before.before.before.before.before.before.before.before.before.before.before.header_of.ensures at c.before.before.before.before.before.before.before.before.before.before.before.before.before.before.before.take-records.ensures) _ c.before.before.before.before.before.d.given.1 c.before.before.before.if1.false,
+loop-i-preserved : tie.Need-loop-i-preserved invariant-loop-i decreases-loop-i
+loop-i-preserved c = (
+  c.loop-i.invariant.0,
+  c.loop-i.invariant.1,
+  c.loop-i.invariant.2,
+  c.take_records.auto.1.1.1.1.1.1.1.1.1.0 ∙ c.loop-i.invariant.3,
+  c.take_records.auto.1.1.1.1.1.1.1.1.1.1.0 ∙ c.loop-i.invariant.4,
+  c.take_records.auto.1.1.1.1.1.1.1.1.1.1.1.0 ∙ c.loop-i.invariant.5,
+  c.take_records.auto.1.1.1.1.1.1.1.1.1.1.1.1.0 ∙ c.loop-i.invariant.6,
+  stacked_out c.loop-i.invariant.7 (rw c.header_of-h.ensures at c.take_records.ensures) _ c.in-All.is c.if-depth-eq0.false,
 )
 
-enum_told : tie.Need-enum-told invariant-loop decreases-loop
-enum_told c = c.match.keys3
+enum_told-1 : tie.Need-enum_told-1 invariant-loop-i decreases-loop-i
+enum_told-1 c = c.in-Overfull.keys3
 
-same-length-8 : tie.Need-same-length-8 invariant-loop decreases-loop
-same-length-8 c = c.before.before.before.before.before.before.before.before.before.before.before.before.before.before.before.before.before.loop.invariant.0
+shape_of-records-in-Overfull : tie.Need-shape_of-records-in-Overfull invariant-loop-i decreases-loop-i
+shape_of-records-in-Overfull c = c.loop-i.invariant.0
 
-same-length-9 : tie.Need-same-length-9 invariant-loop decreases-loop
-same-length-9 c = c.before.before.before.before.before.before.before.before.before.before.before.before.before.before.before.before.before.loop.invariant.1
+shape_of-walks-in-Overfull : tie.Need-shape_of-walks-in-Overfull invariant-loop-i decreases-loop-i
+shape_of-walks-in-Overfull c = c.loop-i.invariant.1
 
-same-length-10 : tie.Need-same-length-10 invariant-loop decreases-loop
-same-length-10 c = c.before.before.before.before.before.before.before.before.before.before.before.before.before.before.before.before.before.loop.invariant.2 ∙ c.before.before.before.before.before.before.before.before.before.before.before.before.before.before.before.before.before.before.before.before.set.auto.0
+shape_of-visited-in-Overfull : tie.Need-shape_of-visited-in-Overfull invariant-loop-i decreases-loop-i
+shape_of-visited-in-Overfull c = c.loop-i.invariant.2 ∙ c.set.auto.0
 
-same-length-11 : tie.Need-same-length-11 invariant-loop decreases-loop
-same-length-11 c = c.before.before.before.before.before.before.before.before.before.before.take-records.auto.1.1.1.1.1.1.1.1.1.0 ∙ c.before.before.before.before.before.before.before.before.before.before.before.before.before.before.before.before.before.loop.invariant.3
+shape_of-nodes-in-Overfull : tie.Need-shape_of-nodes-in-Overfull invariant-loop-i decreases-loop-i
+shape_of-nodes-in-Overfull c = c.take_records.auto.1.1.1.1.1.1.1.1.1.0 ∙ c.loop-i.invariant.3
 
-same-length-12 : tie.Need-same-length-12 invariant-loop decreases-loop
-same-length-12 c = c.before.before.before.before.before.before.before.before.before.before.take-records.auto.1.1.1.1.1.1.1.1.1.1.0 ∙ c.before.before.before.before.before.before.before.before.before.before.before.before.before.before.before.before.before.loop.invariant.4
+shape_of-outs-in-Overfull : tie.Need-shape_of-outs-in-Overfull invariant-loop-i decreases-loop-i
+shape_of-outs-in-Overfull c = c.take_records.auto.1.1.1.1.1.1.1.1.1.1.0 ∙ c.loop-i.invariant.4
 
-same-length-13 : tie.Need-same-length-13 invariant-loop decreases-loop
-same-length-13 c = c.before.before.before.before.before.before.before.before.before.before.take-records.auto.1.1.1.1.1.1.1.1.1.1.1.0 ∙ c.before.before.before.before.before.before.before.before.before.before.before.before.before.before.before.before.before.loop.invariant.5
+shape_of-succs-in-Overfull : tie.Need-shape_of-succs-in-Overfull invariant-loop-i decreases-loop-i
+shape_of-succs-in-Overfull c = c.take_records.auto.1.1.1.1.1.1.1.1.1.1.1.0 ∙ c.loop-i.invariant.5
 
-same-length-14 : tie.Need-same-length-14 invariant-loop decreases-loop
-same-length-14 c = c.before.before.before.before.before.before.before.before.before.before.take-records.auto.1.1.1.1.1.1.1.1.1.1.1.1.0 ∙ c.before.before.before.before.before.before.before.before.before.before.before.before.before.before.before.before.before.loop.invariant.6
+shape_of-edges-in-Overfull : tie.Need-shape_of-edges-in-Overfull invariant-loop-i decreases-loop-i
+shape_of-edges-in-Overfull c = c.take_records.auto.1.1.1.1.1.1.1.1.1.1.1.1.0 ∙ c.loop-i.invariant.6
 
-returns-2 : tie.Need-returns-2 invariant-loop decreases-loop
-returns-2 c = holds_full (c.before.before.before.before.before.before.before.before.before.before.take-records.ensures.too_many c.enum_told.given.1)
+returns-in-Overfull : tie.Need-returns-in-Overfull invariant-loop-i decreases-loop-i
+returns-in-Overfull c = holds_full (c.take_records.ensures.too_many c.in-Overfull.is)
 
-pub construct-dynamic-entry-graph-spec : {M : Type 1} → statement M
-construct-dynamic-entry-graph-spec =
+pub construct_dynamic_entry_graph_spec : {M : Type 1} → statement M
+construct_dynamic_entry_graph_spec =
     tie.close
     (tie.spec
-    invariant-loop
-    decreases-loop
-    header-of-requires
+    invariant-loop-i
+    decreases-loop-i
+    header_of-h-requires
     set-requires
-    loop-holds
-    sub-take-records
-    sub-take-records-2
-    take-records-requires
-    enum-known-i
-    set-requires-2
-    mul-records
-    slice-write-records
-    mul-walks
-    add-walks
-    mul-walks-2
-    slice-write-walks
-    add-depth
-    loop-less
-    loop-again
-    enum-known-d
-    same_length
-    same-length-2
-    same-length-3
-    same-length-4
-    same-length-5
-    same-length-6
-    same-length-7
-    returns
-    sub-depth
-    mul-k
-    slice-read-k
-    mul-m
-    slice-read-m
-    mul-root
-    slice-read-root
-    loop-less-2
-    loop-again-2
-    enum_told
-    same-length-8
-    same-length-9
-    same-length-10
-    same-length-11
-    same-length-12
-    same-length-13
-    same-length-14
-    returns-2)
+    loop-i-init
+    overflow_sub-h
+    overflow_sub-h-in-loop-i
+    take_records-requires
+    enum_known-i
+    set-requires-in-UpTo
+    offset_bounds-records-depth
+    bounds-records-depth
+    overflow_mul-walks
+    overflow_add-walks
+    offset_bounds-walks-depth
+    bounds-walks-depth
+    overflow_add-depth
+    loop-i-smaller-in-UpTo
+    loop-i-preserved-in-UpTo
+    enum_known-d
+    shape_of-records-then-depth-eq0
+    shape_of-walks-then-depth-eq0
+    shape_of-visited-then-depth-eq0
+    shape_of-nodes-then-depth-eq0
+    shape_of-outs-then-depth-eq0
+    shape_of-succs-then-depth-eq0
+    shape_of-edges-then-depth-eq0
+    returns-then-depth-eq0
+    overflow_sub-depth
+    offset_bounds-records-depth-in-All
+    bounds-records-depth-in-All
+    offset_bounds-walks-depth-in-All
+    bounds-walks-depth-in-All
+    offset_bounds-walks-depth-in-All-2
+    bounds-walks-depth-in-All-2
+    loop-i-smaller
+    loop-i-preserved
+    enum_told-1
+    shape_of-records-in-Overfull
+    shape_of-walks-in-Overfull
+    shape_of-visited-in-Overfull
+    shape_of-nodes-in-Overfull
+    shape_of-outs-in-Overfull
+    shape_of-succs-in-Overfull
+    shape_of-edges-in-Overfull
+    returns-in-Overfull)

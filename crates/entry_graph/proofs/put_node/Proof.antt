@@ -5,51 +5,51 @@ use borrow.Author.Rules.{rules}
 use Rattle.entry_graph.proofs.put_node.Statement.{statement}
 use Rattle.entry_graph.proofs.put_node.Tie as tie
 
-mul-if1 : tie.Need-overflow-mul-if1
-mul-if1 c = search rules
+offset_bounds-outs-m : tie.Need-offset_bounds-outs-m
+offset_bounds-outs-m c = search rules
 
-slice-read-if1 : tie.Need-slice-read-if1
-slice-read-if1 c = search rules
+bounds-outs-m : tie.Need-bounds-outs-m
+bounds-outs-m c = search rules
+
+returns-then-outs-m-gt0 : tie.Need-returns-then-outs-m-gt0
+returns-then-outs-m-gt0 c = record { old = λ h. (refl, refl, refl); new = λ z. absurd (omega (arith, c.if-outs-m-gt0.true)) }
+
+offset_bounds-nodes-n : tie.Need-offset_bounds-nodes-n
+offset_bounds-nodes-n c = let z : get_or c.args.outs.now c.args.m 0 ≡ 0 = omega (arith, c.if-outs-m-gt0.false) in let l = c.requires.1 z in search rules
+
+bounds-nodes-n : tie.Need-bounds-nodes-n
+bounds-nodes-n c = c.requires.1 (omega (arith, c.if-outs-m-gt0.false))
+
+offset_bounds-outs-m-2 : tie.Need-offset_bounds-outs-m-2
+offset_bounds-outs-m-2 c = search rules
+
+bounds-outs-m-2 : tie.Need-bounds-outs-m-2
+bounds-outs-m-2 c = search rules
+
+overflow_add-result : tie.Need-overflow_add-result
+overflow_add-result c = let z : get_or c.args.outs.now c.args.m 0 ≡ 0 = omega (arith, c.if-outs-m-gt0.false) in let l = c.requires.1 z in search rules
+
+shape_of-nodes : tie.Need-shape_of-nodes
+shape_of-nodes c = search rules
+
+shape_of-outs : tie.Need-shape_of-outs
+shape_of-outs c = search rules
 
 returns : tie.Need-returns
-returns c = record { old = λ h. (refl, refl, refl); new = λ z. absurd (omega (arith, c.if1.true)) }
+returns c = record { old = λ h. absurd (omega (arith, c.if-outs-m-gt0.false)); new = λ z. (refl, refl, refl) }
 
-mul-nodes : tie.Need-overflow-mul-nodes
-mul-nodes c = let z : get_or c.before.before.args.outs.now c.before.before.args.m 0 ≡ 0 = omega (arith, c.if1.false) in let l = c.before.before.requires.1 z in search rules
-
-slice-write-nodes : tie.Need-slice-write-nodes
-slice-write-nodes c = c.before.before.requires.1 (omega (arith, c.if1.false))
-
-mul-outs : tie.Need-overflow-mul-outs
-mul-outs c = search rules
-
-slice-write-outs : tie.Need-slice-write-outs
-slice-write-outs c = search rules
-
-add-result : tie.Need-overflow-add-result
-add-result c = let z : get_or c.before.before.args.outs.now c.before.before.args.m 0 ≡ 0 = omega (arith, c.if1.false) in let l = c.before.before.requires.1 z in search rules
-
-same_length : tie.Need-same-length
-same_length c = search rules
-
-same-length-2 : tie.Need-same-length-2
-same-length-2 c = search rules
-
-returns-2 : tie.Need-returns-2
-returns-2 c = record { old = λ h. absurd (omega (arith, c.if1.false)); new = λ z. (refl, refl, refl) }
-
-pub put-node-spec : {M : Type 1} → statement M
-put-node-spec =
+pub put_node_spec : {M : Type 1} → statement M
+put_node_spec =
     tie.close
     (tie.spec
-    mul-if1
-    slice-read-if1
-    returns
-    mul-nodes
-    slice-write-nodes
-    mul-outs
-    slice-write-outs
-    add-result
-    same_length
-    same-length-2
-    returns-2)
+    offset_bounds-outs-m
+    bounds-outs-m
+    returns-then-outs-m-gt0
+    offset_bounds-nodes-n
+    bounds-nodes-n
+    offset_bounds-outs-m-2
+    bounds-outs-m-2
+    overflow_add-result
+    shape_of-nodes
+    shape_of-outs
+    returns)

@@ -4,35 +4,35 @@ use borrow.Author.Rules.{rules}
 use Rattle.entry_graph.proofs.read_record.Statement.{statement}
 use Rattle.entry_graph.proofs.read_record.Tie as tie
 
-import-record-target-requires : tie.Need-import-record-target-requires
-import-record-target-requires c κs = c.before.before.requires
+import_record_target-target-requires : tie.Need-import_record_target-target-requires
+import_record_target-target-requires c κs = c.requires
+
+returns-then-target-eq0 : tie.Need-returns-then-target-eq0
+returns-then-target-eq0 c = ask_unresolved _ _ _ _ c.import_record_target-target.ensures.0 c.if-target-eq0.true
+
+overflow_sub-t : tie.Need-overflow_sub-t
+overflow_sub-t c = search rules
+
+import_record_kind-requires : tie.Need-import_record_kind-requires
+import_record_kind-requires c κs = c.requires
+
+returns-then-import_record_kind-ne2 : tie.Need-returns-then-import_record_kind-ne2
+returns-then-import_record_kind-ne2 c = ask-plain _ _ _ _ c.import_record_target-target.ensures.0 c.if-target-eq0.false c.import_record_target-target.ensures.1 (λ q. c.if-import_record_kind-ne2.true (c.import_record_kind.ensures ∙ q))
+
+returns-then-root-t : tie.Need-returns-then-root-t
+returns-then-root-t c = ask-root _ _ _ _ c.import_record_target-target.ensures.0 c.if-target-eq0.false c.import_record_target-target.ensures.1 (sym c.import_record_kind.ensures ∙ c.if-import_record_kind-ne2.false) c.if-root-t.true
 
 returns : tie.Need-returns
-returns c = ask_unresolved _ _ _ _ c.before.import-record-target.ensures.0 c.if1.true
+returns c = ask-edge _ _ _ _ c.import_record_target-target.ensures.0 c.if-target-eq0.false c.import_record_target-target.ensures.1 (sym c.import_record_kind.ensures ∙ c.if-import_record_kind-ne2.false) c.if-root-t.false
 
-sub-t : tie.Need-overflow-sub-t
-sub-t c = search rules
-
-import-record-kind-requires : tie.Need-import-record-kind-requires
-import-record-kind-requires c κs = c.before.before.before.before.requires
-
-returns-2 : tie.Need-returns-2
-returns-2 c = ask-plain _ _ _ _ c.before.before.before.import-record-target.ensures.0 c.before.before.if1.false c.before.before.before.import-record-target.ensures.1 (λ q. c.if2.true (c.before.import-record-kind.ensures ∙ q))
-
-returns-3 : tie.Need-returns-3
-returns-3 c = ask-root _ _ _ _ c.before.before.before.before.before.import-record-target.ensures.0 c.before.before.before.before.if1.false c.before.before.before.before.before.import-record-target.ensures.1 (sym c.before.before.before.import-record-kind.ensures ∙ c.before.before.if2.false) c.if3.true
-
-returns-4 : tie.Need-returns-4
-returns-4 c = ask-edge _ _ _ _ c.before.before.before.before.before.import-record-target.ensures.0 c.before.before.before.before.if1.false c.before.before.before.before.before.import-record-target.ensures.1 (sym c.before.before.before.import-record-kind.ensures ∙ c.before.before.if2.false) c.if3.false
-
-pub read-record-spec : {M : Type 1} → statement M
-read-record-spec =
+pub read_record_spec : {M : Type 1} → statement M
+read_record_spec =
     tie.close
     (tie.spec
-    import-record-target-requires
-    returns
-    sub-t
-    import-record-kind-requires
-    returns-2
-    returns-3
-    returns-4)
+    import_record_target-target-requires
+    returns-then-target-eq0
+    overflow_sub-t
+    import_record_kind-requires
+    returns-then-import_record_kind-ne2
+    returns-then-root-t
+    returns)

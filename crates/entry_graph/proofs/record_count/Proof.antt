@@ -4,18 +4,23 @@ use Rattle.entry_graph.proofs.Imports.{records_normal, records_none}
 use Rattle.entry_graph.proofs.record_count.Statement.{statement}
 use Rattle.entry_graph.proofs.record_count.Tie as tie
 
-is-normal-requires : tie.Need-is-normal-requires
-is-normal-requires c κs = c.before.before.requires
+is_normal-requires : tie.Need-is_normal-requires
+is_normal-requires c κs = c.requires
 
-import-record-count-requires : tie.Need-import-record-count-requires
-import-record-count-requires c κs = c.before.before.before.before.requires
+import_record_count-requires : tie.Need-import_record_count-requires
+import_record_count-requires c κs = c.requires
+
+returns-then-is_normal : tie.Need-returns-then-is_normal
+returns-then-is_normal c = c.import_record_count.ensures.0 ∙ ap length (sym (records_normal _ _ (sym c.is_normal.ensures ∙ c.if-is_normal.true)))
 
 returns : tie.Need-returns
-returns c = c.import-record-count.ensures.0 ∙ ap length (sym (records_normal _ _ (sym c.before.before.is_normal.ensures ∙ c.before.if1.true)))
+returns c = ap length (sym (records_none _ _ (sym c.is_normal.ensures ∙ c.if-is_normal.false)))
 
-returns-2 : tie.Need-returns-2
-returns-2 c = ap length (sym (records_none _ _ (sym c.before.is_normal.ensures ∙ c.if1.false)))
-
-pub record-count-spec : {M : Type 1} → statement M
-record-count-spec =
-    tie.close (tie.spec is-normal-requires import-record-count-requires returns returns-2)
+pub record_count_spec : {M : Type 1} → statement M
+record_count_spec =
+    tie.close
+    (tie.spec
+    is_normal-requires
+    import_record_count-requires
+    returns-then-is_normal
+    returns)

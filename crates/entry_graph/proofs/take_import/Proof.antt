@@ -8,70 +8,70 @@ use Rattle.entry_graph.proofs.take_import.Statement.{statement}
 use Rattle.entry_graph.proofs.take_import.Tie as tie
 
 -- the edge's end is a module
-inside : (c : tie.After-known-told2) → c.before.import2.given.0.0.0 < (header_in c.before.before.before.before.before.before.before.before.args.numbers.now).modules
-inside c = c.before.before.before.before.before.before.before.before.requires.1.1.1.edge_below _ c.before.import2.given.1
+inside : (c : tie.In-Edge) → c.in-Edge.t.0 < (header_in c.args.numbers.now).modules
+inside c = c.requires.1.1.1.edge_below _ c.in-Edge.is
 
-enum_told : tie.Need-enum-told
-enum_told c = c.match.keys1
+enum_told-1 : tie.Need-enum_told-1
+enum_told-1 c = c.in-Unresolved.keys1
 
-enum-known-import : tie.Need-enum-known-import
-enum-known-import c = c.match.keys2
+enum_known-import : tie.Need-enum_known-import
+enum_known-import c = c.in-SameRoot.keys2
 
-enum-known-import-2 : tie.Need-enum-known-import-2
-enum-known-import-2 c = c.match.keys3
+enum_known-import-in-Edge-1 : tie.Need-enum_known-import-in-Edge-1
+enum_known-import-in-Edge-1 c = c.in-Edge.keys3
 
-header-of-requires : tie.Need-header-of-requires
-header-of-requires c κs = c.before.before.before.before.before.before.before.before.requires.0
+header_of-h-requires : tie.Need-header_of-h-requires
+header_of-h-requires c κs = c.requires.0
 
-mul-seen : tie.Need-overflow-mul-seen
-mul-seen c = let b = inside c.before in omega (arith, b, c.before.before.before.before.before.before.before.before.before.requires.1.0.few)
+offset_bounds-outs-u : tie.Need-offset_bounds-outs-u
+offset_bounds-outs-u c = let b = inside c.before in omega (arith, b, c.requires.1.0.few)
 
-slice-read-seen : tie.Need-slice-read-seen
-slice-read-seen c = let b = inside c.before.before in omega (arith, b, c.before.before.before.before.before.before.before.before.before.before.requires.1.0.outs_long)
+bounds-outs-u : tie.Need-bounds-outs-u
+bounds-outs-u c = let b = inside c.before.before in omega (arith, b, c.requires.1.0.outs_long)
 
-add-edge-requires : tie.Need-add-edge-requires
-add-edge-requires c κs = rw c.before.before.before.before.before.header_of.ensures (c.before.before.before.before.before.before.before.before.before.before.before.before.before.before.requires.1.0, (c.before.before.before.before.before.before.before.before.before.before.before.before.before.before.requires.1.1.0, inside c.before.before.before.before.before.before))
+add_edge-built-requires : tie.Need-add_edge-built-requires
+add_edge-built-requires c κs = rw c.header_of-h.ensures (c.requires.1.0, (c.requires.1.1.0, inside c.before.before.before.before.before.before))
 
-behind-edge-requires : tie.Need-behind-edge-requires
-behind-edge-requires c κs = search rules
+behind_edge-requires : tie.Need-behind_edge-requires
+behind_edge-requires c κs = search rules
 
-returns : tie.Need-returns
-returns c = let s = c.before.before.before.before.before.before.before in rw c.enum_told.given.1 (left_unresolved _ _ _ _ _ _ _ s.requires.1.0 s.args.root s.requires.1.1.0)
+returns-in-Unresolved : tie.Need-returns-in-Unresolved
+returns-in-Unresolved c = rw c.in-Unresolved.is (left_unresolved _ _ _ _ _ _ _ c.requires.1.0 c.args.root c.requires.1.1.0)
 
-returns-2 : tie.Need-returns-2
-returns-2 c = let s = c.before.before.before.before.before.before.before.before in rw c.before.import.given.1 (left_same_root _ _ _ _ _ _ _ s.requires.1.0 s.args.root s.requires.1.1.0 _ (s.requires.1.1.1.below _ c.before.import.given.1))
+returns-in-SameRoot : tie.Need-returns-in-SameRoot
+returns-in-SameRoot c = rw c.in-SameRoot.is (left_same_root _ _ _ _ _ _ _ c.requires.1.0 c.args.root c.requires.1.1.0 _ (c.requires.1.1.1.below _ c.in-SameRoot.is))
 
-same_length : tie.Need-same-length
-same_length c = c.before.before.before.before.before.before.before.before.before.add-edge.auto.1.1.1.1.1.0
+shape_of-nodes : tie.Need-shape_of-nodes
+shape_of-nodes c = c.add_edge-built.auto.1.1.1.1.1.0
 
-same-length-2 : tie.Need-same-length-2
-same-length-2 c = c.before.before.before.before.before.before.before.before.before.add-edge.auto.1.1.1.1.1.1.0
+shape_of-outs : tie.Need-shape_of-outs
+shape_of-outs c = c.add_edge-built.auto.1.1.1.1.1.1.0
 
-same-length-3 : tie.Need-same-length-3
-same-length-3 c = c.before.before.before.before.before.before.before.before.before.add-edge.auto.1.1.1.1.1.1.1.0
+shape_of-succs : tie.Need-shape_of-succs
+shape_of-succs c = c.add_edge-built.auto.1.1.1.1.1.1.1.0
 
-same-length-4 : tie.Need-same-length-4
-same-length-4 c = c.before.before.before.before.before.before.before.before.before.add-edge.auto.1.1.1.1.1.1.1.1.0
+shape_of-edges : tie.Need-shape_of-edges
+shape_of-edges c = c.add_edge-built.auto.1.1.1.1.1.1.1.1.0
 
-returns-3 : tie.Need-returns-3
-returns-3 c = let s = c.before.before.before.before.before.before.before.before.before.before.before.before.before.before.before.before.before.before.before.before.before.before.before.before in rw (c.behind-edge.ensures, c.before.before.before.before.before.before.before.before.before.before.before.before.before.before.before.before.before.import2.given.1) (left-edge _ _ _ _ _ _ _ s.requires.1.0 s.args.root s.requires.1.1.0 _ (inside c.before.before.before.before.before.before.before.before.before.before.before.before.before.before.before.before) _ _ _ _ c.before.before.before.before.before.before.before.before.before.add-edge.result _ refl (rw c.before.before.before.before.before.before.before.before.before.before.before.before.before.before.before.header_of.ensures at c.before.before.before.before.before.before.before.before.before.add-edge.ensures))
+returns-in-Edge : tie.Need-returns-in-Edge
+returns-in-Edge c = rw (c.behind_edge.ensures, c.in-Edge.is) (left-edge _ _ _ _ _ _ _ c.requires.1.0 c.args.root c.requires.1.1.0 _ (inside c.before.before.before.before.before.before.before.before.before.before.before.before.before.before.before.before) _ _ _ _ c.add_edge-built.result _ refl (rw c.header_of-h.ensures at c.add_edge-built.ensures))
 
-pub take-import-spec : {M : Type 1} → statement M
-take-import-spec =
+pub take_import_spec : {M : Type 1} → statement M
+take_import_spec =
     tie.close
     (tie.spec
-    enum_told
-    enum-known-import
-    enum-known-import-2
-    header-of-requires
-    mul-seen
-    slice-read-seen
-    add-edge-requires
-    behind-edge-requires
-    returns
-    returns-2
-    same_length
-    same-length-2
-    same-length-3
-    same-length-4
-    returns-3)
+    enum_told-1
+    enum_known-import
+    enum_known-import-in-Edge-1
+    header_of-h-requires
+    offset_bounds-outs-u
+    bounds-outs-u
+    add_edge-built-requires
+    behind_edge-requires
+    returns-in-Unresolved
+    returns-in-SameRoot
+    shape_of-nodes
+    shape_of-outs
+    shape_of-succs
+    shape_of-edges
+    returns-in-Edge)

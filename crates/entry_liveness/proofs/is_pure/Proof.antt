@@ -7,41 +7,41 @@ use borrow.Author.Rules.{rules}
 use Rattle.entry_liveness.proofs.is_pure.Statement.{statement}
 use Rattle.entry_liveness.proofs.is_pure.Tie as tie
 
-related-statement-requires : tie.Need-related-statement-requires
-related-statement-requires c κs = let s = c.before.before in (s.requires.0.loaded, s.requires.1)
+related_statement-r-requires : tie.Need-related_statement-r-requires
+related_statement-r-requires c κs = (c.requires.0.loaded, c.requires.1)
 
-import-record-target-requires : tie.Need-import-record-target-requires
+import_record_target-target-requires : tie.Need-import_record_target-target-requires
 unfolding graph_in
-import-record-target-requires c κs = let s = c.before.before.before in (s.requires.0.loaded, (module_inside _ _ _ c.related-statement.ensures, import_record_inside _ _ _ c.related-statement.ensures))
+import_record_target-target-requires c κs = (c.requires.0.loaded, (module_inside _ _ _ c.related_statement-r.ensures, import_record_inside _ _ _ c.related_statement-r.ensures))
 
-sub-flag : tie.Need-overflow-sub-flag
-sub-flag c = let n = target-some _ _ _ c.before.related-statement.ensures [] _ c.import-record-target.ensures.0 in omega arith
+overflow_sub-target : tie.Need-overflow_sub-target
+overflow_sub-target c = let n = target-some _ _ _ c.related_statement-r.ensures [] _ c.import_record_target-target.ensures.0 in omega arith
 
-has-effects-requires : tie.Need-has-effects-requires
-has-effects-requires c κs = let n = target-some _ _ _ c.before.related-statement.ensures [] _ c.import-record-target.ensures.0 in (c.before.before.before.before.requires.0.settled, omega (arith, c.import-record-target.ensures.1))
+has_effects-requires : tie.Need-has_effects-requires
+has_effects-requires c κs = let n = target-some _ _ _ c.related_statement-r.ensures [] _ c.import_record_target-target.ensures.0 in (c.requires.0.settled, omega (arith, c.import_record_target-target.ensures.1))
 
-returns : tie.Need-returns
-returns c = impure _ _ _ c.before.before.before.related-statement.ensures _ _ c.before.before.import-record-target.ensures.0 (sym c.before.has_effects.ensures ∙ c.if1.true)
+returns-then-has_effects : tie.Need-returns-then-has_effects
+returns-then-has_effects c = impure _ _ _ c.related_statement-r.ensures _ _ c.import_record_target-target.ensures.0 (sym c.has_effects.ensures ∙ c.if-has_effects.true)
 
-import-record-bits-requires : tie.Need-import-record-bits-requires
+import_record_bits-requires : tie.Need-import_record_bits-requires
 unfolding graph_in
-import-record-bits-requires c κs = let s = c.before.before.before.before.before.before in (s.requires.0.loaded, (module_inside _ _ _ c.before.before.before.related-statement.ensures, import_record_inside _ _ _ c.before.before.before.related-statement.ensures))
+import_record_bits-requires c κs = (c.requires.0.loaded, (module_inside _ _ _ c.related_statement-r.ensures, import_record_inside _ _ _ c.related_statement-r.ensures))
 
 flag-requires : tie.Need-flag-requires
 flag-requires c κs = search rules
 
-returns-2 : tie.Need-returns-2
-returns-2 c = c.flag.ensures ∙ pure-by-bits _ _ _ c.before.before.before.before.before.related-statement.ensures _ _ c.before.before.before.before.import-record-target.ensures.0 (sym c.before.before.before.has_effects.ensures ∙ c.before.before.if1.false) _ c.before.import-record-bits.ensures
+returns : tie.Need-returns
+returns c = c.flag.ensures ∙ pure-by-bits _ _ _ c.related_statement-r.ensures _ _ c.import_record_target-target.ensures.0 (sym c.has_effects.ensures ∙ c.if-has_effects.false) _ c.import_record_bits.ensures
 
-pub is-pure-spec : {M : Type 1} → statement M
-is-pure-spec =
+pub is_pure_spec : {M : Type 1} → statement M
+is_pure_spec =
     tie.close
     (tie.spec
-    related-statement-requires
-    import-record-target-requires
-    sub-flag
-    has-effects-requires
-    returns
-    import-record-bits-requires
+    related_statement-r-requires
+    import_record_target-target-requires
+    overflow_sub-target
+    has_effects-requires
+    returns-then-has_effects
+    import_record_bits-requires
     flag-requires
-    returns-2)
+    returns)

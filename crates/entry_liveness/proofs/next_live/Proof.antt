@@ -13,11 +13,11 @@ use native.Mathlib.Omega.{arith}
 use Rattle.entry_liveness.proofs.next_live.Statement.{statement}
 use Rattle.entry_liveness.proofs.next_live.Tie as tie
 
-abbrev invariant-loop : tie.invariant-loop
-invariant-loop numbers tables marks plan users from h live cycled dead i e u unused related k₀ k = (k ≤ related) × Searching (graph_in numbers) (last_verdicts (graph_in numbers)) (marked (graph_in numbers) marks) e k
+abbrev invariant-loop-k : tie.invariant-loop-k
+invariant-loop-k numbers tables marks plan users from h live cycled dead i e u unused related k₀ k = (k ≤ related) × Searching (graph_in numbers) (last_verdicts (graph_in numbers)) (marked (graph_in numbers) marks) e k
 
-abbrev decreases-loop : tie.decreases-loop
-decreases-loop numbers tables marks plan users from h live cycled dead i e u unused related k₀ k = related - k
+abbrev decreases-loop-k : tie.decreases-loop-k
+decreases-loop-k numbers tables marks plan users from h live cycled dead i e u unused related k₀ k = related - k
 
 abbrev invariant-entries : tie.invariant-entries
 invariant-entries numbers tables marks plan₀ users from h live cycled dead i₀ plan i = Passing (graph_in numbers) marks plan₀ plan users from i
@@ -26,179 +26,178 @@ abbrev decreases-entries : tie.decreases-entries
 decreases-entries numbers tables marks plan₀ users from h live cycled dead i₀ plan i = h.entries - i
 
 -- what is known at the entry of place i
-at_place : (c : tie.Then1 invariant-loop decreases-loop invariant-entries decreases-entries) → Room c.before.before.before.before.before.before.header_of.result c.before.before.entries.plan c.before.before.entries.i
+at_place : (c : tie.In-entries invariant-loop-k decreases-loop-k invariant-entries decreases-entries) → Room c.header_of-h.result c.entries.plan c.entries.i
 unfolding graph_in
 at_place c =
-    let s = c.before.before.before.before.before.before.before.before.before.before.before in
-    room _ _ _ _ _ _ _ c.before.before.entries.invariant _ c.before.before.before.before.before.before.header_of.ensures c.if1.true s.requires.0.loaded.few_entries s.requires.0.loaded.few_modules
+    room _ _ _ _ _ _ _ c.entries.invariant _ c.header_of-h.ensures c.entries-test.true c.requires.0.loaded.few_entries c.requires.0.loaded.few_modules
 
 -- its module
-at_module : (c : tie.After-entry-module invariant-loop decreases-loop invariant-entries decreases-entries) → c.entry-module.result.0 < c.before.before.before.before.before.before.before.before.header_of.result.modules
-at_module c = rw c.before.before.before.before.before.before.before.before.header_of.ensures c.entry-module.ensures.1
+at_module : (c : tie.After-entry_module-m invariant-loop-k decreases-loop-k invariant-entries decreases-entries) → c.entry_module-m.result.0 < c.header_of-h.result.modules
+at_module c = rw c.header_of-h.ensures c.entry_module-m.ensures.1
 
-header-of-requires : tie.Need-header-of-requires invariant-loop decreases-loop invariant-entries decreases-entries
-header-of-requires c κs = c.before.before.before.before.requires.0.loaded.long
+header_of-h-requires : tie.Need-header_of-h-requires invariant-loop-k decreases-loop-k invariant-entries decreases-entries
+header_of-h-requires c κs = c.requires.0.loaded.long
 
 -- no part of the plan begins too far on
-plan_fits : (c : tie.After-header-of invariant-loop decreases-loop invariant-entries decreases-entries) → plan_size c.header_of.result < 18446744073709551616
-plan_fits c = let s = c.before.before.before.before.before in rw c.header_of.ensures (omega (arith, s.requires.0.loaded.few_entries, s.requires.0.loaded.few_modules))
+plan_fits : (c : tie.After-header_of-h invariant-loop-k decreases-loop-k invariant-entries decreases-entries) → plan_size c.header_of-h.result < 18446744073709551616
+plan_fits c = rw c.header_of-h.ensures (omega (arith, c.requires.0.loaded.few_entries, c.requires.0.loaded.few_modules))
 
-live-at-requires : tie.Need-live-at-requires invariant-loop decreases-loop invariant-entries decreases-entries
-live-at-requires c κs = plan_fits c
+live_at-live-requires : tie.Need-live_at-live-requires invariant-loop-k decreases-loop-k invariant-entries decreases-entries
+live_at-live-requires c κs = plan_fits c
 
-cycled-at-requires : tie.Need-cycled-at-requires invariant-loop decreases-loop invariant-entries decreases-entries
-cycled-at-requires c κs = plan_fits c.before
+cycled_at-cycled-requires : tie.Need-cycled_at-cycled-requires invariant-loop-k decreases-loop-k invariant-entries decreases-entries
+cycled_at-cycled-requires c κs = plan_fits c.before
 
-dead-at-requires : tie.Need-dead-at-requires invariant-loop decreases-loop invariant-entries decreases-entries
-dead-at-requires c κs = plan_fits c.before.before
+dead_at-dead-requires : tie.Need-dead_at-dead-requires invariant-loop-k decreases-loop-k invariant-entries decreases-entries
+dead_at-dead-requires c κs = plan_fits c.before.before
 
-entries-holds : tie.Need-entries-init invariant-loop decreases-loop invariant-entries decreases-entries
+entries-init : tie.Need-entries-init invariant-loop-k decreases-loop-k invariant-entries decreases-entries
 unfolding graph_in
-entries-holds c = let s = c.before.before.before.before.before.before.before.before in passing_start _ _ _ _ _ s.requires.1.0 s.requires.1.1
+entries-init c = passing_start _ _ _ _ _ c.requires.1.0 c.requires.1.1
 
-mul-e : tie.Need-overflow-mul-e invariant-loop decreases-loop invariant-entries decreases-entries
-mul-e c = let r = at_place c in record { fits = omega (arith, r.place, r.few_entries) }
+offset_bounds-plan-i : tie.Need-offset_bounds-plan-i invariant-loop-k decreases-loop-k invariant-entries decreases-entries
+offset_bounds-plan-i c = let r = at_place c in record { fits = omega (arith, r.place, r.few_entries) }
 
-slice-read-e : tie.Need-slice-read-e invariant-loop decreases-loop invariant-entries decreases-entries
-slice-read-e c = let r = at_place c.before in omega (arith, r.place, r.long)
+bounds-plan-i : tie.Need-bounds-plan-i invariant-loop-k decreases-loop-k invariant-entries decreases-entries
+bounds-plan-i c = let r = at_place c.before in omega (arith, r.place, r.long)
 
-entry-module-requires : tie.Need-entry-module-requires invariant-loop decreases-loop invariant-entries decreases-entries
+entry_module-m-requires : tie.Need-entry_module-m-requires invariant-loop-k decreases-loop-k invariant-entries decreases-entries
 unfolding graph_in
-entry-module-requires c κs = let r = at_place c.before in (c.before.before.before.before.before.before.before.before.before.before.before.before.requires.0.loaded, rw (sym c.before.before.before.before.before.before.before.header_of.ensures) r.entry)
+entry_module-m-requires c κs = let r = at_place c.before in (c.requires.0.loaded, rw (sym c.header_of-h.ensures) r.entry)
 
-add-if2 : tie.Need-overflow-add-if2 invariant-loop decreases-loop invariant-entries decreases-entries
-add-if2 c = let r = at_place c.before.before in let m = at_module c in record { fits = omega (arith, r.few_entries, r.few_modules, m, c.before.before.before.before.before.before.before.Live-at.ensures) }
+overflow_add-live : tie.Need-overflow_add-live invariant-loop-k decreases-loop-k invariant-entries decreases-entries
+overflow_add-live c = let r = at_place c.before.before in let m = at_module c in record { fits = omega (arith, r.few_entries, r.few_modules, m, c.live_at-live.ensures) }
 
-mul-if2 : tie.Need-overflow-mul-if2 invariant-loop decreases-loop invariant-entries decreases-entries
-mul-if2 c = let r = at_place c.before.before in let m = at_module c in record { fits = omega (arith, r.few_entries, r.few_modules, m, c.before.before.before.before.before.before.before.Live-at.ensures) }
+offset_bounds-plan-live : tie.Need-offset_bounds-plan-live invariant-loop-k decreases-loop-k invariant-entries decreases-entries
+offset_bounds-plan-live c = let r = at_place c.before.before in let m = at_module c in record { fits = omega (arith, r.few_entries, r.few_modules, m, c.live_at-live.ensures) }
 
-slice-read-if2 : tie.Need-slice-read-if2 invariant-loop decreases-loop invariant-entries decreases-entries
-slice-read-if2 c = let r = at_place c.before.before.before in let m = at_module c.before in omega (arith, r.long, m, c.before.before.before.before.before.before.before.before.Live-at.ensures)
+bounds-plan-live : tie.Need-bounds-plan-live invariant-loop-k decreases-loop-k invariant-entries decreases-entries
+bounds-plan-live c = let r = at_place c.before.before.before in let m = at_module c.before in omega (arith, r.long, m, c.live_at-live.ensures)
 
-add-if3 : tie.Need-overflow-add-if3 invariant-loop decreases-loop invariant-entries decreases-entries
-add-if3 c = let r = at_place c.before.before.before.before in let m = at_module c.before.before in record { fits = omega (arith, r.few_entries, r.few_modules, m, c.before.before.before.before.before.before.before.before.cycled-at.ensures) }
+overflow_add-cycled : tie.Need-overflow_add-cycled invariant-loop-k decreases-loop-k invariant-entries decreases-entries
+overflow_add-cycled c = let r = at_place c.before.before.before.before in let m = at_module c.before.before in record { fits = omega (arith, r.few_entries, r.few_modules, m, c.cycled_at-cycled.ensures) }
 
-mul-if3 : tie.Need-overflow-mul-if3 invariant-loop decreases-loop invariant-entries decreases-entries
-mul-if3 c = let r = at_place c.before.before.before.before in let m = at_module c.before.before in record { fits = omega (arith, r.few_entries, r.few_modules, m, c.before.before.before.before.before.before.before.before.cycled-at.ensures) }
+offset_bounds-plan-cycled : tie.Need-offset_bounds-plan-cycled invariant-loop-k decreases-loop-k invariant-entries decreases-entries
+offset_bounds-plan-cycled c = let r = at_place c.before.before.before.before in let m = at_module c.before.before in record { fits = omega (arith, r.few_entries, r.few_modules, m, c.cycled_at-cycled.ensures) }
 
-slice-read-if3 : tie.Need-slice-read-if3 invariant-loop decreases-loop invariant-entries decreases-entries
-slice-read-if3 c = let r = at_place c.before.before.before.before.before in let m = at_module c.before.before.before in omega (arith, r.long, m, c.before.before.before.before.before.before.before.before.before.cycled-at.ensures)
+bounds-plan-cycled : tie.Need-bounds-plan-cycled invariant-loop-k decreases-loop-k invariant-entries decreases-entries
+bounds-plan-cycled c = let r = at_place c.before.before.before.before.before in let m = at_module c.before.before.before in omega (arith, r.long, m, c.cycled_at-cycled.ensures)
 
-flags-requires : tie.Need-flags-requires invariant-loop decreases-loop invariant-entries decreases-entries
-flags-requires c κs = (c.before.before.before.before.before.before.before.before.before.before.before.before.before.before.before.before.before.requires.0.loaded, c.before.before.before.before.entry-module.ensures.1)
+flags-requires : tie.Need-flags-requires invariant-loop-k decreases-loop-k invariant-entries decreases-entries
+flags-requires c κs = (c.requires.0.loaded, c.entry_module-m.ensures.1)
 
-flag-requires : tie.Need-flag-requires invariant-loop decreases-loop invariant-entries decreases-entries
-flag-requires c κs = search rules
+flag-unused-requires : tie.Need-flag-unused-requires invariant-loop-k decreases-loop-k invariant-entries decreases-entries
+flag-unused-requires c κs = search rules
 
-related-count-requires : tie.Need-related-count-requires invariant-loop decreases-loop invariant-entries decreases-entries
-related-count-requires c κs = let r = at_place c.before.before.before.before.before.before.before.before in (c.before.before.before.before.before.before.before.before.before.before.before.before.before.before.before.before.before.before.before.requires.0.loaded, rw (sym c.before.before.before.before.before.before.before.before.before.before.before.before.before.before.header_of.ensures) r.entry)
+related_count-related-requires : tie.Need-related_count-related-requires invariant-loop-k decreases-loop-k invariant-entries decreases-entries
+related_count-related-requires c κs = let r = at_place c.before.before.before.before.before.before.before.before in (c.requires.0.loaded, rw (sym c.header_of-h.ensures) r.entry)
 
-loop-holds : tie.Need-loop-init invariant-loop decreases-loop invariant-entries decreases-entries
-loop-holds c = (omega arith, search_start _ _ _ _)
+loop-k-init : tie.Need-loop-k-init invariant-loop-k decreases-loop-k invariant-entries decreases-entries
+loop-k-init c = (omega arith, search_start _ _ _ _)
 
-lets-live-requires : tie.Need-lets-live-requires invariant-loop decreases-loop invariant-entries decreases-entries
+lets_live-requires : tie.Need-lets_live-requires invariant-loop-k decreases-loop-k invariant-entries decreases-entries
 unfolding module_of_entry
-lets-live-requires c κs = let r = at_place c.before.before.before.before.before.before.before.before.before.before.before in let s = c.before.before.before.before.before.before.before.before.before.before.before.before.before.before.before.before.before.before.before.before.before.before in (s.requires.0, ((rw (sym c.before.before.before.before.before.before.before.before.before.before.before.before.before.before.before.before.before.header_of.ensures) r.entry, rw (sym c.before.before.related-count.ensures) c.loop-test.true, s.requires.1.2), unused_is _ _ _ _ _ c.before.before.before.flag.ensures c.before.before.before.before.flags.ensures c.before.before.before.before.before.before.before.before.before.entry-module.ensures.0))
+lets_live-requires c κs = let r = at_place c.before.before.before.before.before.before.before.before.before.before.before in (c.requires.0, ((rw (sym c.header_of-h.ensures) r.entry, rw (sym c.related_count-related.ensures) c.loop-k-test.true, c.requires.1.2), unused_is _ _ _ _ _ c.flag-unused.ensures c.flags.ensures c.entry_module-m.ensures.0))
 
-add-k : tie.Need-overflow-add-k invariant-loop decreases-loop invariant-entries decreases-entries
-add-k c = record { fits = omega (arith, c.before.before.loop-test.true, c.before.before.before.before.related-count.type-inv) }
+overflow_add-k : tie.Need-overflow_add-k invariant-loop-k decreases-loop-k invariant-entries decreases-entries
+overflow_add-k c = record { fits = omega (arith, c.loop-k-test.true, c.related_count-related.type-inv) }
 
-loop-less : tie.Need-loop-smaller invariant-loop decreases-loop invariant-entries decreases-entries
-loop-less c = omega (arith, c.before.before.loop-test.true)
+loop-k-smaller : tie.Need-loop-k-smaller invariant-loop-k decreases-loop-k invariant-entries decreases-entries
+loop-k-smaller c = omega (arith, c.loop-k-test.true)
 
-loop-again : tie.Need-loop-preserved invariant-loop decreases-loop invariant-entries decreases-entries
-loop-again c = (omega (arith, c.before.before.loop-test.true), search-next _ _ _ _ _ c.before.before.before.loop.invariant.1 _ c.before.before.before.before.related-count.ensures c.before.before.loop-test.true _ c.before.lets_live.ensures c.if4.false)
+loop-k-preserved : tie.Need-loop-k-preserved invariant-loop-k decreases-loop-k invariant-entries decreases-entries
+loop-k-preserved c = (omega (arith, c.loop-k-test.true), search-next _ _ _ _ _ c.loop-k.invariant.1 _ c.related_count-related.ensures c.loop-k-test.true _ c.lets_live.ensures c.if-lets_live.false)
 
-add-plan : tie.Need-overflow-add-plan invariant-loop decreases-loop invariant-entries decreases-entries
-add-plan c = let r = at_place c.before.before.before.before.before.before.before.before.before.before.before in record { fits = omega (arith, r.few_entries, r.few_modules, r.entry, c.before.before.before.before.before.before.before.before.before.before.before.before.before.before.dead-at.ensures) }
+overflow_add-plan : tie.Need-overflow_add-plan invariant-loop-k decreases-loop-k invariant-entries decreases-entries
+overflow_add-plan c = let r = at_place c.before.before.before.before.before.before.before.before.before.before.before in record { fits = omega (arith, r.few_entries, r.few_modules, r.entry, c.dead_at-dead.ensures) }
 
-mul-plan : tie.Need-overflow-mul-plan invariant-loop decreases-loop invariant-entries decreases-entries
-mul-plan c = let r = at_place c.before.before.before.before.before.before.before.before.before.before.before in record { fits = omega (arith, r.few_entries, r.few_modules, r.entry, c.before.before.before.before.before.before.before.before.before.before.before.before.before.before.dead-at.ensures) }
+offset_bounds-plan-dead : tie.Need-offset_bounds-plan-dead invariant-loop-k decreases-loop-k invariant-entries decreases-entries
+offset_bounds-plan-dead c = let r = at_place c.before.before.before.before.before.before.before.before.before.before.before in record { fits = omega (arith, r.few_entries, r.few_modules, r.entry, c.dead_at-dead.ensures) }
 
-slice-write-plan : tie.Need-slice-write-plan invariant-loop decreases-loop invariant-entries decreases-entries
-slice-write-plan c = let r = at_place c.before.before.before.before.before.before.before.before.before.before.before in omega (arith, r.long, r.entry, c.before.before.before.before.before.before.before.before.before.before.before.before.before.before.dead-at.ensures)
+bounds-plan-dead : tie.Need-bounds-plan-dead invariant-loop-k decreases-loop-k invariant-entries decreases-entries
+bounds-plan-dead c = let r = at_place c.before.before.before.before.before.before.before.before.before.before.before in omega (arith, r.long, r.entry, c.dead_at-dead.ensures)
 
-add-i : tie.Need-overflow-add-i invariant-loop decreases-loop invariant-entries decreases-entries
-add-i c = let r = at_place c.before.before.before.before in record { fits = omega (arith, r.few_entries, r.place) }
+overflow_add-i : tie.Need-overflow_add-i invariant-loop-k decreases-loop-k invariant-entries decreases-entries
+overflow_add-i c = let r = at_place c.before.before.before.before in record { fits = omega (arith, r.few_entries, r.place) }
 
-entries-less : tie.Need-entries-smaller invariant-loop decreases-loop invariant-entries decreases-entries
-entries-less c = omega (arith, c.before.before.before.before.if1.true)
+entries-smaller : tie.Need-entries-smaller invariant-loop-k decreases-loop-k invariant-entries decreases-entries
+entries-smaller c = omega (arith, c.entries-test.true)
 
-entries-again : tie.Need-entries-preserved invariant-loop decreases-loop invariant-entries decreases-entries
+entries-preserved : tie.Need-entries-preserved invariant-loop-k decreases-loop-k invariant-entries decreases-entries
 unfolding graph_in module_of_entry
-entries-again c =
-    let p = c.before.before.before.before.before.before.entries.invariant in
-    let h = c.before.before.before.before.before.before.before.before.before.before.header_of.ensures in
-    let k = c.before.before.before.before.if1.true in
-    let m = c.before.before.entry-module.ensures in
-    let live = c.before.before.before.before.before.before.before.before.before.Live-at.ensures in
-    let cycled = c.before.before.before.before.before.before.before.before.cycled-at.ensures in
-    let dead = c.before.before.before.before.before.before.before.dead-at.ensures in
+entries-preserved c =
+    let p = c.entries.invariant in
+    let h = c.header_of-h.ensures in
+    let k = c.entries-test.true in
+    let m = c.entry_module-m.ensures in
+    let live = c.live_at-live.ensures in
+    let cycled = c.cycled_at-cycled.ensures in
+    let dead = c.dead_at-dead.ensures in
     ⊎_elim
     (λ w. step-dead _ _ _ _ _ _ _ p _ h k _ m.0 m.1 (rw live at w.0.taken) (rw cycled at w.2.left) (search_end _ _ _ _ _ w.6.inv.1 _ w.5.ensures w.7.left) _ (rw dead at w.8))
     (λ w. rw w.1 (step-live _ _ _ _ _ _ _ p _ h k _ m.0 m.1 (rw live at w.0.left)))
-    c.if2.branch
+    c.if-plan-live-ne1.branch
 
-same_length : tie.Need-same-length invariant-loop decreases-loop invariant-entries decreases-entries
-same_length c = c.before.before.entries.invariant.written.same_length
+shape_of-plan-after-entries : tie.Need-shape_of-plan-after-entries invariant-loop-k decreases-loop-k invariant-entries decreases-entries
+shape_of-plan-after-entries c = c.entries.invariant.written.same_length
 
-returns : tie.Need-returns invariant-loop decreases-loop invariant-entries decreases-entries
+returns-after-entries : tie.Need-returns-after-entries invariant-loop-k decreases-loop-k invariant-entries decreases-entries
 unfolding graph_in
-returns c = passed-end _ _ _ _ _ _ _ c.before.before.entries.invariant (rw c.before.before.before.before.before.before.header_of.ensures at c.if1.false)
+returns-after-entries c = passed-end _ _ _ _ _ _ _ c.entries.invariant (rw c.header_of-h.ensures at c.entries-test.false)
 
-same-length-2 : tie.Need-same-length-2 invariant-loop decreases-loop invariant-entries decreases-entries
-same-length-2 c = c.before.before.before.before.before.before.before.before.entries.invariant.written.same_length
+shape_of-plan-then-plan-cycled-eq1 : tie.Need-shape_of-plan-then-plan-cycled-eq1 invariant-loop-k decreases-loop-k invariant-entries decreases-entries
+shape_of-plan-then-plan-cycled-eq1 c = c.entries.invariant.written.same_length
 
-returns-2 : tie.Need-returns-2 invariant-loop decreases-loop invariant-entries decreases-entries
+returns-then-plan-cycled-eq1 : tie.Need-returns-then-plan-cycled-eq1 invariant-loop-k decreases-loop-k invariant-entries decreases-entries
 unfolding graph_in module_of_entry
-returns-2 c = found-on-cycle _ _ _ _ _ _ _ c.before.before.before.before.before.before.before.before.entries.invariant _ c.before.before.before.before.before.before.before.before.before.before.before.before.header_of.ensures c.before.before.before.before.before.before.if1.true _ c.before.before.before.before.entry-module.ensures.0 c.before.before.before.before.entry-module.ensures.1 (rw c.before.before.before.before.before.before.before.before.before.before.before.Live-at.ensures at c.before.before.if2.true) (rw c.before.before.before.before.before.before.before.before.before.before.cycled-at.ensures at c.if3.true)
+returns-then-plan-cycled-eq1 c = found-on-cycle _ _ _ _ _ _ _ c.entries.invariant _ c.header_of-h.ensures c.entries-test.true _ c.entry_module-m.ensures.0 c.entry_module-m.ensures.1 (rw c.live_at-live.ensures at c.if-plan-live-ne1.true) (rw c.cycled_at-cycled.ensures at c.if-plan-cycled-eq1.true)
 
-same-length-3 : tie.Need-same-length-3 invariant-loop decreases-loop invariant-entries decreases-entries
-same-length-3 c = c.before.before.before.before.before.before.before.before.before.before.before.before.before.before.before.entries.invariant.written.same_length
+shape_of-plan-then-lets_live : tie.Need-shape_of-plan-then-lets_live invariant-loop-k decreases-loop-k invariant-entries decreases-entries
+shape_of-plan-then-lets_live c = c.entries.invariant.written.same_length
 
-returns-3 : tie.Need-returns-3 invariant-loop decreases-loop invariant-entries decreases-entries
+returns-then-lets_live : tie.Need-returns-then-lets_live invariant-loop-k decreases-loop-k invariant-entries decreases-entries
 unfolding graph_in module_of_entry
-returns-3 c = found-alive _ _ _ _ _ _ _ c.before.before.before.before.before.before.before.before.before.before.before.before.before.before.before.entries.invariant _ c.before.before.before.before.before.before.before.before.before.before.before.before.before.before.before.before.before.before.before.header_of.ensures c.before.before.before.before.before.before.before.before.before.before.before.before.before.if1.true _ c.before.before.before.before.before.before.before.before.before.before.before.entry-module.ensures.0 c.before.before.before.before.before.before.before.before.before.before.before.entry-module.ensures.1 (rw c.before.before.before.before.before.before.before.before.before.before.before.before.before.before.before.before.before.before.Live-at.ensures at c.before.before.before.before.before.before.before.before.before.if2.true) (rw c.before.before.before.before.before.before.before.before.before.before.before.before.before.before.before.before.before.cycled-at.ensures at c.before.before.before.before.before.before.before.if3.false) (search-found _ _ _ _ _ c.before.before.before.loop.invariant.1 _ c.before.before.before.before.related-count.ensures c.before.before.loop-test.true _ c.before.lets_live.ensures c.if4.true)
+returns-then-lets_live c = found-alive _ _ _ _ _ _ _ c.entries.invariant _ c.header_of-h.ensures c.entries-test.true _ c.entry_module-m.ensures.0 c.entry_module-m.ensures.1 (rw c.live_at-live.ensures at c.if-plan-live-ne1.true) (rw c.cycled_at-cycled.ensures at c.if-plan-cycled-eq1.false) (search-found _ _ _ _ _ c.loop-k.invariant.1 _ c.related_count-related.ensures c.loop-k-test.true _ c.lets_live.ensures c.if-lets_live.true)
 
-pub next-live-spec : {M : Type 1} → statement M
-next-live-spec =
+pub next_live_spec : {M : Type 1} → statement M
+next_live_spec =
     tie.close
     (tie.spec
-    invariant-loop
-    decreases-loop
+    invariant-loop-k
+    decreases-loop-k
     invariant-entries
     decreases-entries
-    header-of-requires
-    live-at-requires
-    cycled-at-requires
-    dead-at-requires
-    entries-holds
-    mul-e
-    slice-read-e
-    entry-module-requires
-    add-if2
-    mul-if2
-    slice-read-if2
-    add-if3
-    mul-if3
-    slice-read-if3
+    header_of-h-requires
+    live_at-live-requires
+    cycled_at-cycled-requires
+    dead_at-dead-requires
+    entries-init
+    offset_bounds-plan-i
+    bounds-plan-i
+    entry_module-m-requires
+    overflow_add-live
+    offset_bounds-plan-live
+    bounds-plan-live
+    overflow_add-cycled
+    offset_bounds-plan-cycled
+    bounds-plan-cycled
     flags-requires
-    flag-requires
-    related-count-requires
-    loop-holds
-    lets-live-requires
-    add-k
-    loop-less
-    loop-again
-    add-plan
-    mul-plan
-    slice-write-plan
-    add-i
-    entries-less
-    entries-again
-    same_length
-    returns
-    same-length-2
-    returns-2
-    same-length-3
-    returns-3)
+    flag-unused-requires
+    related_count-related-requires
+    loop-k-init
+    lets_live-requires
+    overflow_add-k
+    loop-k-smaller
+    loop-k-preserved
+    overflow_add-plan
+    offset_bounds-plan-dead
+    bounds-plan-dead
+    overflow_add-i
+    entries-smaller
+    entries-preserved
+    shape_of-plan-after-entries
+    returns-after-entries
+    shape_of-plan-then-plan-cycled-eq1
+    returns-then-plan-cycled-eq1
+    shape_of-plan-then-lets_live
+    returns-then-lets_live)

@@ -8,99 +8,98 @@ use native.Mathlib.Omega.{arith}
 use Rattle.entry_order.proofs.append_module.Statement.{statement}
 use Rattle.entry_order.proofs.append_module.Tie as tie
 
-abbrev invariant-loop : tie.invariant-loop
-invariant-loop numbers list count chain out₀ n modules first at₀ k₀ out at k = Along (graph_in numbers) list count first n out₀ at k out
+abbrev invariant-loop-at : tie.invariant-loop-at
+invariant-loop-at numbers list count chain out₀ n modules first at₀ k₀ out at k = Along (graph_in numbers) list count first n out₀ at k out
 
-abbrev decreases-loop : tie.decreases-loop
-decreases-loop numbers list count chain out₀ n modules first at₀ k₀ out at k = length (left_at (graph_in numbers) list first count at)
+abbrev decreases-loop-at : tie.decreases-loop-at
+decreases-loop-at numbers list count chain out₀ n modules first at₀ k₀ out at k = length (left_at (graph_in numbers) list first count at)
 
 -- the place in hand, its entry, its word of the chain, and the place to write to
-here : (c : tie.In-loop invariant-loop decreases-loop) → let l = c.before.loop in let s = c.before.before.before.before.before.before.before.before in
-    (l.at - 1 < length s.args.list.now) × (get_or s.args.list.now (l.at - 1) 0 < (header_in s.args.numbers.now).entries) × (c.before.before.before.header_of.result.modules + l.at ≤ length s.args.chain.now) × (l.k < length l.out)
-here c = let s = c.before.before.before.before.before.before.before.before in along-place _ _ c.before.before.before.header_of.ensures _ _ _ _ s.requires.1.0.0 s.requires.1.0.1 s.requires.1.1.0 _ _ _ _ _ c.before.loop.invariant c.loop-test.true
+here : (c : tie.In-loop-at invariant-loop-at decreases-loop-at) → let l = c.loop-at in (l.at - 1 < length c.args.list.now) × (get_or c.args.list.now (l.at - 1) 0 < (header_in c.args.numbers.now).entries) × (c.header_of-h.result.modules + l.at ≤ length c.args.chain.now) × (l.k < length l.out)
+here c = along-place _ _ c.header_of-h.ensures _ _ _ _ c.requires.1.0.0 c.requires.1.0.1 c.requires.1.1.0 _ _ _ _ _ c.loop-at.invariant c.loop-at-test.true
 
-wide : (c : tie.In-loop invariant-loop decreases-loop) → length c.before.loop.out * 4 < 2 ^ 63
-wide c = let s = c.before.before.before.before.before.before.before.before in let l = c.before.loop.invariant.fill.long in omega (arith, l, s.well-formed.1.1.1.1.1.0.1)
+wide : (c : tie.In-loop-at invariant-loop-at decreases-loop-at) → length c.loop-at.out * 4 < 2 ^ 63
+wide c = let l = c.loop-at.invariant.fill.long in omega (arith, l, c.well-formed.1.1.1.1.1.0.1)
 
-header-of-requires : tie.Need-header-of-requires invariant-loop decreases-loop
-header-of-requires c κs = c.before.before.before.before.requires.0
+header_of-h-requires : tie.Need-header_of-h-requires invariant-loop-at decreases-loop-at
+header_of-h-requires c κs = c.requires.0
 
-mul_at : tie.Need-overflow-mul-at invariant-loop decreases-loop
-mul_at c = let s = c.before.before.before.before.before in let l = first_fits _ _ c.header_of.ensures _ _ _ _ s.requires.1.0.0 s.requires.1.0.1 s.requires.1.1.0 s.args.n s.args.out.now in record { fits = omega (arith, l, s.well-formed.1.1.1.0.1) }
+offset_bounds-chain-first : tie.Need-offset_bounds-chain-first invariant-loop-at decreases-loop-at
+offset_bounds-chain-first c = let l = first_fits _ _ c.header_of-h.ensures _ _ _ _ c.requires.1.0.0 c.requires.1.0.1 c.requires.1.1.0 c.args.n c.args.out.now in record { fits = omega (arith, l, c.well-formed.1.1.1.0.1) }
 
-shared-slice-read-at : tie.Need-shared-slice-read-at invariant-loop decreases-loop
-shared-slice-read-at c = let s = c.before.before.before.before.before.before in first_fits _ _ c.before.header_of.ensures _ _ _ _ s.requires.1.0.0 s.requires.1.0.1 s.requires.1.1.0 s.args.n s.args.out.now
+bounds-chain-first : tie.Need-bounds-chain-first invariant-loop-at decreases-loop-at
+bounds-chain-first c = first_fits _ _ c.header_of-h.ensures _ _ _ _ c.requires.1.0.0 c.requires.1.0.1 c.requires.1.1.0 c.args.n c.args.out.now
 
-loop-holds : tie.Need-loop-init invariant-loop decreases-loop
-loop-holds c = let s = c.before.before.before.before.before.before in along_start _ _ c.before.header_of.ensures _ _ _ _ s.requires.1.0.0 s.requires.1.0.1 s.requires.1.1.0 _ _ s.requires.1.1.2
+loop-at-init : tie.Need-loop-at-init invariant-loop-at decreases-loop-at
+loop-at-init c = along_start _ _ c.header_of-h.ensures _ _ _ _ c.requires.1.0.0 c.requires.1.0.1 c.requires.1.1.0 _ _ c.requires.1.1.2
 
-sub_narrow : tie.Need-overflow-sub-narrow invariant-loop decreases-loop
-sub_narrow c = c.loop-test.true
+overflow_sub-at : tie.Need-overflow_sub-at invariant-loop-at decreases-loop-at
+overflow_sub-at c = c.loop-at-test.true
 
-mul-narrow : tie.Need-overflow-mul-narrow invariant-loop decreases-loop
-mul-narrow c = let s = c.before.before.before.before.before.before.before.before in let t = (here c).0 in record { fits = omega (arith, t, s.well-formed.1.0.1) }
+offset_bounds-list-at : tie.Need-offset_bounds-list-at invariant-loop-at decreases-loop-at
+offset_bounds-list-at c = let t = (here c).0 in record { fits = omega (arith, t, c.well-formed.1.0.1) }
 
-shared-slice-read-narrow : tie.Need-shared-slice-read-narrow invariant-loop decreases-loop
-shared-slice-read-narrow c = (here c.before).0
+bounds-list-at : tie.Need-bounds-list-at invariant-loop-at decreases-loop-at
+bounds-list-at c = (here c.before).0
 
-narrow-requires : tie.Need-narrow-requires invariant-loop decreases-loop
-narrow-requires c κs = let s = c.before.before.before.before.before.before.before.before.before in let t = (here c.before).1 in omega (arith, t, s.requires.1.1.1)
+narrow-requires : tie.Need-narrow-requires invariant-loop-at decreases-loop-at
+narrow-requires c κs = let t = (here c.before).1 in omega (arith, t, c.requires.1.1.1)
 
-mul-out : tie.Need-overflow-mul-out invariant-loop decreases-loop
-mul-out c = let t = (here c.before.before).3 in let w = wide c.before.before in record { fits = omega (arith, t, w) }
+offset_bounds-out-k : tie.Need-offset_bounds-out-k invariant-loop-at decreases-loop-at
+offset_bounds-out-k c = let t = (here c.before.before).3 in let w = wide c.before.before in record { fits = omega (arith, t, w) }
 
-slice-write-out : tie.Need-slice-write-out invariant-loop decreases-loop
-slice-write-out c = (here c.before.before).3
+bounds-out-k : tie.Need-bounds-out-k invariant-loop-at decreases-loop-at
+bounds-out-k c = (here c.before.before).3
 
-add-k : tie.Need-overflow-add-k invariant-loop decreases-loop
-add-k c = let t = (here c.before.before).3 in let w = wide c.before.before in record { fits = omega (arith, t, w) }
+overflow_add-k : tie.Need-overflow_add-k invariant-loop-at decreases-loop-at
+overflow_add-k c = let t = (here c.before.before).3 in let w = wide c.before.before in record { fits = omega (arith, t, w) }
 
-add_at : tie.Need-overflow-add-at invariant-loop decreases-loop
-add_at c = let s = c.before.before.before.before.before.before.before.before.before.before in let t = (here c.before.before).2 in record { fits = omega (arith, t, s.well-formed.1.1.1.0.1) }
+overflow_add-at : tie.Need-overflow_add-at invariant-loop-at decreases-loop-at
+overflow_add-at c = let t = (here c.before.before).2 in record { fits = omega (arith, t, c.well-formed.1.1.1.0.1) }
 
-sub_at : tie.Need-overflow-sub-at invariant-loop decreases-loop
-sub_at c = let h = c.before.before.loop-test.true in omega (arith, h)
+overflow_sub-at-in-loop-at : tie.Need-overflow_sub-at-in-loop-at invariant-loop-at decreases-loop-at
+overflow_sub-at-in-loop-at c = let h = c.loop-at-test.true in omega (arith, h)
 
-mul-at-2 : tie.Need-overflow-mul-at-2 invariant-loop decreases-loop
-mul-at-2 c = let s = c.before.before.before.before.before.before.before.before.before.before in let t = (here c.before.before).2 in record { fits = omega (arith, t, s.well-formed.1.1.1.0.1) }
+offset_bounds-chain-modules : tie.Need-offset_bounds-chain-modules invariant-loop-at decreases-loop-at
+offset_bounds-chain-modules c = let t = (here c.before.before).2 in record { fits = omega (arith, t, c.well-formed.1.1.1.0.1) }
 
-shared-slice-read-at-2 : tie.Need-shared-slice-read-at-2 invariant-loop decreases-loop
-shared-slice-read-at-2 c = let h = c.before.before.before.loop-test.true in let t = (here c.before.before.before).2 in omega (arith, t, h)
+bounds-chain-modules : tie.Need-bounds-chain-modules invariant-loop-at decreases-loop-at
+bounds-chain-modules c = let h = c.loop-at-test.true in let t = (here c.before.before.before).2 in omega (arith, t, h)
 
-loop-less : tie.Need-loop-smaller invariant-loop decreases-loop
-loop-less c = let s = c.before.before.before.before.before.before.before.before.before.before.before in along-less _ _ c.before.before.before.before.before.before.header_of.ensures _ _ _ _ s.requires.1.0.0 s.requires.1.0.1 s.requires.1.1.0 _ _ _ _ _ c.before.before.before.before.loop.invariant c.before.before.before.loop-test.true
+loop-at-smaller : tie.Need-loop-at-smaller invariant-loop-at decreases-loop-at
+loop-at-smaller c = along-less _ _ c.header_of-h.ensures _ _ _ _ c.requires.1.0.0 c.requires.1.0.1 c.requires.1.1.0 _ _ _ _ _ c.loop-at.invariant c.loop-at-test.true
 
-loop-again : tie.Need-loop-preserved invariant-loop decreases-loop
-loop-again c = let s = c.before.before.before.before.before.before.before.before.before.before.before in along_step _ _ c.before.before.before.before.before.before.header_of.ensures _ _ _ _ s.requires.1.0.0 s.requires.1.0.1 s.requires.1.1.0 _ _ _ _ _ c.before.before.before.before.loop.invariant c.before.before.before.loop-test.true _ c.before.narrow.ensures
+loop-at-preserved : tie.Need-loop-at-preserved invariant-loop-at decreases-loop-at
+loop-at-preserved c = along_step _ _ c.header_of-h.ensures _ _ _ _ c.requires.1.0.0 c.requires.1.0.1 c.requires.1.1.0 _ _ _ _ _ c.loop-at.invariant c.loop-at-test.true _ c.narrow.ensures
 
-same_length : tie.Need-same-length invariant-loop decreases-loop
-same_length c = c.before.loop.invariant.fill.long
+shape_of-out : tie.Need-shape_of-out invariant-loop-at decreases-loop-at
+shape_of-out c = c.loop-at.invariant.fill.long
 
-returns : tie.Need-returns invariant-loop decreases-loop
-returns c = let s = c.before.before.before.before.before.before.before.before in along_done _ _ c.before.before.before.header_of.ensures _ _ _ _ s.requires.1.0.0 s.requires.1.0.1 s.requires.1.1.0 _ _ _ _ _ c.before.loop.invariant c.loop-test.false
+returns : tie.Need-returns invariant-loop-at decreases-loop-at
+returns c = along_done _ _ c.header_of-h.ensures _ _ _ _ c.requires.1.0.0 c.requires.1.0.1 c.requires.1.1.0 _ _ _ _ _ c.loop-at.invariant c.loop-at-test.false
 
-pub append-module-spec : {M : Type 1} → statement M
-append-module-spec =
+pub append_module_spec : {M : Type 1} → statement M
+append_module_spec =
     tie.close
     (tie.spec
-    invariant-loop
-    decreases-loop
-    header-of-requires
-    mul_at
-    shared-slice-read-at
-    loop-holds
-    sub_narrow
-    mul-narrow
-    shared-slice-read-narrow
+    invariant-loop-at
+    decreases-loop-at
+    header_of-h-requires
+    offset_bounds-chain-first
+    bounds-chain-first
+    loop-at-init
+    overflow_sub-at
+    offset_bounds-list-at
+    bounds-list-at
     narrow-requires
-    mul-out
-    slice-write-out
-    add-k
-    add_at
-    sub_at
-    mul-at-2
-    shared-slice-read-at-2
-    loop-less
-    loop-again
-    same_length
+    offset_bounds-out-k
+    bounds-out-k
+    overflow_add-k
+    overflow_add-at
+    overflow_sub-at-in-loop-at
+    offset_bounds-chain-modules
+    bounds-chain-modules
+    loop-at-smaller
+    loop-at-preserved
+    shape_of-out
     returns)

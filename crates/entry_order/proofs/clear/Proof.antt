@@ -7,51 +7,51 @@ use native.Mathlib.Omega.{arith}
 use Rattle.entry_order.proofs.clear.Statement.{statement}
 use Rattle.entry_order.proofs.clear.Tie as tie
 
-abbrev invariant-loop : tie.invariant-loop
-invariant-loop chain₀ count i₀ chain i = (length chain ≡ length chain₀) × (i ≤ count) × ((k : ℕ) → k < i → get_or chain k 0 ≡ 0)
+abbrev invariant-loop-i : tie.invariant-loop-i
+invariant-loop-i chain₀ count i₀ chain i = (length chain ≡ length chain₀) × (i ≤ count) × ((k : ℕ) → k < i → get_or chain k 0 ≡ 0)
 
-abbrev decreases-loop : tie.decreases-loop
-decreases-loop chain₀ count i₀ chain i = count - i
+abbrev decreases-loop-i : tie.decreases-loop-i
+decreases-loop-i chain₀ count i₀ chain i = count - i
 
-loop-holds : tie.Need-loop-init invariant-loop decreases-loop
-loop-holds c = search rules
+loop-i-init : tie.Need-loop-i-init invariant-loop-i decreases-loop-i
+loop-i-init c = search rules
 
-mul-chain : tie.Need-overflow-mul-chain invariant-loop decreases-loop
-mul-chain c = search rules
+offset_bounds-chain-i : tie.Need-offset_bounds-chain-i invariant-loop-i decreases-loop-i
+offset_bounds-chain-i c = search rules
 
-slice-write-chain : tie.Need-slice-write-chain invariant-loop decreases-loop
-slice-write-chain c = search rules
+bounds-chain-i : tie.Need-bounds-chain-i invariant-loop-i decreases-loop-i
+bounds-chain-i c = search rules
 
-add-i : tie.Need-overflow-add-i invariant-loop decreases-loop
-add-i c = search rules
+overflow_add-i : tie.Need-overflow_add-i invariant-loop-i decreases-loop-i
+overflow_add-i c = search rules
 
-loop-less : tie.Need-loop-smaller invariant-loop decreases-loop
-loop-less c = search rules
+loop-i-smaller : tie.Need-loop-i-smaller invariant-loop-i decreases-loop-i
+loop-i-smaller c = search rules
 
-loop-again : tie.Need-loop-preserved invariant-loop decreases-loop
-loop-again c =
-    let l = c.before.loop in
-    let h = c.loop-test.true in
-    let s = c.before.before.requires in
+loop-i-preserved : tie.Need-loop-i-preserved invariant-loop-i decreases-loop-i
+loop-i-preserved c =
+    let l = c.loop-i in
+    let h = c.loop-i-test.true in
+    let s = c.requires in
     (length-set {A = ℕ} l.chain l.i 0 ∙ l.invariant.0, omega (arith, h), zero_more l.chain l.i (omega (arith, h, s, l.invariant.0)) l.invariant.2)
 
-same_length : tie.Need-same-length invariant-loop decreases-loop
-same_length c = search rules
+shape_of-chain : tie.Need-shape_of-chain invariant-loop-i decreases-loop-i
+shape_of-chain c = search rules
 
-returns : tie.Need-returns invariant-loop decreases-loop
-returns c = λ i h. (let l = c.loop-test.false in c.before.loop.invariant.2 i (omega (arith, l, h)))
+returns : tie.Need-returns invariant-loop-i decreases-loop-i
+returns c = λ i h. (let l = c.loop-i-test.false in c.loop-i.invariant.2 i (omega (arith, l, h)))
 
 pub clear_spec : {M : Type 1} → statement M
 clear_spec =
     tie.close
     (tie.spec
-    invariant-loop
-    decreases-loop
-    loop-holds
-    mul-chain
-    slice-write-chain
-    add-i
-    loop-less
-    loop-again
-    same_length
+    invariant-loop-i
+    decreases-loop-i
+    loop-i-init
+    offset_bounds-chain-i
+    bounds-chain-i
+    overflow_add-i
+    loop-i-smaller
+    loop-i-preserved
+    shape_of-chain
     returns)

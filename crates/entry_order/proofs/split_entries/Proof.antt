@@ -9,64 +9,60 @@ use Rattle.entry_order.proofs.split_entries.Statement.{statement}
 use Rattle.entry_order.proofs.split_entries.Tie as tie
 
 -- the number of entries: there are words for each
-is : (c : tie.After-header-of) → c.header_of.result.entries ≡ (graph_in c.before.before.before.before.before.before.args.numbers.now).header.entries
-is c = count_is _ _ c.header_of.ensures
+is : (c : tie.After-header_of-h) → c.header_of-h.result.entries ≡ (graph_in c.args.numbers.now).header.entries
+is c = count_is _ _ c.header_of-h.ensures
 
-counted : (c : tie.After-header-of) → let n = c.header_of.result.entries in let s = c.before.before.before.before.before.before in
-    ((header_in s.args.numbers.now).modules + n ≤ length s.args.chain.now) × (n ≤ length s.args.list.now) × (n ≤ length s.args.plan.now)
-counted c = let s = c.before.before.before.before.before.before in rw c.header_of.ensures s.requires.1
+counted : (c : tie.After-header_of-h) → let n = c.header_of-h.result.entries in ((header_in c.args.numbers.now).modules + n ≤ length c.args.chain.now) × (n ≤ length c.args.list.now) × (n ≤ length c.args.plan.now)
+counted c = rw c.header_of-h.ensures c.requires.1
 
-header-of-requires : tie.Need-header-of-requires
-header-of-requires c κs = c.before.before.before.before.before.requires.0.long
+header_of-h-requires : tie.Need-header_of-h-requires
+header_of-h-requires c κs = c.requires.0.long
 
 number-requires : tie.Need-number-requires
 number-requires c κs = (counted c.before).2
 
 group-requires : tie.Need-group-requires
 group-requires c κs =
-    let s = c.before.before.before.before.before.before.before.before.before.before.before.before.before in
-    let n = counted c.before.before.before.before.before.before.before in
-    (s.requires.0, (numbered _ _ (is c.before.before.before.before.before.before.before) _ _ n.2 c.before.before.before.before.before.number.ensures, n.0, n.1))
+    let n = counted c.before.before.before.before.before.before in
+    (c.requires.0, (numbered _ _ (is c.before.before.before.before.before.before) _ _ n.2 c.number.ensures, n.0, n.1))
 
-copy-kind-requires : tie.Need-copy-kind-requires
-copy-kind-requires c κs =
-    let s = c.before.before.before.before.before.before.before.before.before.before.before.before.before.before.before.before.before.before.before.before in
-    let n = counted c.before.before.before.before.before.before.before.before.before.before.before.before.before.before in
-    (s.requires.0, (list-entries _ _ (is c.before.before.before.before.before.before.before.before.before.before.before.before.before.before) _ _ n.2 c.before.before.before.before.before.before.before.before.before.before.before.before.number.ensures _ _ n.1 c.before.before.before.before.before.before.group.ensures, user-room _ _ (is c.before.before.before.before.before.before.before.before.before.before.before.before.before.before) _ _ n.2 c.before.before.before.before.before.before.before.before.before.before.before.before.number.ensures _ _ n.1 c.before.before.before.before.before.before.group.ensures))
+copy_kind-users-requires : tie.Need-copy_kind-users-requires
+copy_kind-users-requires c κs =
+    let n = counted c.before.before.before.before.before.before.before.before.before.before.before.before in
+    (c.requires.0, (list-entries _ _ (is c.before.before.before.before.before.before.before.before.before.before.before.before) _ _ n.2 c.number.ensures _ _ n.1 c.group.ensures, user-room _ _ (is c.before.before.before.before.before.before.before.before.before.before.before.before) _ _ n.2 c.number.ensures _ _ n.1 c.group.ensures))
 
-copy-kind-requires-2 : tie.Need-copy-kind-requires-2
-copy-kind-requires-2 c κs =
-    let s = c.before.before.before.before.before.before.before.before.before.before.before.before.before.before.before.before.before.before.before.before.before.before.before.before.before in
-    let n = counted c.before.before.before.before.before.before.before.before.before.before.before.before.before.before.before.before.before.before.before in
-    let room = dynamic-room _ _ (is c.before.before.before.before.before.before.before.before.before.before.before.before.before.before.before.before.before.before.before) _ _ n.2 c.before.before.before.before.before.before.before.before.before.before.before.before.before.before.before.before.before.number.ensures _ _ n.1 c.before.before.before.before.before.before.before.before.before.before.before.group.ensures _ _ c.before.before.before.before.copy-kind.ensures in
-    (s.requires.0, (list-entries _ _ (is c.before.before.before.before.before.before.before.before.before.before.before.before.before.before.before.before.before.before.before) _ _ n.2 c.before.before.before.before.before.before.before.before.before.before.before.before.before.before.before.before.before.number.ensures _ _ n.1 c.before.before.before.before.before.before.before.before.before.before.before.group.ensures, omega (arith, room)))
+copy_kind-requires : tie.Need-copy_kind-requires
+copy_kind-requires c κs =
+    let n = counted c.before.before.before.before.before.before.before.before.before.before.before.before.before.before.before.before in
+    let room = dynamic-room _ _ (is c.before.before.before.before.before.before.before.before.before.before.before.before.before.before.before.before) _ _ n.2 c.number.ensures _ _ n.1 c.group.ensures _ _ c.copy_kind-users.ensures in
+    (c.requires.0, (list-entries _ _ (is c.before.before.before.before.before.before.before.before.before.before.before.before.before.before.before.before) _ _ n.2 c.number.ensures _ _ n.1 c.group.ensures, omega (arith, room)))
 
-same_length : tie.Need-same-length
-same_length c = c.before.before.before.before.before.before.before.before.before.before.before.before.before.before.group.auto.1.1.1.1.0
+shape_of-chain : tie.Need-shape_of-chain
+shape_of-chain c = c.group.auto.1.1.1.1.0
 
-same-length-2 : tie.Need-same-length-2
-same-length-2 c = c.before.before.before.before.before.before.before.before.before.before.before.before.before.before.group.auto.1.1.1.1.1.0
+shape_of-list : tie.Need-shape_of-list
+shape_of-list c = c.group.auto.1.1.1.1.1.0
 
-same-length-3 : tie.Need-same-length-3
-same-length-3 c = c.before.before.copy-kind2.auto.1.1.1.1.1.0 ∙ c.before.before.before.before.before.before.before.copy-kind.auto.1.1.1.1.1.0 ∙ c.before.before.before.before.before.before.before.before.before.before.before.before.before.before.before.before.before.before.before.before.number.auto.0
+shape_of-plan : tie.Need-shape_of-plan
+shape_of-plan c = c.copy_kind.auto.1.1.1.1.1.0 ∙ c.copy_kind-users.auto.1.1.1.1.1.0 ∙ c.number.auto.0
 
 returns : tie.Need-returns
 returns c =
-    let n = counted c.before.before.before.before.before.before.before.before.before.before.before.before.before.before.before.before.before.before.before.before.before.before in
-    count_turned _ _ c.before.before.before.before.before.before.before.before.before.before.before.before.before.before.before.before.before.before.before.before.before.before.header_of.ensures _ _ _
-    (split-is _ _ (is c.before.before.before.before.before.before.before.before.before.before.before.before.before.before.before.before.before.before.before.before.before.before) _ _ n.2 c.before.before.before.before.before.before.before.before.before.before.before.before.before.before.before.before.before.before.before.before.number.ensures _ _ n.1 c.before.before.before.before.before.before.before.before.before.before.before.before.before.before.group.ensures _ _ c.before.before.before.before.before.before.before.copy-kind.ensures _ _ c.before.before.copy-kind2.ensures)
-    (split_rest _ _ (is c.before.before.before.before.before.before.before.before.before.before.before.before.before.before.before.before.before.before.before.before.before.before) _ _ n.2 c.before.before.before.before.before.before.before.before.before.before.before.before.before.before.before.before.before.before.before.before.number.ensures _ _ n.1 c.before.before.before.before.before.before.before.before.before.before.before.before.before.before.group.ensures _ _ c.before.before.before.before.before.before.before.copy-kind.ensures _ _ c.before.before.copy-kind2.ensures)
+    let n = counted c.before.before.before.before.before.before.before.before.before.before.before.before.before.before.before.before.before.before.before in
+    count_turned _ _ c.header_of-h.ensures _ _ _
+    (split-is _ _ (is c.before.before.before.before.before.before.before.before.before.before.before.before.before.before.before.before.before.before.before) _ _ n.2 c.number.ensures _ _ n.1 c.group.ensures _ _ c.copy_kind-users.ensures _ _ c.copy_kind.ensures)
+    (split_rest _ _ (is c.before.before.before.before.before.before.before.before.before.before.before.before.before.before.before.before.before.before.before) _ _ n.2 c.number.ensures _ _ n.1 c.group.ensures _ _ c.copy_kind-users.ensures _ _ c.copy_kind.ensures)
 
-pub split-entries-spec : {M : Type 1} → statement M
-split-entries-spec =
+pub split_entries_spec : {M : Type 1} → statement M
+split_entries_spec =
     tie.close
     (tie.spec
-    header-of-requires
+    header_of-h-requires
     number-requires
     group-requires
-    copy-kind-requires
-    copy-kind-requires-2
-    same_length
-    same-length-2
-    same-length-3
+    copy_kind-users-requires
+    copy_kind-requires
+    shape_of-chain
+    shape_of-list
+    shape_of-plan
     returns)

@@ -90,8 +90,8 @@ same-length-5 t c = c.before.before.order-full.auto.1.1.1.0 ∙ c.before.before.
 returns-5 : (t : ℕ) → lts.Need-returns-5 (claims t) (here t) larger.Post
 returns-5 t c = full_done _ _ _ _ _ _ c.before.before.before.before.before.before.before.before.before.before.before.before.before.before.before.before.before.before.before.before.before.before.requires.1.0.few_modules c.before.before.order-full.ensures
 
-pub +order-larger-spec : {M : Type 1} → statement M
-+order-larger-spec =
+pub +order_larger_spec : {M : Type 1} → statement M
++order_larger_spec =
     close μ λ t. lts.spec (claims t) (here t) larger.Post
     (sub-order-larger t)
     (order-larger-requires t)

@@ -5,11 +5,15 @@ use Rattle.entry_sizes.proofs.is_within.Tie as tie
 use Rattle.entry_sizes.proofs.is_within.Reads as reads
 use Rattle.entry_sizes.proofs.is_within.Lts as lts
 
+returns-then-h-limit : tie.Need-returns-then-h-limit
+returns-then-h-limit c = rw (lt-leb _ _ c.if-h-limit.true)
+
 returns : tie.Need-returns
-returns c = rw (lt-leb _ _ c.if1.true)
+returns c = rw (le-leb _ _ c.if-h-limit.false)
 
-returns-2 : tie.Need-returns-2
-returns-2 c = rw (le-leb _ _ c.before.if1.false)
-
-pub is-within-spec : {M : Type 1} → statement M
-is-within-spec = tie.close (tie.spec returns returns-2)
+pub is_within_spec : {M : Type 1} → statement M
+is_within_spec =
+    tie.close
+    (tie.spec
+    returns-then-h-limit
+    returns)

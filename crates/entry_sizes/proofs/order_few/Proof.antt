@@ -4,31 +4,31 @@ use Rattle.entry_sizes.proofs.Outcome.{full_done}
 use Rattle.entry_sizes.proofs.order_few.Statement.{statement}
 use Rattle.entry_sizes.proofs.order_few.Tie as tie
 
-split-small-requires : tie.Need-split-small-requires
-split-small-requires c κs = let s = c.before.before.before.before in (s.requires.0, ((s.requires.1.0.1, s.requires.1.0.2), s.requires.1.1))
+split_small-users-requires : tie.Need-split_small-users-requires
+split_small-users-requires c κs = (c.requires.0, ((c.requires.1.0.1, c.requires.1.0.2), c.requires.1.1))
 
-same_length : tie.Need-same-length
-same_length c = c.before.before.before.before.split-small.auto.1.1.0
+shape_of-plan-then-users-h : tie.Need-shape_of-plan-then-users-h
+shape_of-plan-then-users-h c = c.split_small-users.auto.1.1.0
+
+returns-then-users-h : tie.Need-returns-then-users-h
+returns-then-users-h c = all_users _ _ _ c.split_small-users.ensures _ c.requires.1.0.0 c.if-users-h.true
+
+order_small-requires : tie.Need-order_small-requires
+order_small-requires c κs = (c.requires.0, ((c.requires.1.0.1, c.requires.1.0.2), c.split_small-users.ensures))
+
+shape_of-plan : tie.Need-shape_of-plan
+shape_of-plan c = c.order_small.auto.1.1.1.0 ∙ c.split_small-users.auto.1.1.0
 
 returns : tie.Need-returns
-returns c = all_users _ _ _ c.before.before.before.before.split-small.ensures _ c.before.before.before.before.before.before.before.before.before.requires.1.0.0 c.if1.true
+returns c = full_done _ _ _ _ _ _ c.requires.1.0.1 c.order_small.ensures
 
-order-small-requires : tie.Need-order-small-requires
-order-small-requires c κs = let s = c.before.before.before.before.before.before.before.before.before.before in (s.requires.0, ((s.requires.1.0.1, s.requires.1.0.2), c.before.before.before.before.before.split-small.ensures))
-
-same-length-2 : tie.Need-same-length-2
-same-length-2 c = c.before.before.order_small.auto.1.1.1.0 ∙ c.before.before.before.before.before.before.before.before.split-small.auto.1.1.0
-
-returns-2 : tie.Need-returns-2
-returns-2 c = full_done _ _ _ _ _ _ c.before.before.before.before.before.before.before.before.before.before.before.before.before.requires.1.0.1 c.before.before.order_small.ensures
-
-pub order-few-spec : {M : Type 1} → statement M
-order-few-spec =
+pub order_few_spec : {M : Type 1} → statement M
+order_few_spec =
     tie.close
     (tie.spec
-    split-small-requires
-    same_length
-    returns
-    order-small-requires
-    same-length-2
-    returns-2)
+    split_small-users-requires
+    shape_of-plan-then-users-h
+    returns-then-users-h
+    order_small-requires
+    shape_of-plan
+    returns)

@@ -7,54 +7,53 @@ use Rattle.entry_sizes.proofs.Tiers.{rows_ready}
 use Rattle.entry_sizes.proofs.order_full.Statement.{statement}
 use Rattle.entry_sizes.proofs.order_full.Tie as tie
 
-slice-aggregate-order-in : tie.Need-slice-aggregate-order-in
-slice-aggregate-order-in c = sym (length-replicate {A = ℕ} 128 0)
+slice_bounds-order_in-end : tie.Need-slice_bounds-order_in-end
+slice_bounds-order_in-end c = sym (length-replicate {A = ℕ} 128 0)
 
-slice-aggregate-order-in-2 : tie.Need-slice-aggregate-order-in-2
-slice-aggregate-order-in-2 c = sym (length-replicate {A = ℕ} 1024 0)
+slice_bounds-order_in-end-2 : tie.Need-slice_bounds-order_in-end-2
+slice_bounds-order_in-end-2 c = sym (length-replicate {A = ℕ} 1024 0)
 
-slice-aggregate-order-in-3 : tie.Need-slice-aggregate-order-in-3
-slice-aggregate-order-in-3 c = sym (length-replicate {A = ℕ} 1024 0)
+slice_bounds-order_in-end-3 : tie.Need-slice_bounds-order_in-end-3
+slice_bounds-order_in-end-3 c = sym (length-replicate {A = ℕ} 1024 0)
 
-slice-aggregate-order-in-4 : tie.Need-slice-aggregate-order-in-4
-slice-aggregate-order-in-4 c = sym (length-replicate {A = ℕ} 1048576 0)
+slice_bounds-order_in-end-4 : tie.Need-slice_bounds-order_in-end-4
+slice_bounds-order_in-end-4 c = sym (length-replicate {A = ℕ} 1048576 0)
 
-slice-aggregate-order-in-5 : tie.Need-slice-aggregate-order-in-5
-slice-aggregate-order-in-5 c = sym (length-replicate {A = ℕ} 131072 0)
+slice_bounds-order_in-end-5 : tie.Need-slice_bounds-order_in-end-5
+slice_bounds-order_in-end-5 c = sym (length-replicate {A = ℕ} 131072 0)
 
-slice-aggregate-order-in-6 : tie.Need-slice-aggregate-order-in-6
-slice-aggregate-order-in-6 c = sym (length-replicate {A = ℕ} 1024 0)
+slice_bounds-order_in-end-6 : tie.Need-slice_bounds-order_in-end-6
+slice_bounds-order_in-end-6 c = sym (length-replicate {A = ℕ} 1024 0)
 
-slice-aggregate-order-in-7 : tie.Need-slice-aggregate-order-in-7
-slice-aggregate-order-in-7 c = sym (length-replicate {A = ℕ} 2048 0)
+slice_bounds-order_in-end-7 : tie.Need-slice_bounds-order_in-end-7
+slice_bounds-order_in-end-7 c = sym (length-replicate {A = ℕ} 2048 0)
 
-slice-aggregate-order-in-8 : tie.Need-slice-aggregate-order-in-8
-slice-aggregate-order-in-8 c = sym (length-replicate {A = ℕ} 1024 0)
+slice_bounds-order_in-end-8 : tie.Need-slice_bounds-order_in-end-8
+slice_bounds-order_in-end-8 c = sym (length-replicate {A = ℕ} 1024 0)
 
-order-in-requires : tie.Need-order-in-requires
-order-in-requires c κs =
-    let s = c.before.before.before.before.before.before.before.before.before.before.before.before in
-    let h = header_in s.args.numbers.now in
-    (s.requires.0, (s.requires.1, rows_ready h.modules h.entries 1024 1024 s.requires.0.few_modules s.requires.0.few_entries (omega arith) (omega arith) 128 1024 1024 1048576 131072 1024 2048 1024 (omega arith) (omega arith) (omega arith) (omega arith) (omega arith) (omega arith) (omega arith) (omega arith)))
+order_in-requires : tie.Need-order_in-requires
+order_in-requires c κs =
+    let h = header_in c.args.numbers.now in
+    (c.requires.0, (c.requires.1, rows_ready h.modules h.entries 1024 1024 c.requires.0.few_modules c.requires.0.few_entries (omega arith) (omega arith) 128 1024 1024 1048576 131072 1024 2048 1024 (omega arith) (omega arith) (omega arith) (omega arith) (omega arith) (omega arith) (omega arith) (omega arith)))
 
-same_length : tie.Need-same-length
-same_length c = c.before.before.before.before.before.before.before.before.before.before.order-in.auto.1.1.1.1.1.1.1.1.1.1.1.1.0
+shape_of-plan : tie.Need-shape_of-plan
+shape_of-plan c = c.order_in.auto.1.1.1.1.1.1.1.1.1.1.1.1.0
 
 returns : tie.Need-returns
-returns c = c.before.before.before.before.before.before.before.before.before.before.order-in.ensures
+returns c = c.order_in.ensures
 
-pub order-full-spec : {M : Type 1} → statement M
-order-full-spec =
+pub order_full_spec : {M : Type 1} → statement M
+order_full_spec =
     tie.close
     (tie.spec
-    slice-aggregate-order-in
-    slice-aggregate-order-in-2
-    slice-aggregate-order-in-3
-    slice-aggregate-order-in-4
-    slice-aggregate-order-in-5
-    slice-aggregate-order-in-6
-    slice-aggregate-order-in-7
-    slice-aggregate-order-in-8
-    order-in-requires
-    same_length
+    slice_bounds-order_in-end
+    slice_bounds-order_in-end-2
+    slice_bounds-order_in-end-3
+    slice_bounds-order_in-end-4
+    slice_bounds-order_in-end-5
+    slice_bounds-order_in-end-6
+    slice_bounds-order_in-end-7
+    slice_bounds-order_in-end-8
+    order_in-requires
+    shape_of-plan
     returns)

@@ -6,27 +6,27 @@ use Rattle.entry_sizes.proofs.Splitting.{split_ready, split_done}
 use Rattle.entry_sizes.proofs.split_large.Statement.{statement}
 use Rattle.entry_sizes.proofs.split_large.Tie as tie
 
-slice-aggregate-split-entries : tie.Need-slice-aggregate-split-entries
-slice-aggregate-split-entries c = sym (length-replicate {A = ℕ} 2048 0)
+slice_bounds-split_entries-end : tie.Need-slice_bounds-split_entries-end
+slice_bounds-split_entries-end c = sym (length-replicate {A = ℕ} 2048 0)
 
-slice-aggregate-split-entries-2 : tie.Need-slice-aggregate-split-entries-2
-slice-aggregate-split-entries-2 c = sym (length-replicate {A = ℕ} 1024 0)
+slice_bounds-split_entries-end-2 : tie.Need-slice_bounds-split_entries-end-2
+slice_bounds-split_entries-end-2 c = sym (length-replicate {A = ℕ} 1024 0)
 
-split-entries-requires : tie.Need-split-entries-requires
-split-entries-requires c κs = let s = c.before.before.before.before.before.before in (s.requires.0, split_ready _ _ s.requires.1 1024 2048 1024 s.requires.0.few_modules s.requires.0.few_entries (omega arith) (omega arith))
+split_entries-requires : tie.Need-split_entries-requires
+split_entries-requires c κs = (c.requires.0, split_ready _ _ c.requires.1 1024 2048 1024 c.requires.0.few_modules c.requires.0.few_entries (omega arith) (omega arith))
 
-same_length : tie.Need-same-length
-same_length c = c.before.before.before.before.split-entries.auto.1.1.1.1.0
+shape_of-plan : tie.Need-shape_of-plan
+shape_of-plan c = c.split_entries.auto.1.1.1.1.0
 
 returns : tie.Need-returns
-returns c = let s = c.before.before.before.before.before.before.before.before.before.before.before in split_done _ _ s.requires.1 _ _ c.before.before.before.before.split-entries.ensures
+returns c = split_done _ _ c.requires.1 _ _ c.split_entries.ensures
 
-pub split-large-spec : {M : Type 1} → statement M
-split-large-spec =
+pub split_large_spec : {M : Type 1} → statement M
+split_large_spec =
     tie.close
     (tie.spec
-    slice-aggregate-split-entries
-    slice-aggregate-split-entries-2
-    split-entries-requires
-    same_length
+    slice_bounds-split_entries-end
+    slice_bounds-split_entries-end-2
+    split_entries-requires
+    shape_of-plan
     returns)

@@ -13,88 +13,88 @@ use native.Mathlib.Omega.{arith}
 use Rattle.entry_starts.proofs.include_declaring_statements.Statement.{statement}
 use Rattle.entry_starts.proofs.include_declaring_statements.Tie as tie
 
-abbrev invariant-loop : tie.invariant-loop
-invariant-loop numbers tables partners₀ marks₀ lines₀ count s owner declaring total₀ i₀ partners marks lines total i = (length partners ≡ length partners₀) × (length marks ≡ length marks₀) × (length lines ≡ length lines₀) × (i ≤ declaring) × Along (graph_in numbers) 0 (drained_all (graph_in numbers) (last_verdicts (graph_in numbers)) 0 (declared (graph_in numbers) s.0) (lines_of total₀ lines₀)) (declared_from (graph_in numbers) s.0 i) partners marks lines total
+abbrev invariant-loop-i : tie.invariant-loop-i
+invariant-loop-i numbers tables partners₀ marks₀ lines₀ count s owner declaring total₀ i₀ partners marks lines total i = (length partners ≡ length partners₀) × (length marks ≡ length marks₀) × (length lines ≡ length lines₀) × (i ≤ declaring) × Along (graph_in numbers) 0 (drained_all (graph_in numbers) (last_verdicts (graph_in numbers)) 0 (declared (graph_in numbers) s.0) (lines_of total₀ lines₀)) (declared_from (graph_in numbers) s.0 i) partners marks lines total
 
-abbrev decreases-loop : tie.decreases-loop
-decreases-loop numbers tables partners₀ marks₀ lines₀ count s owner declaring total₀ i₀ partners marks lines total i = declaring - i
+abbrev decreases-loop-i : tie.decreases-loop-i
+decreases-loop-i numbers tables partners₀ marks₀ lines₀ count s owner declaring total₀ i₀ partners marks lines total i = declaring - i
 
-owner-requires : tie.Need-owner-requires invariant-loop decreases-loop
-owner-requires c κs = let s = c.before.before.before.before.before in (s.requires.0.loaded, s.requires.1.1)
+owner-owner-requires : tie.Need-owner-owner-requires invariant-loop-i decreases-loop-i
+owner-owner-requires c κs = (c.requires.0.loaded, c.requires.1.1)
 
-declaring-count-requires : tie.Need-declaring-count-requires invariant-loop decreases-loop
-declaring-count-requires c κs = let s = c.before.before.before.before.before.before in (s.requires.0.loaded, s.requires.1.1)
+declaring_count-declaring-requires : tie.Need-declaring_count-declaring-requires invariant-loop-i decreases-loop-i
+declaring_count-declaring-requires c κs = (c.requires.0.loaded, c.requires.1.1)
 
-loop-holds : tie.Need-loop-init invariant-loop decreases-loop
-loop-holds c = let s = c.before.before.before.before.before.before.before in (refl, refl, refl, omega arith, declaring_start _ _ _ c.declaring-count.ensures.0 _ _ _ _ _ s.requires.1.0)
+loop-i-init : tie.Need-loop-i-init invariant-loop-i decreases-loop-i
+loop-i-init c = (refl, refl, refl, omega arith, declaring_start _ _ _ c.declaring_count-declaring.ensures.0 _ _ _ _ _ c.requires.1.0)
 
-declaring-requires : tie.Need-declaring-requires invariant-loop decreases-loop
-declaring-requires c κs = let s = c.before.before.before.before.before.before.before.before.before in (s.requires.0.loaded, (s.requires.1.1, omega (arith, c.loop-test.true, c.before.before.declaring-count.ensures.0)))
+declaring-requires : tie.Need-declaring-requires invariant-loop-i decreases-loop-i
+declaring-requires c κs = (c.requires.0.loaded, (c.requires.1.1, omega (arith, c.loop-i-test.true, c.declaring_count-declaring.ensures.0)))
 
-start-one-requires : tie.Need-start-one-requires invariant-loop decreases-loop
+start_one-requires : tie.Need-start_one-requires invariant-loop-i decreases-loop-i
 unfolding graph_in
-start-one-requires c κs = let s = c.before.before.before.before.before.before.before.before.before.before.before.before.before in (s.requires.0, (c.before.before.before.before.before.loop.invariant.4.working, declared_good _ _ _ c.before.before.before.before.before.before.declaring-count.ensures.0 _ c.before.before.before.before.loop-test.true _ _ c.before.before.before.before.before.before.before.owner.ensures.0 c.before.before.before.declaring.ensures.0 c.before.before.before.before.before.before.before.owner.ensures.1 c.before.before.before.declaring.ensures.1))
+start_one-requires c κs = (c.requires.0, (c.loop-i.invariant.4.working, declared_good _ _ _ c.declaring_count-declaring.ensures.0 _ c.loop-i-test.true _ _ c.owner-owner.ensures.0 c.declaring.ensures.0 c.owner-owner.ensures.1 c.declaring.ensures.1))
 
-enum_told : tie.Need-enum-told invariant-loop decreases-loop
-enum_told c = search rules
+enum_told-1 : tie.Need-enum_told-1 invariant-loop-i decreases-loop-i
+enum_told-1 c = search rules
 
-same_length : tie.Need-same-length invariant-loop decreases-loop
-same_length c = search rules
+shape_of-partners-in-Full : tie.Need-shape_of-partners-in-Full invariant-loop-i decreases-loop-i
+shape_of-partners-in-Full c = search rules
 
-same-length-2 : tie.Need-same-length-2 invariant-loop decreases-loop
-same-length-2 c = search rules
+shape_of-marks-in-Full : tie.Need-shape_of-marks-in-Full invariant-loop-i decreases-loop-i
+shape_of-marks-in-Full c = search rules
 
-same-length-3 : tie.Need-same-length-3 invariant-loop decreases-loop
-same-length-3 c = search rules
+shape_of-lines-in-Full : tie.Need-shape_of-lines-in-Full invariant-loop-i decreases-loop-i
+shape_of-lines-in-Full c = search rules
 
-returns : tie.Need-returns invariant-loop decreases-loop
-returns c = declaring-full _ _ _ c.before.before.before.before.before.before.before.before.before.before.before.before.before.before.before.declaring-count.ensures.0 _ _ _ _ _ _ _ _ c.before.before.before.before.before.before.before.before.before.before.before.before.before.before.loop.invariant.4 c.before.before.before.before.before.before.before.before.before.before.before.before.before.loop-test.true _ _ c.before.before.before.before.before.before.before.before.before.before.before.before.before.before.before.before.owner.ensures.0 c.before.before.before.before.before.before.before.before.before.before.before.before.declaring.ensures.0 _ _ _ (rw c.enum_told.given.1 at c.before.before.before.before.before.before.before.before.start-one.ensures)
+returns-in-Full : tie.Need-returns-in-Full invariant-loop-i decreases-loop-i
+returns-in-Full c = declaring-full _ _ _ c.declaring_count-declaring.ensures.0 _ _ _ _ _ _ _ _ c.loop-i.invariant.4 c.loop-i-test.true _ _ c.owner-owner.ensures.0 c.declaring.ensures.0 _ _ _ (rw c.in-Full.is at c.start_one.ensures)
 
-enum-known-n : tie.Need-enum-known-n invariant-loop decreases-loop
-enum-known-n c = search rules
+enum_known-n : tie.Need-enum_known-n invariant-loop-i decreases-loop-i
+enum_known-n c = search rules
 
-add-i : tie.Need-overflow-add-i invariant-loop decreases-loop
-add-i c = record { fits = omega (arith, c.before.before.before.before.before.before.before.before.before.before.before.before.before.before.loop-test.true, c.before.before.before.before.before.before.before.before.before.before.before.before.before.before.before.before.declaring-count.ensures.1) }
+overflow_add-i : tie.Need-overflow_add-i invariant-loop-i decreases-loop-i
+overflow_add-i c = record { fits = omega (arith, c.loop-i-test.true, c.declaring_count-declaring.ensures.1) }
 
-loop-less : tie.Need-loop-smaller invariant-loop decreases-loop
-loop-less c = omega (arith, c.before.before.before.before.before.before.before.before.before.before.before.before.before.before.loop-test.true)
+loop-i-smaller : tie.Need-loop-i-smaller invariant-loop-i decreases-loop-i
+loop-i-smaller c = omega (arith, c.loop-i-test.true)
 
-loop-again : tie.Need-loop-preserved invariant-loop decreases-loop
-loop-again c = let w = c.before.before.before.before.before.before.before.before.before.before.before.before.before.before.before.loop.invariant in let k = c.before.before.before.before.before.before.before.before.before.start-one.auto in (k.1.1.0 ∙ w.0, k.1.1.1.0 ∙ w.1, k.1.1.1.1.0 ∙ w.2, omega (arith, c.before.before.before.before.before.before.before.before.before.before.before.before.before.before.loop-test.true), declaring-step _ _ _ c.before.before.before.before.before.before.before.before.before.before.before.before.before.before.before.before.declaring-count.ensures.0 _ _ _ _ _ _ _ _ w.4 c.before.before.before.before.before.before.before.before.before.before.before.before.before.before.loop-test.true _ _ c.before.before.before.before.before.before.before.before.before.before.before.before.before.before.before.before.before.owner.ensures.0 c.before.before.before.before.before.before.before.before.before.before.before.before.before.declaring.ensures.0 _ _ _ _ (rw c.before.n.given.1 at c.before.before.before.before.before.before.before.before.before.start-one.ensures))
+loop-i-preserved : tie.Need-loop-i-preserved invariant-loop-i decreases-loop-i
+loop-i-preserved c = let w = c.loop-i.invariant in let k = c.start_one.auto in (k.1.1.0 ∙ w.0, k.1.1.1.0 ∙ w.1, k.1.1.1.1.0 ∙ w.2, omega (arith, c.loop-i-test.true), declaring-step _ _ _ c.declaring_count-declaring.ensures.0 _ _ _ _ _ _ _ _ w.4 c.loop-i-test.true _ _ c.owner-owner.ensures.0 c.declaring.ensures.0 _ _ _ _ (rw c.in-Lines.is at c.start_one.ensures))
 
-same-length-4 : tie.Need-same-length-4 invariant-loop decreases-loop
-same-length-4 c = search rules
+shape_of-partners : tie.Need-shape_of-partners invariant-loop-i decreases-loop-i
+shape_of-partners c = search rules
 
-same-length-5 : tie.Need-same-length-5 invariant-loop decreases-loop
-same-length-5 c = search rules
+shape_of-marks : tie.Need-shape_of-marks invariant-loop-i decreases-loop-i
+shape_of-marks c = search rules
 
-same-length-6 : tie.Need-same-length-6 invariant-loop decreases-loop
-same-length-6 c = search rules
+shape_of-lines : tie.Need-shape_of-lines invariant-loop-i decreases-loop-i
+shape_of-lines c = search rules
 
-returns-2 : tie.Need-returns-2 invariant-loop decreases-loop
-returns-2 c = declaring-done _ _ _ c.before.before.declaring-count.ensures.0 _ _ _ _ _ _ _ _ c.before.loop.invariant.4 c.loop-test.false
+returns : tie.Need-returns invariant-loop-i decreases-loop-i
+returns c = declaring-done _ _ _ c.declaring_count-declaring.ensures.0 _ _ _ _ _ _ _ _ c.loop-i.invariant.4 c.loop-i-test.false
 
-pub include-declaring-statements-spec : {M : Type 1} → statement M
-include-declaring-statements-spec =
+pub include_declaring_statements_spec : {M : Type 1} → statement M
+include_declaring_statements_spec =
     tie.close
     (tie.spec
-    invariant-loop
-    decreases-loop
-    owner-requires
-    declaring-count-requires
-    loop-holds
+    invariant-loop-i
+    decreases-loop-i
+    owner-owner-requires
+    declaring_count-declaring-requires
+    loop-i-init
     declaring-requires
-    start-one-requires
-    enum_told
-    same_length
-    same-length-2
-    same-length-3
-    returns
-    enum-known-n
-    add-i
-    loop-less
-    loop-again
-    same-length-4
-    same-length-5
-    same-length-6
-    returns-2)
+    start_one-requires
+    enum_told-1
+    shape_of-partners-in-Full
+    shape_of-marks-in-Full
+    shape_of-lines-in-Full
+    returns-in-Full
+    enum_known-n
+    overflow_add-i
+    loop-i-smaller
+    loop-i-preserved
+    shape_of-partners
+    shape_of-marks
+    shape_of-lines
+    returns)

@@ -14,96 +14,96 @@ use native.Mathlib.Omega.{arith}
 use Rattle.entry_starts.proofs.include_entry.Statement.{statement}
 use Rattle.entry_starts.proofs.include_entry.Tie as tie
 
-abbrev invariant-loop : tie.invariant-loop
-invariant-loop numbers tables partners₀ marks₀ lines₀ count m references total₀ k₀ partners marks lines total k = (length partners ≡ length partners₀) × (length marks ≡ length marks₀) × (length lines ≡ length lines₀) × (k ≤ references) × Along (graph_in numbers) 0 (drained_all (graph_in numbers) (last_verdicts (graph_in numbers)) 0 (module_starts (graph_in numbers) m.0) (lines_of total₀ lines₀)) (referred_from (graph_in numbers) m.0 k) partners marks lines total
+abbrev invariant-loop-k : tie.invariant-loop-k
+invariant-loop-k numbers tables partners₀ marks₀ lines₀ count m references total₀ k₀ partners marks lines total k = (length partners ≡ length partners₀) × (length marks ≡ length marks₀) × (length lines ≡ length lines₀) × (k ≤ references) × Along (graph_in numbers) 0 (drained_all (graph_in numbers) (last_verdicts (graph_in numbers)) 0 (module_starts (graph_in numbers) m.0) (lines_of total₀ lines₀)) (referred_from (graph_in numbers) m.0 k) partners marks lines total
 
-abbrev decreases-loop : tie.decreases-loop
-decreases-loop numbers tables partners₀ marks₀ lines₀ count m references total₀ k₀ partners marks lines total k = references - k
+abbrev decreases-loop-k : tie.decreases-loop-k
+decreases-loop-k numbers tables partners₀ marks₀ lines₀ count m references total₀ k₀ partners marks lines total k = references - k
 
-is-normal-requires : tie.Need-is-normal-requires invariant-loop decreases-loop
-is-normal-requires c κs = let s = c.before.before.before.before.before in (s.requires.0.loaded, s.requires.1.1)
+is_normal-requires : tie.Need-is_normal-requires invariant-loop-k decreases-loop-k
+is_normal-requires c κs = (c.requires.0.loaded, c.requires.1.1)
 
-returns : tie.Need-returns invariant-loop decreases-loop
-returns c = let s = c.before.before.before.before.before.before.before in started_nothing _ _ _ (module_none _ _ (sym c.before.is_normal.ensures ∙ not_true _ c.if1.true)) _ _ _ _ s.requires.1.0
+returns-then-not-is_normal : tie.Need-returns-then-not-is_normal invariant-loop-k decreases-loop-k
+returns-then-not-is_normal c = started_nothing _ _ _ (module_none _ _ (sym c.is_normal.ensures ∙ not_true _ c.if-not-is_normal.true)) _ _ _ _ c.requires.1.0
 
-entry-reference-count-requires : tie.Need-entry-reference-count-requires invariant-loop decreases-loop
-entry-reference-count-requires c κs = let s = c.before.before.before.before.before.before.before in (s.requires.0.loaded, s.requires.1.1)
+entry_reference_count-references-requires : tie.Need-entry_reference_count-references-requires invariant-loop-k decreases-loop-k
+entry_reference_count-references-requires c κs = (c.requires.0.loaded, c.requires.1.1)
 
-loop-holds : tie.Need-loop-init invariant-loop decreases-loop
-loop-holds c = let s = c.before.before.before.before.before.before.before.before in (refl, refl, refl, omega arith, referring_start _ _ _ c.entry-reference-count.ensures.0 (sym c.before.before.is_normal.ensures ∙ not-false _ c.before.if1.false) _ _ _ _ _ s.requires.1.0)
+loop-k-init : tie.Need-loop-k-init invariant-loop-k decreases-loop-k
+loop-k-init c = (refl, refl, refl, omega arith, referring_start _ _ _ c.entry_reference_count-references.ensures.0 (sym c.is_normal.ensures ∙ not-false _ c.if-not-is_normal.false) _ _ _ _ _ c.requires.1.0)
 
-entry-reference-requires : tie.Need-entry-reference-requires invariant-loop decreases-loop
-entry-reference-requires c κs = let s = c.before.before.before.before.before.before.before.before.before.before in (s.requires.0.loaded, (s.requires.1.1, omega (arith, c.loop-test.true, c.before.before.entry-reference-count.ensures.0)))
+entry_reference-s-requires : tie.Need-entry_reference-s-requires invariant-loop-k decreases-loop-k
+entry_reference-s-requires c κs = (c.requires.0.loaded, (c.requires.1.1, omega (arith, c.loop-k-test.true, c.entry_reference_count-references.ensures.0)))
 
-include-reference-requires : tie.Need-include-reference-requires invariant-loop decreases-loop
-include-reference-requires c κs = let s = c.before.before.before.before.before.before.before.before.before.before.before.before.before.before in (s.requires.0, (c.before.before.before.before.before.loop.invariant.4.working, c.before.before.before.entry-reference.ensures.1))
+include_reference-requires : tie.Need-include_reference-requires invariant-loop-k decreases-loop-k
+include_reference-requires c κs = (c.requires.0, (c.loop-k.invariant.4.working, c.entry_reference-s.ensures.1))
 
-enum_told : tie.Need-enum-told invariant-loop decreases-loop
-enum_told c = search rules
+enum_told-1 : tie.Need-enum_told-1 invariant-loop-k decreases-loop-k
+enum_told-1 c = search rules
 
-same_length : tie.Need-same-length invariant-loop decreases-loop
-same_length c = search rules
+shape_of-partners-in-Full : tie.Need-shape_of-partners-in-Full invariant-loop-k decreases-loop-k
+shape_of-partners-in-Full c = search rules
 
-same-length-2 : tie.Need-same-length-2 invariant-loop decreases-loop
-same-length-2 c = search rules
+shape_of-marks-in-Full : tie.Need-shape_of-marks-in-Full invariant-loop-k decreases-loop-k
+shape_of-marks-in-Full c = search rules
 
-same-length-3 : tie.Need-same-length-3 invariant-loop decreases-loop
-same-length-3 c = search rules
+shape_of-lines-in-Full : tie.Need-shape_of-lines-in-Full invariant-loop-k decreases-loop-k
+shape_of-lines-in-Full c = search rules
 
-returns-2 : tie.Need-returns-2 invariant-loop decreases-loop
-returns-2 c = referring-full _ _ _ c.before.before.before.before.before.before.before.before.before.before.before.before.before.before.before.entry-reference-count.ensures.0 _ _ _ _ _ _ _ _ c.before.before.before.before.before.before.before.before.before.before.before.before.before.before.loop.invariant.4 c.before.before.before.before.before.before.before.before.before.before.before.before.before.loop-test.true _ c.before.before.before.before.before.before.before.before.before.before.before.before.entry-reference.ensures.0 _ _ _ (rw c.enum_told.given.1 at c.before.before.before.before.before.before.before.before.include-reference.ensures)
+returns-in-Full : tie.Need-returns-in-Full invariant-loop-k decreases-loop-k
+returns-in-Full c = referring-full _ _ _ c.entry_reference_count-references.ensures.0 _ _ _ _ _ _ _ _ c.loop-k.invariant.4 c.loop-k-test.true _ c.entry_reference-s.ensures.0 _ _ _ (rw c.in-Full.is at c.include_reference.ensures)
 
-enum-known-n : tie.Need-enum-known-n invariant-loop decreases-loop
-enum-known-n c = search rules
+enum_known-n : tie.Need-enum_known-n invariant-loop-k decreases-loop-k
+enum_known-n c = search rules
 
-add-k : tie.Need-overflow-add-k invariant-loop decreases-loop
-add-k c = record { fits = omega (arith, c.before.before.before.before.before.before.before.before.before.before.before.before.before.before.loop-test.true, c.before.before.before.before.before.before.before.before.before.before.before.before.before.before.before.before.entry-reference-count.ensures.1) }
+overflow_add-k : tie.Need-overflow_add-k invariant-loop-k decreases-loop-k
+overflow_add-k c = record { fits = omega (arith, c.loop-k-test.true, c.entry_reference_count-references.ensures.1) }
 
-loop-less : tie.Need-loop-smaller invariant-loop decreases-loop
-loop-less c = omega (arith, c.before.before.before.before.before.before.before.before.before.before.before.before.before.before.loop-test.true)
+loop-k-smaller : tie.Need-loop-k-smaller invariant-loop-k decreases-loop-k
+loop-k-smaller c = omega (arith, c.loop-k-test.true)
 
-loop-again : tie.Need-loop-preserved invariant-loop decreases-loop
-loop-again c = let w = c.before.before.before.before.before.before.before.before.before.before.before.before.before.before.before.loop.invariant in let k = c.before.before.before.before.before.before.before.before.before.include-reference.auto in (k.1.1.0 ∙ w.0, k.1.1.1.0 ∙ w.1, k.1.1.1.1.0 ∙ w.2, omega (arith, c.before.before.before.before.before.before.before.before.before.before.before.before.before.before.loop-test.true), referring-step _ _ _ c.before.before.before.before.before.before.before.before.before.before.before.before.before.before.before.before.entry-reference-count.ensures.0 _ _ _ _ _ _ _ _ w.4 c.before.before.before.before.before.before.before.before.before.before.before.before.before.before.loop-test.true _ c.before.before.before.before.before.before.before.before.before.before.before.before.before.entry-reference.ensures.0 _ _ _ _ (rw c.before.n.given.1 at c.before.before.before.before.before.before.before.before.before.include-reference.ensures))
+loop-k-preserved : tie.Need-loop-k-preserved invariant-loop-k decreases-loop-k
+loop-k-preserved c = let w = c.loop-k.invariant in let k = c.include_reference.auto in (k.1.1.0 ∙ w.0, k.1.1.1.0 ∙ w.1, k.1.1.1.1.0 ∙ w.2, omega (arith, c.loop-k-test.true), referring-step _ _ _ c.entry_reference_count-references.ensures.0 _ _ _ _ _ _ _ _ w.4 c.loop-k-test.true _ c.entry_reference-s.ensures.0 _ _ _ _ (rw c.in-Lines.is at c.include_reference.ensures))
 
-start-one-requires : tie.Need-start-one-requires invariant-loop decreases-loop
+start_one-requires : tie.Need-start_one-requires invariant-loop-k decreases-loop-k
 unfolding graph_in
-start-one-requires c κs = let s = c.before.before.before.before.before.before.before.before.before.before.before.before.before in (s.requires.0, (c.before.before.before.before.loop.invariant.4.working, (s.requires.1.1, (sym c.before.before.before.before.before.before.before.is_normal.ensures ∙ not-false _ c.before.before.before.before.before.before.if1.false))))
+start_one-requires c κs = (c.requires.0, (c.loop-k.invariant.4.working, (c.requires.1.1, (sym c.is_normal.ensures ∙ not-false _ c.if-not-is_normal.false))))
 
-same-length-4 : tie.Need-same-length-4 invariant-loop decreases-loop
-same-length-4 c = search rules
+shape_of-partners : tie.Need-shape_of-partners invariant-loop-k decreases-loop-k
+shape_of-partners c = search rules
 
-same-length-5 : tie.Need-same-length-5 invariant-loop decreases-loop
-same-length-5 c = search rules
+shape_of-marks : tie.Need-shape_of-marks invariant-loop-k decreases-loop-k
+shape_of-marks c = search rules
 
-same-length-6 : tie.Need-same-length-6 invariant-loop decreases-loop
-same-length-6 c = search rules
+shape_of-lines : tie.Need-shape_of-lines invariant-loop-k decreases-loop-k
+shape_of-lines c = search rules
 
-returns-3 : tie.Need-returns-3 invariant-loop decreases-loop
-returns-3 c = referring-last _ _ _ c.before.before.before.before.before.before.before.before.before.before.before.before.entry-reference-count.ensures.0 _ _ _ _ _ _ _ _ c.before.before.before.before.before.before.before.before.before.before.before.loop.invariant.4 c.before.before.before.before.before.before.before.before.before.before.loop-test.false _ _ _ _ c.before.before.before.before.before.before.start-one.ensures
+returns : tie.Need-returns invariant-loop-k decreases-loop-k
+returns c = referring-last _ _ _ c.entry_reference_count-references.ensures.0 _ _ _ _ _ _ _ _ c.loop-k.invariant.4 c.loop-k-test.false _ _ _ _ c.start_one.ensures
 
-pub include-entry-spec : {M : Type 1} → statement M
-include-entry-spec =
+pub include_entry_spec : {M : Type 1} → statement M
+include_entry_spec =
     tie.close
     (tie.spec
-    invariant-loop
-    decreases-loop
-    is-normal-requires
-    returns
-    entry-reference-count-requires
-    loop-holds
-    entry-reference-requires
-    include-reference-requires
-    enum_told
-    same_length
-    same-length-2
-    same-length-3
-    returns-2
-    enum-known-n
-    add-k
-    loop-less
-    loop-again
-    start-one-requires
-    same-length-4
-    same-length-5
-    same-length-6
-    returns-3)
+    invariant-loop-k
+    decreases-loop-k
+    is_normal-requires
+    returns-then-not-is_normal
+    entry_reference_count-references-requires
+    loop-k-init
+    entry_reference-s-requires
+    include_reference-requires
+    enum_told-1
+    shape_of-partners-in-Full
+    shape_of-marks-in-Full
+    shape_of-lines-in-Full
+    returns-in-Full
+    enum_known-n
+    overflow_add-k
+    loop-k-smaller
+    loop-k-preserved
+    start_one-requires
+    shape_of-partners
+    shape_of-marks
+    shape_of-lines
+    returns)

@@ -7,64 +7,64 @@ use borrow.Author.Rules.{rules}
 use Rattle.entry_starts.proofs.include_user_entry.Statement.{statement}
 use Rattle.entry_starts.proofs.include_user_entry.Tie as tie
 
-is-normal-requires : tie.Need-is-normal-requires
-is-normal-requires c κs = let s = c.before.before.before.before.before in (s.requires.0.loaded, s.requires.1.1)
+is_normal-requires : tie.Need-is_normal-requires
+is_normal-requires c κs = (c.requires.0.loaded, c.requires.1.1)
 
-returns : tie.Need-returns
-returns c = let s = c.before.before.before.before.before.before.before in started_nothing _ _ _ (user_none _ _ (sym c.before.is_normal.ensures ∙ not_true _ c.if1.true)) _ _ _ _ s.requires.1.0
+returns-then-not-is_normal : tie.Need-returns-then-not-is_normal
+returns-then-not-is_normal c = started_nothing _ _ _ (user_none _ _ (sym c.is_normal.ensures ∙ not_true _ c.if-not-is_normal.true)) _ _ _ _ c.requires.1.0
 
-start-one-requires : tie.Need-start-one-requires
+start_one-requires : tie.Need-start_one-requires
 unfolding graph_in
-start-one-requires c κs = let s = c.before.before.before.before.before.before.before.before.before.before in let inside = s.requires.1.1 in let normal = sym c.before.before.before.before.is_normal.ensures ∙ not-false _ c.before.before.before.if1.false in (s.requires.0, (s.requires.1.0, search rules))
+start_one-requires c κs = let inside = c.requires.1.1 in let normal = sym c.is_normal.ensures ∙ not-false _ c.if-not-is_normal.false in (c.requires.0, (c.requires.1.0, search rules))
 
-enum_told : tie.Need-enum-told
-enum_told c = search rules
+enum_told-1 : tie.Need-enum_told-1
+enum_told-1 c = search rules
 
-enum-known-n : tie.Need-enum-known-n
-enum-known-n c = search rules
+enum_known-n : tie.Need-enum_known-n
+enum_known-n c = search rules
 
-include-entry-requires : tie.Need-include-entry-requires
-include-entry-requires c κs = let s = c.before.before.before.before.before.before.before.before.before.before.before.before.before.before.before.before.before.before.before.before.before.before.before in (s.requires.0, (working_after _ _ _ _ _ _ _ _ (rw c.before.before.before.before.n.given.1 at c.before.before.before.before.before.before.before.before.before.before.before.before.start-one.ensures), s.requires.1.1))
+include_entry-requires : tie.Need-include_entry-requires
+include_entry-requires c κs = (c.requires.0, (working_after _ _ _ _ _ _ _ _ (rw c.in-Lines.is at c.start_one.ensures), c.requires.1.1))
 
-same_length : tie.Need-same-length
-same_length c = search rules
+shape_of-partners-in-Full : tie.Need-shape_of-partners-in-Full
+shape_of-partners-in-Full c = search rules
 
-same-length-2 : tie.Need-same-length-2
-same-length-2 c = search rules
+shape_of-marks-in-Full : tie.Need-shape_of-marks-in-Full
+shape_of-marks-in-Full c = search rules
 
-same-length-3 : tie.Need-same-length-3
-same-length-3 c = search rules
+shape_of-lines-in-Full : tie.Need-shape_of-lines-in-Full
+shape_of-lines-in-Full c = search rules
 
-returns-2 : tie.Need-returns-2
-returns-2 c = user_full _ _ (sym c.before.before.before.before.before.before.before.before.before.before.before.before.before.is_normal.ensures ∙ not-false _ c.before.before.before.before.before.before.before.before.before.before.before.before.if1.false) _ _ _ _ _ (rw c.enum_told.given.1 at c.before.before.before.before.before.before.before.before.start-one.ensures)
+returns-in-Full : tie.Need-returns-in-Full
+returns-in-Full c = user_full _ _ (sym c.is_normal.ensures ∙ not-false _ c.if-not-is_normal.false) _ _ _ _ _ (rw c.in-Full.is at c.start_one.ensures)
 
-same-length-4 : tie.Need-same-length-4
-same-length-4 c = search rules
+shape_of-partners-in-Lines : tie.Need-shape_of-partners-in-Lines
+shape_of-partners-in-Lines c = search rules
 
-same-length-5 : tie.Need-same-length-5
-same-length-5 c = search rules
+shape_of-marks-in-Lines : tie.Need-shape_of-marks-in-Lines
+shape_of-marks-in-Lines c = search rules
 
-same-length-6 : tie.Need-same-length-6
-same-length-6 c = search rules
+shape_of-lines-in-Lines : tie.Need-shape_of-lines-in-Lines
+shape_of-lines-in-Lines c = search rules
 
-returns-3 : tie.Need-returns-3
-returns-3 c = user_then _ _ (sym c.before.before.before.before.before.before.before.before.before.before.before.before.before.before.before.before.before.before.before.before.before.before.before.before.is_normal.ensures ∙ not-false _ c.before.before.before.before.before.before.before.before.before.before.before.before.before.before.before.before.before.before.before.before.before.before.before.if1.false) _ _ _ _ _ _ _ _ _ _ (rw c.before.before.before.before.before.before.before.before.before.before.before.n.given.1 at c.before.before.before.before.before.before.before.before.before.before.before.before.before.before.before.before.before.before.before.start-one.ensures) c.before.before.before.before.before.before.include-entry.ensures
+returns-in-Lines : tie.Need-returns-in-Lines
+returns-in-Lines c = user_then _ _ (sym c.is_normal.ensures ∙ not-false _ c.if-not-is_normal.false) _ _ _ _ _ _ _ _ _ _ (rw c.in-Lines.is at c.start_one.ensures) c.include_entry.ensures
 
-pub include-user-entry-spec : {M : Type 1} → statement M
-include-user-entry-spec =
+pub include_user_entry_spec : {M : Type 1} → statement M
+include_user_entry_spec =
     tie.close
     (tie.spec
-    is-normal-requires
-    returns
-    start-one-requires
-    enum_told
-    enum-known-n
-    include-entry-requires
-    same_length
-    same-length-2
-    same-length-3
-    returns-2
-    same-length-4
-    same-length-5
-    same-length-6
-    returns-3)
+    is_normal-requires
+    returns-then-not-is_normal
+    start_one-requires
+    enum_told-1
+    enum_known-n
+    include_entry-requires
+    shape_of-partners-in-Full
+    shape_of-marks-in-Full
+    shape_of-lines-in-Full
+    returns-in-Full
+    shape_of-partners-in-Lines
+    shape_of-marks-in-Lines
+    shape_of-lines-in-Lines
+    returns-in-Lines)

@@ -4,20 +4,26 @@ use Rattle.entry_starts.proofs.start_one.Statement.{statement}
 use Rattle.entry_starts.proofs.start_one.Tie as tie
 
 start-requires : tie.Need-start-requires
-start-requires c κs = let s = c.before.before.before.before.before.before.before.before in (s.requires.0, (s.requires.1.0.held, (s.requires.1.0.linked, s.requires.1.1)))
+start-requires c κs = (c.requires.0, (c.requires.1.0.held, (c.requires.1.0.linked, c.requires.1.1)))
 
-same_length : tie.Need-same-length
-same_length c = search rules
+shape_of-partners : tie.Need-shape_of-partners
+shape_of-partners c = search rules
 
-same-length-2 : tie.Need-same-length-2
-same-length-2 c = search rules
+shape_of-marks : tie.Need-shape_of-marks
+shape_of-marks c = search rules
 
-same-length-3 : tie.Need-same-length-3
-same-length-3 c = search rules
+shape_of-lines : tie.Need-shape_of-lines
+shape_of-lines c = search rules
 
 returns : tie.Need-returns
-returns c = started_one _ _ _ _ _ _ _ _ c.before.before.before.before.before.before.start.ensures
+returns c = started_one _ _ _ _ _ _ _ _ c.start.ensures
 
-pub start-one-spec : {M : Type 1} → statement M
-start-one-spec =
-    tie.close (tie.spec start-requires same_length same-length-2 same-length-3 returns)
+pub start_one_spec : {M : Type 1} → statement M
+start_one_spec =
+    tie.close
+    (tie.spec
+    start-requires
+    shape_of-partners
+    shape_of-marks
+    shape_of-lines
+    returns)

@@ -2,23 +2,31 @@ use Rattle.facts.proofs.ByKind.{fact_1, fact_2, fact_3, fact_4, fact_5, fact_6}
 use Rattle.facts.proofs.fact_of.Statement.{statement}
 use Rattle.facts.proofs.fact_of.Tie as tie
 
+returns-then-kind-eq1 : tie.Need-returns-then-kind-eq1
+returns-then-kind-eq1 c = fact_1 _ _ c.args.b c.if-kind-eq1.true
+
+returns-then-kind-eq2 : tie.Need-returns-then-kind-eq2
+returns-then-kind-eq2 c = fact_2 _ _ _ c.if-kind-eq2.true
+
+returns-then-kind-eq3 : tie.Need-returns-then-kind-eq3
+returns-then-kind-eq3 c = fact_3 _ _ _ c.if-kind-eq3.true
+
+returns-then-kind-eq4 : tie.Need-returns-then-kind-eq4
+returns-then-kind-eq4 c = fact_4 _ _ _ c.if-kind-eq4.true
+
+returns-then-kind-eq5 : tie.Need-returns-then-kind-eq5
+returns-then-kind-eq5 c = fact_5 _ _ c.args.b c.if-kind-eq5.true
+
 returns : tie.Need-returns
-returns c = fact_1 _ _ c.before.args.b c.if1.true
+returns c = fact_6 _ _ c.args.b c.if-kind-eq1.false c.if-kind-eq2.false c.if-kind-eq3.false c.if-kind-eq4.false c.if-kind-eq5.false
 
-returns-2 : tie.Need-returns-2
-returns-2 c = fact_2 _ _ _ c.if2.true
-
-returns-3 : tie.Need-returns-3
-returns-3 c = fact_3 _ _ _ c.if3.true
-
-returns-4 : tie.Need-returns-4
-returns-4 c = fact_4 _ _ _ c.if4.true
-
-returns-5 : tie.Need-returns-5
-returns-5 c = fact_5 _ _ c.before.before.before.before.before.args.b c.if5.true
-
-returns-6 : tie.Need-returns-6
-returns-6 c = fact_6 _ _ c.before.before.before.before.before.args.b c.before.before.before.before.if1.false c.before.before.before.if2.false c.before.before.if3.false c.before.if4.false c.if5.false
-
-pub fact-of-spec : {M : Type 1} → statement M
-fact-of-spec = tie.close (tie.spec returns returns-2 returns-3 returns-4 returns-5 returns-6)
+pub fact_of_spec : {M : Type 1} → statement M
+fact_of_spec =
+    tie.close
+    (tie.spec
+    returns-then-kind-eq1
+    returns-then-kind-eq2
+    returns-then-kind-eq3
+    returns-then-kind-eq4
+    returns-then-kind-eq5
+    returns)

@@ -4,12 +4,16 @@ use borrow.Author.Rules.{rules}
 use Rattle.facts.proofs.flag.Statement.{statement}
 use Rattle.facts.proofs.flag.Tie as tie
 
-shr-result : tie.Need-overflow-shr-result
-shr-result c = search rules
+overflow_shr-result : tie.Need-overflow_shr-result
+overflow_shr-result c = search rules
 
 returns : tie.Need-returns
 unfolding flag_of
 returns c = refl
 
-pub flag-spec : {M : Type 1} → statement M
-flag-spec = tie.close (tie.spec shr-result returns)
+pub flag_spec : {M : Type 1} → statement M
+flag_spec =
+    tie.close
+    (tie.spec
+    overflow_shr-result
+    returns)

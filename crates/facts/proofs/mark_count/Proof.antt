@@ -6,27 +6,34 @@ use Rattle.facts.proofs.mark_count.Statement.{statement}
 use Rattle.facts.proofs.mark_count.Tie as tie
 
 -- the graph's counts
-few : (c : tie.After-header-of) → let h = c.header_of.result in (h.modules ≤ 1024) × (h.symbols ≤ 16384) × (h.statements ≤ 16384)
-few c = small c.before.before.before.requires _ c.header_of.ensures
+few : (c : tie.After-header_of-h) → let h = c.header_of-h.result in (h.modules ≤ 1024) × (h.symbols ≤ 16384) × (h.statements ≤ 16384)
+few c = small c.requires _ c.header_of-h.ensures
 
-header-of-requires : tie.Need-header-of-requires
-header-of-requires c κs = c.before.before.requires.long
+header_of-h-requires : tie.Need-header_of-h-requires
+header_of-h-requires c κs = c.requires.long
 
-mul-result : tie.Need-overflow-mul-result
-mul-result c = let b = few c.before in record { fits = omega (arith, b.0, b.1, b.2) }
+overflow_mul-result : tie.Need-overflow_mul-result
+overflow_mul-result c = let b = few c.before in record { fits = omega (arith, b.0, b.1, b.2) }
 
-add-result : tie.Need-overflow-add-result
-add-result c = let b = few c.before.before in record { fits = omega (arith, b.0, b.1, b.2) }
+overflow_add-result : tie.Need-overflow_add-result
+overflow_add-result c = let b = few c.before.before in record { fits = omega (arith, b.0, b.1, b.2) }
 
-mul-result-2 : tie.Need-overflow-mul-result-2
-mul-result-2 c = let b = few c.before.before.before in record { fits = omega (arith, b.0, b.1, b.2) }
+overflow_mul-result-2 : tie.Need-overflow_mul-result-2
+overflow_mul-result-2 c = let b = few c.before.before.before in record { fits = omega (arith, b.0, b.1, b.2) }
 
-add-result-2 : tie.Need-overflow-add-result-2
-add-result-2 c = let b = few c.before.before.before in record { fits = omega (arith, b.0, b.1, b.2) }
+overflow_add-result-2 : tie.Need-overflow_add-result-2
+overflow_add-result-2 c = let b = few c.before.before.before in record { fits = omega (arith, b.0, b.1, b.2) }
 
 returns : tie.Need-returns
-returns c = count_is c.before.before.before.before.before.before.requires _ c.before.before.before.header_of.ensures
+returns c = count_is c.requires _ c.header_of-h.ensures
 
-pub mark-count-spec : {M : Type 1} → statement M
-mark-count-spec =
-    tie.close (tie.spec header-of-requires mul-result add-result mul-result-2 add-result-2 returns)
+pub mark_count_spec : {M : Type 1} → statement M
+mark_count_spec =
+    tie.close
+    (tie.spec
+    header_of-h-requires
+    overflow_mul-result
+    overflow_add-result
+    overflow_mul-result-2
+    overflow_add-result-2
+    returns)

@@ -13,167 +13,167 @@ use Rattle.facts.proofs.mark_of.Statement.{statement}
 use Rattle.facts.proofs.mark_of.Tie as tie
 
 -- the graph's counts
-few : (c : tie.After-header-of) → let h = c.header_of.result in (h.modules ≤ 1024) × (h.symbols ≤ 16384) × (h.statements ≤ 16384)
-few c = small c.before.before.before.requires.0 _ c.header_of.ensures
+few : (c : tie.After-header_of-h) → let h = c.header_of-h.result in (h.modules ≤ 1024) × (h.symbols ≤ 16384) × (h.statements ≤ 16384)
+few c = small c.requires.0 _ c.header_of-h.ensures
 
 -- the parts of a fact are within them
-its-bailout : (c : tie.After-header-of) {m : ℕ} → c.before.before.before.args.fact ≡ bailout_fact m → let h = c.header_of.result in m < h.modules
-its-bailout c is = let s = c.before.before.before in good_bailout s.requires.0 _ c.header_of.ensures _ s.requires.1 _ is
+its-bailout : (c : tie.After-header_of-h) {m : ℕ} → c.args.fact ≡ bailout_fact m → let h = c.header_of-h.result in m < h.modules
+its-bailout c is = good_bailout c.requires.0 _ c.header_of-h.ensures _ c.requires.1 _ is
 
-its-forward : (c : tie.After-header-of) {s : ℕ} → c.before.before.before.args.fact ≡ forward_fact s → let h = c.header_of.result in s < h.symbols
-its-forward c is = let s = c.before.before.before in good_forward s.requires.0 _ c.header_of.ensures _ s.requires.1 _ is
+its-forward : (c : tie.After-header_of-h) {s : ℕ} → c.args.fact ≡ forward_fact s → let h = c.header_of-h.result in s < h.symbols
+its-forward c is = good_forward c.requires.0 _ c.header_of-h.ensures _ c.requires.1 _ is
 
-its-use : (c : tie.After-header-of) {s x : ℕ} → c.before.before.before.args.fact ≡ use_fact s x → let h = c.header_of.result in (s < h.symbols) × (0 < x) × (x < 32)
-its-use c is = let s = c.before.before.before in good_use s.requires.0 _ c.header_of.ensures _ s.requires.1 _ _ is
+its-use : (c : tie.After-header_of-h) {s x : ℕ} → c.args.fact ≡ use_fact s x → let h = c.header_of-h.result in (s < h.symbols) × (0 < x) × (x < 32)
+its-use c is = good_use c.requires.0 _ c.header_of-h.ensures _ c.requires.1 _ _ is
 
-its-checked : (c : tie.After-header-of) {s x : ℕ} → c.before.before.before.args.fact ≡ checked_fact s x → let h = c.header_of.result in (s < h.symbols) × (0 < x) × (x < 32)
-its-checked c is = let s = c.before.before.before in good_checked s.requires.0 _ c.header_of.ensures _ s.requires.1 _ _ is
+its-checked : (c : tie.After-header_of-h) {s x : ℕ} → c.args.fact ≡ checked_fact s x → let h = c.header_of-h.result in (s < h.symbols) × (0 < x) × (x < 32)
+its-checked c is = good_checked c.requires.0 _ c.header_of-h.ensures _ c.requires.1 _ _ is
 
-its-statement : (c : tie.After-header-of) {m i : ℕ} → c.before.before.before.args.fact ≡ statement_fact m i
-    → let s = c.before.before.before in (m < (header_in s.args.numbers.now).modules) × (i < length (statement_list (graph_in s.args.numbers.now) m))
-its-statement c is = let s = c.before.before.before in good_statement s.requires.0 _ c.header_of.ensures _ s.requires.1 _ _ is
+its-statement : (c : tie.After-header_of-h) {m i : ℕ} → c.args.fact ≡ statement_fact m i
+    → (m < (header_in c.args.numbers.now).modules) × (i < length (statement_list (graph_in c.args.numbers.now) m))
+its-statement c is = good_statement c.requires.0 _ c.header_of-h.ensures _ c.requires.1 _ _ is
 
-header-of-requires : tie.Need-header-of-requires
-header-of-requires c κs = c.before.before.requires.0.long
+header_of-h-requires : tie.Need-header_of-h-requires
+header_of-h-requires c κs = c.requires.0.long
 
-enum-known-fact : tie.Need-enum-known-fact
-enum-known-fact c = search rules
+enum_known-fact : tie.Need-enum_known-fact
+enum_known-fact c = search rules
 
-enum-known-fact-2 : tie.Need-enum-known-fact-2
-enum-known-fact-2 c = search rules
+enum_known-fact-in-Bailout-1 : tie.Need-enum_known-fact-in-Bailout-1
+enum_known-fact-in-Bailout-1 c = search rules
 
-add-result : tie.Need-overflow-add-result
-add-result c = let b = few c.before.before.before.before.before in record { fits = omega (arith, b.0, b.1, b.2, its-bailout c.before.before.before.before.before c.before.before.before.fact2.given.1) }
+overflow_add-result : tie.Need-overflow_add-result
+overflow_add-result c = let b = few c.before.before.before in record { fits = omega (arith, b.0, b.1, b.2, its-bailout c.before.before.before c.in-Bailout.is) }
 
-enum-known-fact-3 : tie.Need-enum-known-fact-3
-enum-known-fact-3 c = search rules
+enum_known-fact-in-Statement-1 : tie.Need-enum_known-fact-in-Statement-1
+enum_known-fact-in-Statement-1 c = search rules
 
-mul-result : tie.Need-overflow-mul-result
-mul-result c = let b = few c.before.before.before.before in record { fits = omega (arith, b.0, b.1, b.2) }
+overflow_mul-result : tie.Need-overflow_mul-result
+overflow_mul-result c = let b = few c.before.before in record { fits = omega (arith, b.0, b.1, b.2) }
 
-number-of-requires : tie.Need-number-of-requires
-number-of-requires c κs = (c.before.before.before.before.before.before.before.requires.0, its-statement c.before.before.before.before c.before.before.fact3.given.1)
+number_of-requires : tie.Need-number_of-requires
+number_of-requires c κs = (c.requires.0, its-statement c.before.before c.in-Statement.is)
 
-add-result-2 : tie.Need-overflow-add-result-2
-add-result-2 c = let s = c.before.before.before.before.before.before.before.before in let b = few c.before.before.before.before.before in record { fits = omega (arith, b.0, b.1, b.2, good-number s.requires.0 _ c.before.before.before.before.before.header_of.ensures _ s.requires.1 _ _ _ c.before.before.before.fact3.given.1 c.number_of_lem.ensures) }
+overflow_add-result-in-Statement : tie.Need-overflow_add-result-in-Statement
+overflow_add-result-in-Statement c = let b = few c.before.before.before in record { fits = omega (arith, b.0, b.1, b.2, good-number c.requires.0 _ c.header_of-h.ensures _ c.requires.1 _ _ _ c.in-Statement.is c.number_of.ensures) }
 
-enum-known-fact-4 : tie.Need-enum-known-fact-4
-enum-known-fact-4 c = search rules
+enum_known-fact-in-Forward-1 : tie.Need-enum_known-fact-in-Forward-1
+enum_known-fact-in-Forward-1 c = search rules
 
-mul-result-2 : tie.Need-overflow-mul-result-2
-mul-result-2 c = let b = few c.before.before.before.before in record { fits = omega (arith, b.0, b.1, b.2) }
+overflow_mul-result-in-Forward : tie.Need-overflow_mul-result-in-Forward
+overflow_mul-result-in-Forward c = let b = few c.before.before in record { fits = omega (arith, b.0, b.1, b.2) }
 
-add-result-3 : tie.Need-overflow-add-result-3
-add-result-3 c = let b = few c.before.before.before.before.before in record { fits = omega (arith, b.0, b.1, b.2) }
+overflow_add-result-in-Forward : tie.Need-overflow_add-result-in-Forward
+overflow_add-result-in-Forward c = let b = few c.before.before.before in record { fits = omega (arith, b.0, b.1, b.2) }
 
-add-result-4 : tie.Need-overflow-add-result-4
-add-result-4 c = let b = few c.before.before.before.before.before.before in record { fits = omega (arith, b.0, b.1, b.2, its-forward c.before.before.before.before.before.before c.before.before.before.before.fact4.given.1) }
+overflow_add-result-in-Forward-2 : tie.Need-overflow_add-result-in-Forward-2
+overflow_add-result-in-Forward-2 c = let b = few c.before.before.before.before in record { fits = omega (arith, b.0, b.1, b.2, its-forward c.before.before.before.before c.in-Forward.is) }
 
-enum-known-fact-5 : tie.Need-enum-known-fact-5
-enum-known-fact-5 c = search rules
+enum_known-fact-in-Use-1 : tie.Need-enum_known-fact-in-Use-1
+enum_known-fact-in-Use-1 c = search rules
 
-mul-result-3 : tie.Need-overflow-mul-result-3
-mul-result-3 c = let b = few c.before.before.before.before in record { fits = omega (arith, b.0, b.1, b.2) }
+overflow_mul-result-in-Use : tie.Need-overflow_mul-result-in-Use
+overflow_mul-result-in-Use c = let b = few c.before.before in record { fits = omega (arith, b.0, b.1, b.2) }
 
-add-result-5 : tie.Need-overflow-add-result-5
-add-result-5 c = let b = few c.before.before.before.before.before in record { fits = omega (arith, b.0, b.1, b.2) }
+overflow_add-result-in-Use : tie.Need-overflow_add-result-in-Use
+overflow_add-result-in-Use c = let b = few c.before.before.before in record { fits = omega (arith, b.0, b.1, b.2) }
 
-add-result-6 : tie.Need-overflow-add-result-6
-add-result-6 c = let b = few c.before.before.before.before.before.before in record { fits = omega (arith, b.0, b.1, b.2) }
+overflow_add-result-in-Use-2 : tie.Need-overflow_add-result-in-Use-2
+overflow_add-result-in-Use-2 c = let b = few c.before.before.before.before in record { fits = omega (arith, b.0, b.1, b.2) }
 
-mul-result-4 : tie.Need-overflow-mul-result-4
-mul-result-4 c = let g = its-use c.before.before.before.before.before.before.before c.before.before.before.before.before.fact5.given.1 in let b = few c.before.before.before.before.before.before.before in record { fits = omega (arith, b.0, b.1, b.2, g.0, g.2) }
+overflow_mul-result-in-Use-2 : tie.Need-overflow_mul-result-in-Use-2
+overflow_mul-result-in-Use-2 c = let g = its-use c.before.before.before.before.before c.in-Use.is in let b = few c.before.before.before.before.before in record { fits = omega (arith, b.0, b.1, b.2, g.0, g.2) }
 
-add-result-7 : tie.Need-overflow-add-result-7
-add-result-7 c = let g = its-use c.before.before.before.before.before.before.before.before c.before.before.before.before.before.before.fact5.given.1 in let b = few c.before.before.before.before.before.before.before.before in record { fits = omega (arith, b.0, b.1, b.2, g.0, g.2) }
+overflow_add-result-in-Use-3 : tie.Need-overflow_add-result-in-Use-3
+overflow_add-result-in-Use-3 c = let g = its-use c.before.before.before.before.before.before c.in-Use.is in let b = few c.before.before.before.before.before.before in record { fits = omega (arith, b.0, b.1, b.2, g.0, g.2) }
 
-sub-result : tie.Need-overflow-sub-result
-sub-result c = omega (arith, (its-use c.before.before.before.before.before.before.before.before c.before.before.before.before.before.before.fact5.given.1).1)
+overflow_sub-result : tie.Need-overflow_sub-result
+overflow_sub-result c = omega (arith, (its-use c.before.before.before.before.before.before c.in-Use.is).1)
 
-add-result-8 : tie.Need-overflow-add-result-8
-add-result-8 c = let g = its-use c.before.before.before.before.before.before.before.before c.before.before.before.before.before.before.fact5.given.1 in let b = few c.before.before.before.before.before.before.before.before in record { fits = omega (arith, b.0, b.1, b.2, g.0, g.2) }
+overflow_add-result-in-Use-4 : tie.Need-overflow_add-result-in-Use-4
+overflow_add-result-in-Use-4 c = let g = its-use c.before.before.before.before.before.before c.in-Use.is in let b = few c.before.before.before.before.before.before in record { fits = omega (arith, b.0, b.1, b.2, g.0, g.2) }
 
-enum-known-fact-6 : tie.Need-enum-known-fact-6
-enum-known-fact-6 c = search rules
+enum_known-fact-in-CheckedUse-1 : tie.Need-enum_known-fact-in-CheckedUse-1
+enum_known-fact-in-CheckedUse-1 c = search rules
 
-mul-result-5 : tie.Need-overflow-mul-result-5
-mul-result-5 c = let b = few c.before.before.before.before in record { fits = omega (arith, b.0, b.1, b.2) }
+overflow_mul-result-in-CheckedUse : tie.Need-overflow_mul-result-in-CheckedUse
+overflow_mul-result-in-CheckedUse c = let b = few c.before.before in record { fits = omega (arith, b.0, b.1, b.2) }
 
-add-result-9 : tie.Need-overflow-add-result-9
-add-result-9 c = let b = few c.before.before.before.before.before in record { fits = omega (arith, b.0, b.1, b.2) }
+overflow_add-result-in-CheckedUse : tie.Need-overflow_add-result-in-CheckedUse
+overflow_add-result-in-CheckedUse c = let b = few c.before.before.before in record { fits = omega (arith, b.0, b.1, b.2) }
 
-mul-result-6 : tie.Need-overflow-mul-result-6
-mul-result-6 c = let b = few c.before.before.before.before.before.before in record { fits = omega (arith, b.0, b.1, b.2) }
+overflow_mul-result-in-CheckedUse-2 : tie.Need-overflow_mul-result-in-CheckedUse-2
+overflow_mul-result-in-CheckedUse-2 c = let b = few c.before.before.before.before in record { fits = omega (arith, b.0, b.1, b.2) }
 
-add-result-10 : tie.Need-overflow-add-result-10
-add-result-10 c = let b = few c.before.before.before.before.before.before in record { fits = omega (arith, b.0, b.1, b.2) }
+overflow_add-result-in-CheckedUse-2 : tie.Need-overflow_add-result-in-CheckedUse-2
+overflow_add-result-in-CheckedUse-2 c = let b = few c.before.before.before.before in record { fits = omega (arith, b.0, b.1, b.2) }
 
-mul-result-7 : tie.Need-overflow-mul-result-7
-mul-result-7 c = let g = its-checked c.before.before.before.before.before.before.before c.before.before.before.before.before.fact6.given.1 in let b = few c.before.before.before.before.before.before.before in record { fits = omega (arith, b.0, b.1, b.2, g.0, g.2) }
+overflow_mul-result-in-CheckedUse-3 : tie.Need-overflow_mul-result-in-CheckedUse-3
+overflow_mul-result-in-CheckedUse-3 c = let g = its-checked c.before.before.before.before.before c.in-CheckedUse.is in let b = few c.before.before.before.before.before in record { fits = omega (arith, b.0, b.1, b.2, g.0, g.2) }
 
-add-result-11 : tie.Need-overflow-add-result-11
-add-result-11 c = let g = its-checked c.before.before.before.before.before.before.before.before c.before.before.before.before.before.before.fact6.given.1 in let b = few c.before.before.before.before.before.before.before.before in record { fits = omega (arith, b.0, b.1, b.2, g.0, g.2) }
+overflow_add-result-in-CheckedUse-3 : tie.Need-overflow_add-result-in-CheckedUse-3
+overflow_add-result-in-CheckedUse-3 c = let g = its-checked c.before.before.before.before.before.before c.in-CheckedUse.is in let b = few c.before.before.before.before.before.before in record { fits = omega (arith, b.0, b.1, b.2, g.0, g.2) }
 
-sub-result-2 : tie.Need-overflow-sub-result-2
-sub-result-2 c = omega (arith, (its-checked c.before.before.before.before.before.before.before.before c.before.before.before.before.before.before.fact6.given.1).1)
+overflow_sub-result-in-CheckedUse : tie.Need-overflow_sub-result-in-CheckedUse
+overflow_sub-result-in-CheckedUse c = omega (arith, (its-checked c.before.before.before.before.before.before c.in-CheckedUse.is).1)
 
-add-result-12 : tie.Need-overflow-add-result-12
-add-result-12 c = let g = its-checked c.before.before.before.before.before.before.before.before c.before.before.before.before.before.before.fact6.given.1 in let b = few c.before.before.before.before.before.before.before.before in record { fits = omega (arith, b.0, b.1, b.2, g.0, g.2) }
+overflow_add-result-in-CheckedUse-4 : tie.Need-overflow_add-result-in-CheckedUse-4
+overflow_add-result-in-CheckedUse-4 c = let g = its-checked c.before.before.before.before.before.before c.in-CheckedUse.is in let b = few c.before.before.before.before.before.before in record { fits = omega (arith, b.0, b.1, b.2, g.0, g.2) }
 
-returns : tie.Need-returns
-returns c = let s = c.before.before.before.before.before.before in module_mark s.requires.0 _ c.before.before.before.header_of.ensures _ s.requires.1 _ c.before.fact.given.1
+returns-in-Module : tie.Need-returns-in-Module
+returns-in-Module c = module_mark c.requires.0 _ c.header_of-h.ensures _ c.requires.1 _ c.in-Module.is
 
-returns-2 : tie.Need-returns-2
-returns-2 c = let s = c.before.before.before.before.before.before.before.before in bailout-mark s.requires.0 _ c.before.before.before.before.before.header_of.ensures _ s.requires.1 _ c.before.before.before.fact2.given.1
+returns-in-Bailout : tie.Need-returns-in-Bailout
+returns-in-Bailout c = bailout-mark c.requires.0 _ c.header_of-h.ensures _ c.requires.1 _ c.in-Bailout.is
 
-returns-3 : tie.Need-returns-3
-returns-3 c = let s = c.before.before.before.before.before.before.before.before in statement-mark s.requires.0 _ c.before.before.before.before.before.header_of.ensures _ s.requires.1 _ _ _ c.before.before.before.fact3.given.1 c.number_of_lem.ensures
+returns-in-Statement : tie.Need-returns-in-Statement
+returns-in-Statement c = statement-mark c.requires.0 _ c.header_of-h.ensures _ c.requires.1 _ _ _ c.in-Statement.is c.number_of.ensures
 
-returns-4 : tie.Need-returns-4
-returns-4 c = let s = c.before.before.before.before.before.before.before.before.before in forward-mark s.requires.0 _ c.before.before.before.before.before.before.header_of.ensures _ s.requires.1 _ c.before.before.before.before.fact4.given.1
+returns-in-Forward : tie.Need-returns-in-Forward
+returns-in-Forward c = forward-mark c.requires.0 _ c.header_of-h.ensures _ c.requires.1 _ c.in-Forward.is
 
-returns-5 : tie.Need-returns-5
-returns-5 c = let s = c.before.before.before.before.before.before.before.before.before.before.before in use-mark s.requires.0 _ c.before.before.before.before.before.before.before.before.header_of.ensures _ s.requires.1 _ _ c.before.before.before.before.before.before.fact5.given.1
+returns-in-Use : tie.Need-returns-in-Use
+returns-in-Use c = use-mark c.requires.0 _ c.header_of-h.ensures _ c.requires.1 _ _ c.in-Use.is
 
-returns-6 : tie.Need-returns-6
-returns-6 c = let s = c.before.before.before.before.before.before.before.before.before.before.before in checked-mark s.requires.0 _ c.before.before.before.before.before.before.before.before.header_of.ensures _ s.requires.1 _ _ c.before.before.before.before.before.before.fact6.given.1
+returns-in-CheckedUse : tie.Need-returns-in-CheckedUse
+returns-in-CheckedUse c = checked-mark c.requires.0 _ c.header_of-h.ensures _ c.requires.1 _ _ c.in-CheckedUse.is
 
-pub mark-of-spec : {M : Type 1} → statement M
-mark-of-spec =
+pub mark_of_spec : {M : Type 1} → statement M
+mark_of_spec =
     tie.close
     (tie.spec
-    header-of-requires
-    enum-known-fact
-    enum-known-fact-2
-    add-result
-    enum-known-fact-3
-    mul-result
-    number-of-requires
-    add-result-2
-    enum-known-fact-4
-    mul-result-2
-    add-result-3
-    add-result-4
-    enum-known-fact-5
-    mul-result-3
-    add-result-5
-    add-result-6
-    mul-result-4
-    add-result-7
-    sub-result
-    add-result-8
-    enum-known-fact-6
-    mul-result-5
-    add-result-9
-    mul-result-6
-    add-result-10
-    mul-result-7
-    add-result-11
-    sub-result-2
-    add-result-12
-    returns
-    returns-2
-    returns-3
-    returns-4
-    returns-5
-    returns-6)
+    header_of-h-requires
+    enum_known-fact
+    enum_known-fact-in-Bailout-1
+    overflow_add-result
+    enum_known-fact-in-Statement-1
+    overflow_mul-result
+    number_of-requires
+    overflow_add-result-in-Statement
+    enum_known-fact-in-Forward-1
+    overflow_mul-result-in-Forward
+    overflow_add-result-in-Forward
+    overflow_add-result-in-Forward-2
+    enum_known-fact-in-Use-1
+    overflow_mul-result-in-Use
+    overflow_add-result-in-Use
+    overflow_add-result-in-Use-2
+    overflow_mul-result-in-Use-2
+    overflow_add-result-in-Use-3
+    overflow_sub-result
+    overflow_add-result-in-Use-4
+    enum_known-fact-in-CheckedUse-1
+    overflow_mul-result-in-CheckedUse
+    overflow_add-result-in-CheckedUse
+    overflow_mul-result-in-CheckedUse-2
+    overflow_add-result-in-CheckedUse-2
+    overflow_mul-result-in-CheckedUse-3
+    overflow_add-result-in-CheckedUse-3
+    overflow_sub-result-in-CheckedUse
+    overflow_add-result-in-CheckedUse-4
+    returns-in-Module
+    returns-in-Bailout
+    returns-in-Statement
+    returns-in-Forward
+    returns-in-Use
+    returns-in-CheckedUse)

@@ -58,8 +58,8 @@ check-largest-requires t c κs = let h = c.before.before.before.before.before.be
 returns-4 : (t : ℕ) → lts.Need-returns-4 (claims t) (here t) larger.Post
 returns-4 t c = c.check-largest.ensures
 
-pub +check-larger-spec : {M : Type 1} → statement M
-+check-larger-spec =
+pub +check_larger_spec : {M : Type 1} → statement M
++check_larger_spec =
     close μ λ t. lts.spec (claims t) (here t) larger.Post
     (sub-check-larger t)
     (check-larger-requires t)

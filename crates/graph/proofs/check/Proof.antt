@@ -7,54 +7,54 @@ use Rattle.graph.proofs.check.Statement.{statement}
 use Rattle.graph.proofs.check.Tie as tie
 
 -- the header that was read
-begun : (c : tie.After-header-of) → HeaderRead c.before.before.before.before.before.args.numbers.now c.header_of.result
-begun c = record { end = c.before.enum_told.given.0.0; read = sym c.before.before.before.header.ensures ∙ c.before.enum_told.given.1; is = c.header_of.ensures }
+begun : (c : tie.After-header_of-h) → HeaderRead c.args.numbers.now c.header_of-h.result
+begun c = record { end = c.in-At.field-0; read = sym c.header.ensures ∙ c.in-At.is; is = c.header_of-h.ensures }
 
 header-requires : tie.Need-header-requires
 header-requires c κs = search rules
 
-enum-known-n : tie.Need-enum-known-n
-enum-known-n c = search rules
+enum_known-n : tie.Need-enum_known-n
+enum_known-n c = search rules
 
-enum_told : tie.Need-enum-told
-enum_told c = search rules
+enum_told-1 : tie.Need-enum_told-1
+enum_told-1 c = search rules
 
-header-of-requires : tie.Need-header-of-requires
-header-of-requires c κs = seven _ (at_got _ _ (sym c.before.before.header.ensures ∙ c.enum_told.given.1)).1
+header_of-h-requires : tie.Need-header_of-h-requires
+header_of-h-requires c κs = seven _ (at_got _ _ (sym c.header.ensures ∙ c.in-At.is)).1
 
 fits-requires : tie.Need-fits-requires
 fits-requires c κs = _
 
-check-small-requires : tie.Need-check-small-requires
-check-small-requires c κs = (begun c.before.before, c.before.fits2.ensures c.if1.true)
+check_small-requires : tie.Need-check_small-requires
+check_small-requires c κs = (begun c.before.before, c.fits.ensures c.if-fits.true)
 
-returns : tie.Need-returns
-returns c = c.check-small.ensures
+returns-then-fits : tie.Need-returns-then-fits
+returns-then-fits c = c.check_small.ensures
 
 apart-requires : tie.Need-apart-requires
 apart-requires c κs = _
 
-check-larger-requires : tie.Need-check-larger-requires
-check-larger-requires c κs = begun c.before.before.before
+check_larger-requires : tie.Need-check_larger-requires
+check_larger-requires c κs = begun c.before.before.before
 
-returns-2 : tie.Need-returns-2
-returns-2 c = sym (check_stop_header _ (sym c.before.before.before.header.ensures ∙ c.before.n.given.1))
+returns-in-Fault : tie.Need-returns-in-Fault
+returns-in-Fault c = sym (check_stop_header _ (sym c.header.ensures ∙ c.in-Fault.is))
 
-returns-3 : tie.Need-returns-3
-returns-3 c = c.check-larger.ensures
+returns-else-fits : tie.Need-returns-else-fits
+returns-else-fits c = c.check_larger.ensures
 
-pub check-spec : {M : Type 1} → statement M
-check-spec =
+pub check_spec : {M : Type 1} → statement M
+check_spec =
     tie.close
     (tie.spec
     header-requires
-    enum-known-n
-    enum_told
-    header-of-requires
+    enum_known-n
+    enum_told-1
+    header_of-h-requires
     fits-requires
-    check-small-requires
-    returns
+    check_small-requires
+    returns-then-fits
     apart-requires
-    check-larger-requires
-    returns-2
-    returns-3)
+    check_larger-requires
+    returns-in-Fault
+    returns-else-fits)

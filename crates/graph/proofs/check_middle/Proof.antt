@@ -7,14 +7,19 @@ use borrow.Author.Rules.{rules}
 use Rattle.graph.proofs.check_middle.Statement.{statement}
 use Rattle.graph.proofs.check_middle.Tie as tie
 
-slice-aggregate-load : tie.Need-slice-aggregate-load
-slice-aggregate-load c = search rules
+slice_bounds-load-end : tie.Need-slice_bounds-load-end
+slice_bounds-load-end c = search rules
 
 load-requires : tie.Need-load-requires
-load-requires c κs = let s = c.before.before in (s.requires.0, rw (length-replicate {A = ℕ} 2443 0) (fits_places s.args.h Middle s.requires.1, omega arith))
+load-requires c κs = (c.requires.0, rw (length-replicate {A = ℕ} 2443 0) (fits_places c.args.h Middle c.requires.1, omega arith))
 
 returns : tie.Need-returns
-returns c = c.before.load.ensures.0
+returns c = c.load.ensures.0
 
-pub check-middle-spec : {M : Type 1} → statement M
-check-middle-spec = tie.close (tie.spec slice-aggregate-load load-requires returns)
+pub check_middle_spec : {M : Type 1} → statement M
+check_middle_spec =
+    tie.close
+    (tie.spec
+    slice_bounds-load-end
+    load-requires
+    returns)

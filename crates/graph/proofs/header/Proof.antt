@@ -18,64 +18,64 @@ use Rattle.graph_entries.proofs.rows_crate.row.Reads as row_reads
 row-requires : tie.Need-row-requires
 row-requires c κs = search rules
 
-enum-known-n : tie.Need-enum-known-n
-enum-known-n c = search rules
+enum_known-n : tie.Need-enum_known-n
+enum_known-n c = search rules
 
-enum-known-a : tie.Need-enum-known-a
-enum-known-a c = search rules
+enum_known-a : tie.Need-enum_known-a
+enum_known-a c = search rules
 
 counter-requires : tie.Need-counter-requires
 counter-requires c κs = search rules
 
-enum-known-n-2 : tie.Need-enum-known-n-2
-enum-known-n-2 c = search rules
+enum_known-n-in-Fault-counter : tie.Need-enum_known-n-in-Fault-counter
+enum_known-n-in-Fault-counter c = search rules
 
-enum-known-b : tie.Need-enum-known-b
-enum-known-b c = search rules
+enum_known-b : tie.Need-enum_known-b
+enum_known-b c = search rules
 
-counter-requires-2 : tie.Need-counter-requires-2
-counter-requires-2 c κs = search rules
+counter-requires-in-At-counter : tie.Need-counter-requires-in-At-counter
+counter-requires-in-At-counter c κs = search rules
 
-enum-known-n-3 : tie.Need-enum-known-n-3
-enum-known-n-3 c = search rules
+enum_known-n-in-Fault-counter-2 : tie.Need-enum_known-n-in-Fault-counter-2
+enum_known-n-in-Fault-counter-2 c = search rules
 
-enum-known-c : tie.Need-enum-known-c
-enum-known-c c = search rules
+enum_known-c : tie.Need-enum_known-c
+enum_known-c c = search rules
 
-last-counts-requires : tie.Need-last-counts-requires
-last-counts-requires c κs = search rules
+last_counts-requires : tie.Need-last_counts-requires
+last_counts-requires c κs = search rules
 
-returns : tie.Need-returns
+returns-in-Fault : tie.Need-returns-in-Fault
 unfolding header_rules columns_of
-returns c = sym (row_stop (_ ∷ _ ∷ []) _ _ _ (sym c.before.before.before.row.ensures ∙ c.before.n.given.1))
+returns-in-Fault c = sym (row_stop (_ ∷ _ ∷ []) _ _ _ (sym c.row.ensures ∙ c.in-Fault.is))
 
-returns-2 : tie.Need-returns-2
+returns-in-Fault-counter : tie.Need-returns-in-Fault-counter
 unfolding header_rules columns_of
-returns-2 c = sym (row_go (_ ∷ _ ∷ []) _ _ _ (sym c.before.before.before.before.before.before.before.row.ensures ∙ c.before.before.before.before.before.a.given.1) ∙ cells_stop _ _ _ _ (sym c.before.before.before.counter.ensures ∙ c.before.n2.given.1))
+returns-in-Fault-counter c = sym (row_go (_ ∷ _ ∷ []) _ _ _ (sym c.row.ensures ∙ c.in-At.is) ∙ cells_stop _ _ _ _ (sym c.counter.ensures ∙ c.in-Fault-counter.is))
 
-returns-3 : tie.Need-returns-3
+returns-in-Fault-counter-2 : tie.Need-returns-in-Fault-counter-2
 unfolding header_rules columns_of
-returns-3 c = sym (row_go (_ ∷ _ ∷ []) _ _ _ (sym c.before.before.before.before.before.before.before.before.before.before.before.row.ensures ∙ c.before.before.before.before.before.before.before.before.before.a.given.1) ∙ cells_go _ _ _ _ (sym c.before.before.before.before.before.before.before.counter.ensures ∙ c.before.before.before.before.before.b.given.1) ∙ cells_stop _ _ _ _ (sym c.before.before.before.counter2.ensures ∙ c.before.n3.given.1))
+returns-in-Fault-counter-2 c = sym (row_go (_ ∷ _ ∷ []) _ _ _ (sym c.row.ensures ∙ c.in-At.is) ∙ cells_go _ _ _ _ (sym c.counter.ensures ∙ c.in-At-counter.is) ∙ cells_stop _ _ _ _ (sym c.counter-in-At-counter.ensures ∙ c.n-in-Fault-counter-2-1.given.1))
 
-returns-4 : tie.Need-returns-4
+returns-in-At-counter-2 : tie.Need-returns-in-At-counter-2
 unfolding header_rules columns_of
-returns-4 c = c.last-counts.ensures ∙ sym (row_go (_ ∷ _ ∷ []) _ _ _ (sym c.before.before.before.before.before.before.before.before.before.before.before.before.row.ensures ∙ c.before.before.before.before.before.before.before.before.before.before.a.given.1) ∙ cells_go _ _ _ _ (sym c.before.before.before.before.before.before.before.before.counter.ensures ∙ c.before.before.before.before.before.before.b.given.1) ∙ cells_go _ _ _ _ (sym c.before.before.before.before.counter2.ensures ∙ c.before.before.c.given.1))
+returns-in-At-counter-2 c = c.last_counts.ensures ∙ sym (row_go (_ ∷ _ ∷ []) _ _ _ (sym c.row.ensures ∙ c.in-At.is) ∙ cells_go _ _ _ _ (sym c.counter.ensures ∙ c.in-At-counter.is) ∙ cells_go _ _ _ _ (sym c.counter-in-At-counter.ensures ∙ c.c-1.given.1))
 
-pub header-spec : {M : Type 1} → statement M
-header-spec =
+pub header_spec : {M : Type 1} → statement M
+header_spec =
     tie.close
     (tie.spec
     row-requires
-    enum-known-n
-    enum-known-a
+    enum_known-n
+    enum_known-a
     counter-requires
-    enum-known-n-2
-    enum-known-b
-    counter-requires-2
-    enum-known-n-3
-    enum-known-c
-    last-counts-requires
-    returns
-    returns-2
-    returns-3
-    returns-4)
+    enum_known-n-in-Fault-counter
+    enum_known-b
+    counter-requires-in-At-counter
+    enum_known-n-in-Fault-counter-2
+    enum_known-c
+    last_counts-requires
+    returns-in-Fault
+    returns-in-Fault-counter
+    returns-in-Fault-counter-2
+    returns-in-At-counter-2)

@@ -16,47 +16,47 @@ use Rattle.graph_entries.proofs.rows_crate.counter.Reads as counter-reads
 counter-requires : tie.Need-counter-requires
 counter-requires c κs = search rules
 
-enum-known-n : tie.Need-enum-known-n
-enum-known-n c = search rules
+enum_known-n : tie.Need-enum_known-n
+enum_known-n c = search rules
 
-enum-known-a : tie.Need-enum-known-a
-enum-known-a c = search rules
+enum_known-a : tie.Need-enum_known-a
+enum_known-a c = search rules
 
-counter-requires-2 : tie.Need-counter-requires-2
-counter-requires-2 c κs = search rules
+counter-requires-in-At : tie.Need-counter-requires-in-At
+counter-requires-in-At c κs = search rules
 
-enum-known-n-2 : tie.Need-enum-known-n-2
-enum-known-n-2 c = search rules
+enum_known-n-in-Fault-counter-2 : tie.Need-enum_known-n-in-Fault-counter-2
+enum_known-n-in-Fault-counter-2 c = search rules
 
-enum-known-b : tie.Need-enum-known-b
-enum-known-b c = search rules
+enum_known-b : tie.Need-enum_known-b
+enum_known-b c = search rules
 
-counter-requires-3 : tie.Need-counter-requires-3
-counter-requires-3 c κs = search rules
+counter-requires-in-At-counter : tie.Need-counter-requires-in-At-counter
+counter-requires-in-At-counter c κs = search rules
 
-returns : tie.Need-returns
+returns-in-Fault : tie.Need-returns-in-Fault
 unfolding header_rules
-returns c = sym (cells_stop _ _ _ _ (sym c.before.before.before.counter.ensures ∙ c.before.n.given.1))
+returns-in-Fault c = sym (cells_stop _ _ _ _ (sym c.counter.ensures ∙ c.in-Fault.is))
 
-returns-2 : tie.Need-returns-2
+returns-in-Fault-counter : tie.Need-returns-in-Fault-counter
 unfolding header_rules
-returns-2 c = sym (cells_go _ _ _ _ (sym c.before.before.before.before.before.before.before.counter.ensures ∙ c.before.before.before.before.before.a.given.1) ∙ cells_stop _ _ _ _ (sym c.before.before.before.counter2.ensures ∙ c.before.n2.given.1))
+returns-in-Fault-counter c = sym (cells_go _ _ _ _ (sym c.counter.ensures ∙ c.in-At.is) ∙ cells_stop _ _ _ _ (sym c.counter-in-At.ensures ∙ c.in-Fault-counter.is))
 
-returns-3 : tie.Need-returns-3
+returns-in-At-counter : tie.Need-returns-in-At-counter
 unfolding header_rules
-returns-3 c = c.counter3.ensures ∙ sym (cells_go _ _ _ _ (sym c.before.before.before.before.before.before.before.before.counter.ensures ∙ c.before.before.before.before.before.before.a.given.1) ∙ cells_go _ _ _ _ (sym c.before.before.before.before.counter2.ensures ∙ c.before.before.b.given.1) ∙ cells_one _ _ _)
+returns-in-At-counter c = c.counter-in-At-counter.ensures ∙ sym (cells_go _ _ _ _ (sym c.counter.ensures ∙ c.in-At.is) ∙ cells_go _ _ _ _ (sym c.counter-in-At.ensures ∙ c.in-At-counter.is) ∙ cells_one _ _ _)
 
-pub last-counts-spec : {M : Type 1} → statement M
-last-counts-spec =
+pub last_counts_spec : {M : Type 1} → statement M
+last_counts_spec =
     tie.close
     (tie.spec
     counter-requires
-    enum-known-n
-    enum-known-a
-    counter-requires-2
-    enum-known-n-2
-    enum-known-b
-    counter-requires-3
-    returns
-    returns-2
-    returns-3)
+    enum_known-n
+    enum_known-a
+    counter-requires-in-At
+    enum_known-n-in-Fault-counter-2
+    enum_known-b
+    counter-requires-in-At-counter
+    returns-in-Fault
+    returns-in-Fault-counter
+    returns-in-At-counter)

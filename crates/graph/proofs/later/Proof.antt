@@ -9,39 +9,39 @@ use Rattle.graph.proofs.namespaces.Reads as namespaces-reads
 use Rattle.graph.proofs.roots.Reads as roots-reads
 use Rattle.graph.proofs.runtime_normal.Reads as runtime-normal-reads
 
-runtime-normal-requires : tie.Need-runtime-normal-requires
-runtime-normal-requires c κs = search rules
+runtime_normal-requires : tie.Need-runtime_normal-requires
+runtime_normal-requires c κs = search rules
 
 namespaces-requires : tie.Need-namespaces-requires
-namespaces-requires c κs = let s = c.before.before.before.before.before in (s.requires.0, (s.requires.1.0, ap (λ h. h.modules) s.requires.1.1))
+namespaces-requires c κs = (c.requires.0, (c.requires.1.0, ap (λ h. h.modules) c.requires.1.1))
 
-enum-known-n : tie.Need-enum-known-n
-enum-known-n c = search rules
+enum_known-n : tie.Need-enum_known-n
+enum_known-n c = search rules
 
-enum_told : tie.Need-enum-told
-enum_told c = search rules
+enum_told-1 : tie.Need-enum_told-1
+enum_told-1 c = search rules
 
 roots-requires : tie.Need-roots-requires
-roots-requires c κs = let s = c.before.before.before.before.before.before.before.before in (s.requires.1.0, ap (λ h. h.symbols) s.requires.1.1)
+roots-requires c κs = (c.requires.1.0, ap (λ h. h.symbols) c.requires.1.1)
+
+returns-in-Fault : tie.Need-returns-in-Fault
+returns-in-Fault c = later_stop _ (sym c.if-runtime_normal.true ∙ c.runtime_normal.ensures) (sym c.namespaces.ensures ∙ c.in-Fault.is)
+
+returns-in-At : tie.Need-returns-in-At
+returns-in-At c = c.roots.ensures ∙ later_go _ (sym c.if-runtime_normal.true ∙ c.runtime_normal.ensures) (sym c.namespaces.ensures ∙ c.in-At.is)
 
 returns : tie.Need-returns
-returns c = later_stop _ (sym c.before.before.before.before.if1.true ∙ c.before.before.before.before.before.runtime-normal.ensures) (sym c.before.before.before.namespaces.ensures ∙ c.before.n.given.1)
+returns c = later_none _ (sym c.if-runtime_normal.false ∙ c.runtime_normal.ensures)
 
-returns-2 : tie.Need-returns-2
-returns-2 c = c.roots.ensures ∙ later_go _ (sym c.before.before.before.before.if1.true ∙ c.before.before.before.before.before.runtime-normal.ensures) (sym c.before.before.before.namespaces.ensures ∙ c.before.enum_told.given.1)
-
-returns-3 : tie.Need-returns-3
-returns-3 c = later_none _ (sym c.if1.false ∙ c.before.runtime-normal.ensures)
-
-pub later-spec : {M : Type 1} → statement M
-later-spec =
+pub later_spec : {M : Type 1} → statement M
+later_spec =
     tie.close
     (tie.spec
-    runtime-normal-requires
+    runtime_normal-requires
     namespaces-requires
-    enum-known-n
-    enum_told
+    enum_known-n
+    enum_told-1
     roots-requires
-    returns
-    returns-2
-    returns-3)
+    returns-in-Fault
+    returns-in-At
+    returns)

@@ -14,55 +14,55 @@ use Rattle.graph.proofs.namespaces.Reads as reads
 use Rattle.graph.proofs.namespaces.Lts as lts
 use Rattle.graph.proofs.owns_namespace.Reads as owns-namespace-reads
 
-abbrev invariant-loop : tie.invariant-loop
-invariant-loop numbers modules symbols count m₀ m = (m ≤ count) × (each (owns_namespace (symbols_in numbers)) 7 m (drop m (modules_in numbers)) ≡ each (owns_namespace (symbols_in numbers)) 7 0 (modules_in numbers))
+abbrev invariant-loop-m : tie.invariant-loop-m
+invariant-loop-m numbers modules symbols count m₀ m = (m ≤ count) × (each (owns_namespace (symbols_in numbers)) 7 m (drop m (modules_in numbers)) ≡ each (owns_namespace (symbols_in numbers)) 7 0 (modules_in numbers))
 
-abbrev decreases-loop : tie.decreases-loop
-decreases-loop numbers modules symbols count m₀ m = count - m
+abbrev decreases-loop-m : tie.decreases-loop-m
+decreases-loop-m numbers modules symbols count m₀ m = count - m
 
-loop-holds : tie.Need-loop-init invariant-loop decreases-loop
-loop-holds c = (omega arith, refl)
+loop-m-init : tie.Need-loop-m-init invariant-loop-m decreases-loop-m
+loop-m-init c = (omega arith, refl)
 
-owns-namespace-requires : tie.Need-owns-namespace-requires invariant-loop decreases-loop
-owns-namespace-requires c κs = let s = c.before.before.before.before.before in let n : c.before.loop.m < (header_in s.args.numbers.now).modules = omega (arith, s.requires.1.1, c.loop-test.true) in (s.requires.0, (s.requires.1.0, n))
+owns_namespace-requires : tie.Need-owns_namespace-requires invariant-loop-m decreases-loop-m
+owns_namespace-requires c κs = let n : c.loop-m.m < (header_in c.args.numbers.now).modules = omega (arith, c.requires.1.1, c.loop-m-test.true) in (c.requires.0, (c.requires.1.0, n))
 
-mul-t8 : tie.Need-overflow-mul-t8 invariant-loop decreases-loop
-mul-t8 c = search rules
+offset_bounds-modules-m : tie.Need-offset_bounds-modules-m invariant-loop-m decreases-loop-m
+offset_bounds-modules-m c = search rules
 
-shared-slice-read-t10 : tie.Need-shared-slice-read-t10 invariant-loop decreases-loop
-shared-slice-read-t10 c = search rules
+bounds-modules-m : tie.Need-bounds-modules-m invariant-loop-m decreases-loop-m
+bounds-modules-m c = search rules
 
-add-t11 : tie.Need-overflow-add-t11 invariant-loop decreases-loop
-add-t11 c = let s = c.before.before.before.before.before.before.before.before in let n : c.before.before.before.before.loop.m < (header_in s.args.numbers.now).modules = omega (arith, s.requires.1.1, c.before.before.before.loop-test.true) in omega (arith, at-inside _ _ s.requires.0 _ n 7 (omega arith))
+overflow_add-result : tie.Need-overflow_add-result invariant-loop-m decreases-loop-m
+overflow_add-result c = let n : c.loop-m.m < (header_in c.args.numbers.now).modules = omega (arith, c.requires.1.1, c.loop-m-test.true) in omega (arith, at-inside _ _ c.requires.0 _ n 7 (omega arith))
 
-returns : tie.Need-returns invariant-loop decreases-loop
-returns c = let s = c.before.before.before.before.before.before.before.before in let n : c.before.before.before.before.loop.m < (header_in s.args.numbers.now).modules = omega (arith, s.requires.1.1, c.before.before.before.loop-test.true) in all_stop _ _ _ _ c.before.before.before.before.loop.invariant.1 (omega (arith, modules_long _ _ s.requires.0, n)) c.before.before.owns-namespace.ensures (not_true _ c.before.if1.true) (its-place _ _ s.requires.0 _ n)
+returns-then-not-owns_namespace : tie.Need-returns-then-not-owns_namespace invariant-loop-m decreases-loop-m
+returns-then-not-owns_namespace c = let n : c.loop-m.m < (header_in c.args.numbers.now).modules = omega (arith, c.requires.1.1, c.loop-m-test.true) in all_stop _ _ _ _ c.loop-m.invariant.1 (omega (arith, modules_long _ _ c.requires.0, n)) c.owns_namespace.ensures (not_true _ c.if-not-owns_namespace.true) (its-place _ _ c.requires.0 _ n)
 
-add-m : tie.Need-overflow-add-m invariant-loop decreases-loop
-add-m c = search rules
+overflow_add-m : tie.Need-overflow_add-m invariant-loop-m decreases-loop-m
+overflow_add-m c = search rules
 
-loop-less : tie.Need-loop-smaller invariant-loop decreases-loop
-loop-less c = search rules
+loop-m-smaller : tie.Need-loop-m-smaller invariant-loop-m decreases-loop-m
+loop-m-smaller c = search rules
 
-loop-again : tie.Need-loop-preserved invariant-loop decreases-loop
-loop-again c = let s = c.before.before.before.before.before.before.before in (omega (arith, c.before.before.loop-test.true), all_go _ _ _ _ c.before.before.before.loop.invariant.1 (omega (arith, modules_long _ _ s.requires.0, s.requires.1.1, c.before.before.loop-test.true)) c.before.owns-namespace.ensures (not-false _ c.if1.false))
+loop-m-preserved : tie.Need-loop-m-preserved invariant-loop-m decreases-loop-m
+loop-m-preserved c = (omega (arith, c.loop-m-test.true), all_go _ _ _ _ c.loop-m.invariant.1 (omega (arith, modules_long _ _ c.requires.0, c.requires.1.1, c.loop-m-test.true)) c.owns_namespace.ensures (not-false _ c.if-not-owns_namespace.false))
 
-returns-2 : tie.Need-returns-2 invariant-loop decreases-loop
-returns-2 c = let s = c.before.before.before.before.before in all_end _ _ _ _ c.before.loop.invariant.1 (omega (arith, modules_long _ _ s.requires.0, s.requires.1.1, c.loop-test.false))
+returns : tie.Need-returns invariant-loop-m decreases-loop-m
+returns c = all_end _ _ _ _ c.loop-m.invariant.1 (omega (arith, modules_long _ _ c.requires.0, c.requires.1.1, c.loop-m-test.false))
 
-pub namespaces-spec : {M : Type 1} → statement M
-namespaces-spec =
+pub namespaces_spec : {M : Type 1} → statement M
+namespaces_spec =
     tie.close
     (tie.spec
-    invariant-loop
-    decreases-loop
-    loop-holds
-    owns-namespace-requires
-    mul-t8
-    shared-slice-read-t10
-    add-t11
-    returns
-    add-m
-    loop-less
-    loop-again
-    returns-2)
+    invariant-loop-m
+    decreases-loop-m
+    loop-m-init
+    owns_namespace-requires
+    offset_bounds-modules-m
+    bounds-modules-m
+    overflow_add-result
+    returns-then-not-owns_namespace
+    overflow_add-m
+    loop-m-smaller
+    loop-m-preserved
+    returns)

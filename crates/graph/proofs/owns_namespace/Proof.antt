@@ -8,22 +8,27 @@ use Rattle.graph.proofs.owns_namespace.Lts as lts
 use Rattle.graph_entries.proofs.graph_tables_crate.module_number.Reads as module-number-reads
 use Rattle.graph_entries.proofs.graph_tables_crate.symbol_number.Reads as symbol-number-reads
 
-module-number-requires : tie.Need-module-number-requires
-module-number-requires c κs = search rules
+module_number-namespace-requires : tie.Need-module_number-namespace-requires
+module_number-namespace-requires c κs = search rules
+
+returns-then-namespace-eq0 : tie.Need-returns-then-namespace-eq0
+returns-then-namespace-eq0 c = owns_none _ _ _ _ c.module_number-namespace.ensures c.if-namespace-eq0.true
+
+overflow_sub-namespace : tie.Need-overflow_sub-namespace
+overflow_sub-namespace c = search rules
+
+symbol_number-requires : tie.Need-symbol_number-requires
+symbol_number-requires c κs = let f = namespace_fits _ _ c.requires.0 _ c.requires.1.1 in (c.requires.1.0, (omega (arith, f, c.module_number-namespace.ensures, c.if-namespace-eq0.false), omega arith))
 
 returns : tie.Need-returns
-returns c = owns_none _ _ _ _ c.before.module-number.ensures c.if1.true
+returns c = owns_some _ _ _ _ c.module_number-namespace.ensures _ c.if-namespace-eq0.false c.symbol_number.ensures
 
-sub-symbol-number : tie.Need-overflow-sub-symbol-number
-sub-symbol-number c = search rules
-
-symbol-number-requires : tie.Need-symbol-number-requires
-symbol-number-requires c κs = let s = c.before.before.before.before.before in let f = namespace_fits _ _ s.requires.0 _ s.requires.1.1 in (s.requires.1.0, (omega (arith, f, c.before.module-number.ensures, c.if1.false), omega arith))
-
-returns-2 : tie.Need-returns-2
-returns-2 c = owns_some _ _ _ _ c.before.before.module-number.ensures _ c.before.if1.false c.symbol-number.ensures
-
-pub owns-namespace-spec : {M : Type 1} → statement M
-owns-namespace-spec =
+pub owns_namespace_spec : {M : Type 1} → statement M
+owns_namespace_spec =
     tie.close
-    (tie.spec module-number-requires returns sub-symbol-number symbol-number-requires returns-2)
+    (tie.spec
+    module_number-namespace-requires
+    returns-then-namespace-eq0
+    overflow_sub-namespace
+    symbol_number-requires
+    returns)

@@ -11,73 +11,73 @@ use Rattle.graph.proofs.parts.Statement.{statement}
 use Rattle.graph.proofs.parts.Tie as tie
 
 -- where the helpers end
-helped : (c : tie.After-known-told2) → c.before.a.given.0.0 ≡ 7 + c.before.before.before.before.before.before.args.h.helpers
-helped c = helpers_end _ _ c.before.before.before.before.before.before.requires.0.0 (sym c.before.before.before.plain_rows.ensures ∙ c.before.a.given.1)
+helped : (c : tie.In-At) → c.in-At.a ≡ 7 + c.args.h.helpers
+helped c = helpers_end _ _ c.requires.0.0 (sym c.plain_rows.ensures ∙ c.in-At.is)
 
 -- the layout, and the modules' section once they are read
-laid : (c : tie.After-modules) → Laid c.before.before.before.before.before.before.before.before.args.h at_verdicts c.modules.new.1.1.1.0
-laid c = laid_kept c.before.before.before.before.before.before.before.before.requires.1 0 (omega arith) c.modules.ensures.2
+laid : (c : tie.After-modules) → Laid c.args.h at_verdicts c.modules.new.1.1.1.0
+laid c = laid_kept c.requires.1 0 (omega arith) c.modules.ensures.2
 
-table : (c : tie.After-known-told4) → ModuleTable c.before.before.before.before.before.before.before.before.before.before.before.before.before.args.numbers.now (module_places c.before.before.before.before.before.modules.new.1.1.1.0)
-table c = module-table _ _ c.before.before.before.before.before.before.before.before.before.before.before.before.before.requires.0.0 _ (laid c.before.before.before.before.before) _ _ (helped c.before.before.before.before.before.before.before) (sym c.before.before.before.before.before.modules.ensures.0 ∙ c.before.b.given.1) c.before.before.before.before.before.modules.ensures.1
+table : (c : tie.In-At-modules) → ModuleTable c.args.numbers.now (module_places c.modules.new.1.1.1.0)
+table c = module-table _ _ c.requires.0.0 _ (laid c.before.before.before) _ _ (helped c.before.before.before.before.before) (sym c.modules.ensures.0 ∙ c.in-At-modules.is) c.modules.ensures.1
 
-plain-rows-requires : tie.Need-plain-rows-requires
-plain-rows-requires c κs = search rules
+plain_rows-requires : tie.Need-plain_rows-requires
+plain_rows-requires c κs = search rules
 
-enum-known-n : tie.Need-enum-known-n
-enum-known-n c = search rules
+enum_known-n : tie.Need-enum_known-n
+enum_known-n c = search rules
 
-enum-known-a : tie.Need-enum-known-a
-enum-known-a c = search rules
+enum_known-a : tie.Need-enum_known-a
+enum_known-a c = search rules
 
 modules-requires : tie.Need-modules-requires
-modules-requires c κs = let p = c.before.before.before.before.before.before.before.requires in (p.1, (p.0.2, p.0.1, p.0.3))
+modules-requires c κs = let p = c.requires in (p.1, (p.0.2, p.0.1, p.0.3))
 
-enum-known-n-2 : tie.Need-enum-known-n-2
-enum-known-n-2 c = search rules
+enum_known-n-in-Fault-modules : tie.Need-enum_known-n-in-Fault-modules
+enum_known-n-in-Fault-modules c = search rules
 
-enum-known-b : tie.Need-enum-known-b
-enum-known-b c = search rules
+enum_known-b : tie.Need-enum_known-b
+enum_known-b c = search rules
 
 body-requires : tie.Need-body-requires
-body-requires c κs = let p = c.before.before.before.before.before.before.before.before.before.before.before.before.before.before.requires.0 in
-    let e = sym c.before.before.before.before.before.before.modules.ensures.0 ∙ c.before.before.b.given.1 in
-    let z = sym (end_is _ (rw (modules_part _ _ p.0 _ (helped c.before.before.before.before.before.before.before.before)) at e)) in
-    ((laid c.before.before.before.before.before.before, table c.before), (p.0, z, p.2))
+body-requires c κs = let p = c.requires.0 in
+    let e = sym c.modules.ensures.0 ∙ c.in-At-modules.is in
+    let z = sym (end_is _ (rw (modules_part _ _ p.0 _ (helped c.before.before.before.before.before.before)) at e)) in
+    ((laid c.before.before.before.before, table c.before), (p.0, z, p.2))
 
-returns : tie.Need-returns
-returns c = (sym (graph_stop_helpers _ _ c.before.before.before.before.before.before.requires.0.0 (sym c.before.before.before.plain_rows.ensures ∙ c.before.n.given.1)), once_fault _, kept_none)
+returns-in-Fault : tie.Need-returns-in-Fault
+returns-in-Fault c = (sym (graph_stop_helpers _ _ c.requires.0.0 (sym c.plain_rows.ensures ∙ c.in-Fault.is)), once_fault _, kept_none)
 
-same_length : tie.Need-same-length
-same_length c = search rules
+shape_of-tables-in-Fault-modules : tie.Need-shape_of-tables-in-Fault-modules
+shape_of-tables-in-Fault-modules c = search rules
 
-returns-2 : tie.Need-returns-2
-returns-2 c = (sym (graph_stop_modules _ _ c.before.before.before.before.before.before.before.before.before.before.before.before.before.requires.0.0 (sym c.before.before.before.before.before.before.before.before.before.before.plain_rows.ensures ∙ c.before.before.before.before.before.before.before.before.a.given.1) (sym c.before.before.before.before.before.modules.ensures.0 ∙ c.before.n2.given.1)), once_fault _, c.before.before.before.before.before.modules.ensures.2)
+returns-in-Fault-modules : tie.Need-returns-in-Fault-modules
+returns-in-Fault-modules c = (sym (graph_stop_modules _ _ c.requires.0.0 (sym c.plain_rows.ensures ∙ c.in-At.is) (sym c.modules.ensures.0 ∙ c.in-Fault-modules.is)), once_fault _, c.modules.ensures.2)
 
-same-length-2 : tie.Need-same-length-2
-same-length-2 c = search rules
+shape_of-tables-in-At-modules : tie.Need-shape_of-tables-in-At-modules
+shape_of-tables-in-At-modules c = search rules
 
-returns-3 : tie.Need-returns-3
-returns-3 c =
-    let k = c.before.before.body.ensures.2 in (
-      c.before.before.body.ensures.0 ∙ sym (graph_go _ _ c.before.before.before.before.before.before.before.before.before.before.before.before.before.before.before.before.before.requires.0.0 (sym c.before.before.before.before.before.before.before.before.before.before.before.before.before.before.plain_rows.ensures ∙ c.before.before.before.before.before.before.before.before.before.before.before.before.a.given.1) (sym c.before.before.before.before.before.before.before.before.before.modules.ensures.0 ∙ c.before.before.before.before.before.b.given.1)),
-      once_places (modules_kept (laid c.before.before.before.before.before.before.before.before.before) 1 (omega arith) (omega arith) k (table c.before.before.before.before) refl) c.before.before.body.ensures.1,
-      kept_then c.before.before.before.before.before.before.before.before.before.before.before.before.before.before.before.before.before.args.h 0 1 (omega arith) c.before.before.before.before.before.before.before.before.before.modules.ensures.2 k,
+returns-in-At-modules : tie.Need-returns-in-At-modules
+returns-in-At-modules c =
+    let k = c.body.ensures.2 in (
+      c.body.ensures.0 ∙ sym (graph_go _ _ c.requires.0.0 (sym c.plain_rows.ensures ∙ c.in-At.is) (sym c.modules.ensures.0 ∙ c.in-At-modules.is)),
+      once_places (modules_kept (laid c.before.before.before.before.before.before.before) 1 (omega arith) (omega arith) k (table c.before.before.before.before) refl) c.body.ensures.1,
+      kept_then c.args.h 0 1 (omega arith) c.modules.ensures.2 k,
     )
 
-pub parts-spec : {M : Type 1} → statement M
-parts-spec =
+pub parts_spec : {M : Type 1} → statement M
+parts_spec =
     tie.close
     (tie.spec
-    plain-rows-requires
-    enum-known-n
-    enum-known-a
+    plain_rows-requires
+    enum_known-n
+    enum_known-a
     modules-requires
-    enum-known-n-2
-    enum-known-b
+    enum_known-n-in-Fault-modules
+    enum_known-b
     body-requires
-    returns
-    same_length
-    returns-2
-    same-length-2
-    returns-3)
+    returns-in-Fault
+    shape_of-tables-in-Fault-modules
+    returns-in-Fault-modules
+    shape_of-tables-in-At-modules
+    returns-in-At-modules)

@@ -7,14 +7,19 @@ use Rattle.graph.proofs.root_is_root.Reads as reads
 use Rattle.graph.proofs.root_is_root.Lts as lts
 use Rattle.graph_entries.proofs.graph_tables_crate.symbol_number.Reads as symbol-number-reads
 
-symbol-number-requires : tie.Need-symbol-number-requires
-symbol-number-requires c κs = search rules
+symbol_number-root-requires : tie.Need-symbol_number-root-requires
+symbol_number-root-requires c κs = search rules
 
-symbol-number-requires-2 : tie.Need-symbol-number-requires-2
-symbol-number-requires-2 c κs = let s = c.before.before.before in (s.requires.0, (rw c.symbol-number.ensures (root_fits _ _ s.requires.0 _ s.requires.1), omega arith))
+symbol_number-requires : tie.Need-symbol_number-requires
+symbol_number-requires c κs = (c.requires.0, (rw c.symbol_number-root.ensures (root_fits _ _ c.requires.0 _ c.requires.1), omega arith))
 
 returns : tie.Need-returns
-returns c = root_same _ _ _ _ _ c.before.symbol-number.ensures c.symbol-number2.ensures
+returns c = root_same _ _ _ _ _ c.symbol_number-root.ensures c.symbol_number.ensures
 
-pub root-is-root-spec : {M : Type 1} → statement M
-root-is-root-spec = tie.close (tie.spec symbol-number-requires symbol-number-requires-2 returns)
+pub root_is_root_spec : {M : Type 1} → statement M
+root_is_root_spec =
+    tie.close
+    (tie.spec
+    symbol_number-root-requires
+    symbol_number-requires
+    returns)

@@ -7,14 +7,19 @@ use Rattle.graph.proofs.runtime_normal.Reads as reads
 use Rattle.graph.proofs.runtime_normal.Lts as lts
 use Rattle.graph_entries.proofs.graph_tables_crate.module_number.Reads as module-number-reads
 
-module-number-requires : tie.Need-module-number-requires
-module-number-requires c κs = let s = c.before.before.before.before in (s.requires.0, (rw (sym s.requires.1) c.if1.true, omega arith))
+module_number-requires : tie.Need-module_number-requires
+module_number-requires c κs = (c.requires.0, (rw (sym c.requires.1) c.if-h.true, omega arith))
+
+returns-then-h : tie.Need-returns-then-h
+returns-then-h c = runtime_kind _ _ c.requires.1 _ c.if-h.true c.module_number.ensures
 
 returns : tie.Need-returns
-returns c = runtime_kind _ _ c.before.before.before.before.before.requires.1 _ c.before.if1.true c.module-number.ensures
+returns c = runtime_none _ _ c.requires.1 c.if-h.false
 
-returns-2 : tie.Need-returns-2
-returns-2 c = runtime_none _ _ c.before.before.before.before.requires.1 c.if1.false
-
-pub runtime-normal-spec : {M : Type 1} → statement M
-runtime-normal-spec = tie.close (tie.spec module-number-requires returns returns-2)
+pub runtime_normal_spec : {M : Type 1} → statement M
+runtime_normal_spec =
+    tie.close
+    (tie.spec
+    module_number-requires
+    returns-then-h
+    returns)

@@ -10,51 +10,51 @@ use Rattle.graph.proofs.tail.Statement.{statement}
 use Rattle.graph.proofs.tail.Tie as tie
 
 -- the layout, once the statements are read
-laid : (c : tie.After-statements) → Laid c.before.before.before.before.args.h at_verdicts c.statements.new.1.1.1.0
-laid c = laid_kept c.before.before.before.before.requires.0.0 2 (omega arith) c.statements.ensures.2
+laid : (c : tie.After-statements) → Laid c.args.h at_verdicts c.statements.new.1.1.1.0
+laid c = laid_kept c.requires.0.0 2 (omega arith) c.statements.ensures.2
 
 statements-requires : tie.Need-statements-requires
-statements-requires c κs = (c.before.before.before.requires.0, c.before.before.before.requires.1.0)
+statements-requires c κs = (c.requires.0, c.requires.1.0)
 
-enum-known-n : tie.Need-enum-known-n
-enum-known-n c = search rules
+enum_known-n : tie.Need-enum_known-n
+enum_known-n c = search rules
 
-enum-known-q : tie.Need-enum-known-q
-enum-known-q c = search rules
+enum_known-q : tie.Need-enum_known-q
+enum_known-q c = search rules
 
 entries-requires : tie.Need-entries-requires
-entries-requires c κs = let p = c.before.before.before.before.before.before.before.before.before.before.requires in ((laid c.before.before.before.before.before.before, modules_kept p.0.0 2 (omega arith) (omega arith) c.before.before.before.before.before.before.statements.ensures.2 p.0.1 refl), p.1.0)
+entries-requires c κs = let p = c.requires in ((laid c.before.before.before.before, modules_kept p.0.0 2 (omega arith) (omega arith) c.statements.ensures.2 p.0.1 refl), p.1.0)
 
-same_length : tie.Need-same-length
-same_length c = search rules
+shape_of-tables-in-Fault : tie.Need-shape_of-tables-in-Fault
+shape_of-tables-in-Fault c = search rules
 
-returns : tie.Need-returns
-returns c = (sym (tail_stop _ _ c.before.before.before.before.before.before.before.before.before.requires.1.0 _ (sym c.before.before.before.before.before.statements.ensures.0 ∙ c.before.n.given.1)), once_fault _, c.before.before.before.before.before.statements.ensures.2)
+returns-in-Fault : tie.Need-returns-in-Fault
+returns-in-Fault c = (sym (tail_stop _ _ c.requires.1.0 _ (sym c.statements.ensures.0 ∙ c.in-Fault.is)), once_fault _, c.statements.ensures.2)
 
-same-length-2 : tie.Need-same-length-2
-same-length-2 c = search rules
+shape_of-tables-in-At : tie.Need-shape_of-tables-in-At
+shape_of-tables-in-At c = search rules
 
-returns-2 : tie.Need-returns-2
-returns-2 c =
-    let p = c.before.before.before.before.before.before.before.before.before.before.before.before.before.requires.1 in
-    let e = sym c.before.before.before.before.before.before.before.before.before.statements.ensures.0 ∙ c.before.before.before.before.before.q.given.1 in
+returns-in-At : tie.Need-returns-in-At
+returns-in-At c =
+    let p = c.requires.1 in
+    let e = sym c.statements.ensures.0 ∙ c.in-At.is in
     let z = sym (end_is _ (rw (statements_part _ _ p.0 _ p.1) at e)) in
-    let t = laid c.before.before.before.before.before.before.before.before.before in
-    let k = c.before.before.entries.ensures.2 in (
-      c.before.before.entries.ensures.0 ∙ sym (tail_go _ _ p.0 _ e),
-      record { known = λ q f. (statements_kept t 4 (omega arith) k (omega arith) (statement-table _ _ p.0 _ t _ _ p.1 e c.before.before.before.before.before.before.before.before.before.statements.ensures.1), entry-table _ _ p.0 _ (laid_kept t 4 (omega arith) k) _ _ z (sym c.before.before.entries.ensures.0 ∙ f) c.before.before.entries.ensures.1) },
-      kept_then c.before.before.before.before.before.before.before.before.before.before.before.before.before.args.h 2 4 (omega arith) c.before.before.before.before.before.before.before.before.before.statements.ensures.2 k,
+    let t = laid c.before.before.before.before.before.before.before in
+    let k = c.entries.ensures.2 in (
+      c.entries.ensures.0 ∙ sym (tail_go _ _ p.0 _ e),
+      record { known = λ q f. (statements_kept t 4 (omega arith) k (omega arith) (statement-table _ _ p.0 _ t _ _ p.1 e c.statements.ensures.1), entry-table _ _ p.0 _ (laid_kept t 4 (omega arith) k) _ _ z (sym c.entries.ensures.0 ∙ f) c.entries.ensures.1) },
+      kept_then c.args.h 2 4 (omega arith) c.statements.ensures.2 k,
     )
 
-pub tail-spec : {M : Type 1} → statement M
-tail-spec =
+pub tail_spec : {M : Type 1} → statement M
+tail_spec =
     tie.close
     (tie.spec
     statements-requires
-    enum-known-n
-    enum-known-q
+    enum_known-n
+    enum_known-q
     entries-requires
-    same_length
-    returns
-    same-length-2
-    returns-2)
+    shape_of-tables-in-Fault
+    returns-in-Fault
+    shape_of-tables-in-At
+    returns-in-At)

@@ -16,100 +16,99 @@ use native.Mathlib.Omega.{arith}
 use Rattle.graph_entries.proofs.entries.Statement.{statement}
 use Rattle.graph_entries.proofs.entries.Tie as tie
 
-abbrev invariant-loop : tie.invariant-loop
-invariant-loop numbers at h tables₀ base k₀ q₀ tables k q = (done : List Item) × Filling (entry_at h (modules_in numbers) numbers) following h.entries 0 at (start_of h at_entries) tables₀ tables k q k done
+abbrev invariant-loop-k : tie.invariant-loop-k
+invariant-loop-k numbers at h tables₀ base k₀ q₀ tables k q = (done : List Item) × Filling (entry_at h (modules_in numbers) numbers) following h.entries 0 at (start_of h at_entries) tables₀ tables k q k done
 
-abbrev decreases-loop : tie.decreases-loop
-decreases-loop numbers at h tables₀ base k₀ q₀ tables k q = h.entries - k
+abbrev decreases-loop-k : tie.decreases-loop-k
+decreases-loop-k numbers at h tables₀ base k₀ q₀ tables k q = h.entries - k
 
 -- the entry that a turn read
-turned : (c : tie.After-known-told2 invariant-loop decreases-loop) → let l = c.before.before.before.before.before.before.before.before.loop in let s = c.before.before.before.before.before.before.before.before.before.before.before.before in
-    (x : Item) × (entry_at s.args.h (modules_in s.args.numbers.now) s.args.numbers.now l.k l.q ≡ got x c.before.next.given.0.0)
+turned : (c : tie.In-At invariant-loop-k decreases-loop-k) → let l = c.loop-k in (x : Item) × (entry_at c.args.h (modules_in c.args.numbers.now) c.args.numbers.now l.k l.q ≡ got x c.in-At.next)
 unfolding entry_at
-turned c = at_got _ _ (sym c.before.before.before.entry.ensures ∙ c.before.next.given.1)
+turned c = at_got _ _ (sym c.entry.ensures ∙ c.in-At.is)
 
 -- the section is inside the tables, and so is the word that a turn writes
-room : (c : tie.Start invariant-loop decreases-loop) → start_of c.args.h at_entries + c.args.h.entries ≤ length c.args.tables.now
+room : (c : tie.Start invariant-loop-k decreases-loop-k) → start_of c.args.h at_entries + c.args.h.entries ≤ length c.args.tables.now
 unfolding sizes
 room c = ends_inside c.requires.0.0 4 (omega arith)
 
-spot : (c : tie.After-known-told2 invariant-loop decreases-loop) → get_or c.before.before.before.before.before.before.before.before.before.before.before.before.args.tables.now 4 0 + c.before.before.before.before.before.before.before.before.loop.k ≡ start_of c.before.before.before.before.before.before.before.before.before.before.before.before.args.h at_entries + c.before.before.before.before.before.before.before.before.loop.k
-spot c = ap (λ b. b + c.before.before.before.before.before.before.before.before.loop.k) (c.before.before.before.before.before.before.before.before.before.before.before.before.requires.0.0.starts 4 (omega arith))
+spot : (c : tie.In-At invariant-loop-k decreases-loop-k) → get_or c.args.tables.now 4 0 + c.loop-k.k ≡ start_of c.args.h at_entries + c.loop-k.k
+spot c = ap (λ b. b + c.loop-k.k) (c.requires.0.0.starts 4 (omega arith))
 
-writes : (c : tie.After-known-told2 invariant-loop decreases-loop) → get_or c.before.before.before.before.before.before.before.before.before.before.before.before.args.tables.now 4 0 + c.before.before.before.before.before.before.before.before.loop.k < length c.before.before.before.before.before.before.before.before.loop.tables
-writes c = rw (spot c) (filling_inside c.before.before.before.before.before.before.before.before.loop.invariant.1 (room c.before.before.before.before.before.before.before.before.before.before.before.before) c.before.before.before.before.before.before.if1.true)
+writes : (c : tie.In-At invariant-loop-k decreases-loop-k) → get_or c.args.tables.now 4 0 + c.loop-k.k < length c.loop-k.tables
+writes c = rw (spot c) (filling_inside c.loop-k.invariant.1 (room c.before.before.before.before.before.before.before.before.before) c.loop-k-test.true)
 
-slice-read-base : tie.Need-slice-read-base invariant-loop decreases-loop
-slice-read-base c = word_inside c.before.before.before.requires.0.0 4 (omega arith)
+bounds-tables-4 : tie.Need-bounds-tables-4 invariant-loop-k decreases-loop-k
+bounds-tables-4 c = word_inside c.requires.0.0 4 (omega arith)
 
-loop-holds : tie.Need-loop-init invariant-loop decreases-loop
-loop-holds c = ([], filling_start)
+loop-k-init : tie.Need-loop-k-init invariant-loop-k decreases-loop-k
+loop-k-init c = ([], filling_start)
 
-section-requires : tie.Need-section-requires invariant-loop decreases-loop
-section-requires c κs = modules_inside c.before.before.before.before.before.before.before.requires.0.0 4 (omega arith) (omega arith) c.before.before.before.loop.invariant.1.kept
+section-requires : tie.Need-section-requires invariant-loop-k decreases-loop-k
+section-requires c κs = modules_inside c.requires.0.0 4 (omega arith) (omega arith) c.loop-k.invariant.1.kept
 
-entry-requires : tie.Need-entry-requires invariant-loop decreases-loop
-entry-requires c κs = let p = c.before.before.before.before.before.before.before.before.requires in (modules_kept p.0.0 4 (omega arith) (omega arith) c.before.before.before.before.loop.invariant.1.kept p.0.1 c.section.ensures, p.1)
+entry-requires : tie.Need-entry-requires invariant-loop-k decreases-loop-k
+entry-requires c κs = let p = c.requires in (modules_kept p.0.0 4 (omega arith) (omega arith) c.loop-k.invariant.1.kept p.0.1 c.section.ensures, p.1)
 
-enum-known-n : tie.Need-enum-known-n invariant-loop decreases-loop
-enum-known-n c = search rules
+enum_known-n : tie.Need-enum_known-n invariant-loop-k decreases-loop-k
+enum_known-n c = search rules
 
-same_length : tie.Need-same-length invariant-loop decreases-loop
-same_length c = c.before.before.before.before.before.before.before.before.loop.invariant.1.kept.same_length
+shape_of-tables-in-Fault : tie.Need-shape_of-tables-in-Fault invariant-loop-k decreases-loop-k
+shape_of-tables-in-Fault c = c.loop-k.invariant.1.kept.same_length
 
-returns : tie.Need-returns invariant-loop decreases-loop
+returns-in-Fault : tie.Need-returns-in-Fault invariant-loop-k decreases-loop-k
 unfolding entries_at entry_at
-returns c = filling_stop c.before.before.before.before.before.before.before.before.loop.invariant.1 c.before.before.before.before.before.before.if1.true (sym c.before.before.before.entry.ensures ∙ c.before.n.given.1)
+returns-in-Fault c = filling_stop c.loop-k.invariant.1 c.loop-k-test.true (sym c.entry.ensures ∙ c.in-Fault.is)
 
-enum-known-next : tie.Need-enum-known-next invariant-loop decreases-loop
-enum-known-next c = search rules
+enum_known-next : tie.Need-enum_known-next invariant-loop-k decreases-loop-k
+enum_known-next c = search rules
 
-add-tables : tie.Need-overflow-add-tables invariant-loop decreases-loop
-add-tables c = omega (arith, writes c, c.before.before.before.before.before.before.before.before.loop.invariant.1.kept.same_length, c.before.before.before.before.before.before.before.before.before.before.before.before.requires.0.0.few)
+overflow_add-tables : tie.Need-overflow_add-tables invariant-loop-k decreases-loop-k
+overflow_add-tables c = omega (arith, writes c, c.loop-k.invariant.1.kept.same_length, c.requires.0.0.few)
 
-mul-tables : tie.Need-overflow-mul-tables invariant-loop decreases-loop
-mul-tables c = omega (arith, writes c, c.before.before.before.before.before.before.before.before.loop.invariant.1.kept.same_length, c.before.before.before.before.before.before.before.before.before.before.before.before.requires.0.0.few)
+offset_bounds-tables-base : tie.Need-offset_bounds-tables-base invariant-loop-k decreases-loop-k
+offset_bounds-tables-base c = omega (arith, writes c, c.loop-k.invariant.1.kept.same_length, c.requires.0.0.few)
 
-slice-write-tables : tie.Need-slice-write-tables invariant-loop decreases-loop
-slice-write-tables c = writes c
+bounds-tables-base : tie.Need-bounds-tables-base invariant-loop-k decreases-loop-k
+bounds-tables-base c = writes c
 
-add-k : tie.Need-overflow-add-k invariant-loop decreases-loop
-add-k c = search rules
+overflow_add-k : tie.Need-overflow_add-k invariant-loop-k decreases-loop-k
+overflow_add-k c = search rules
 
-loop-less : tie.Need-loop-smaller invariant-loop decreases-loop
-loop-less c = search rules
+loop-k-smaller : tie.Need-loop-k-smaller invariant-loop-k decreases-loop-k
+loop-k-smaller c = search rules
 
-loop-again : tie.Need-loop-preserved invariant-loop decreases-loop
-loop-again c = let i = c.before.before.before.before.before.before.before.before.loop.invariant in
+loop-k-preserved : tie.Need-loop-k-preserved invariant-loop-k decreases-loop-k
+loop-k-preserved c = let i = c.loop-k.invariant in
     let t = turned c in
-    (i.0 ++ (t.0 ∷ []), filling_step i.1 (room c.before.before.before.before.before.before.before.before.before.before.before.before) c.before.before.before.before.before.before.if1.true t.1 (entry_place _ _ _ _ _ t.1) (spot c))
+    (i.0 ++ (t.0 ∷ []), filling_step i.1 (room c.before.before.before.before.before.before.before.before.before) c.loop-k-test.true t.1 (entry_place _ _ _ _ _ t.1) (spot c))
 
-same-length-2 : tie.Need-same-length-2 invariant-loop decreases-loop
-same-length-2 c = c.before.before.loop.invariant.1.kept.same_length
+shape_of-tables : tie.Need-shape_of-tables invariant-loop-k decreases-loop-k
+shape_of-tables c = c.loop-k.invariant.1.kept.same_length
 
-returns-2 : tie.Need-returns-2 invariant-loop decreases-loop
+returns : tie.Need-returns invariant-loop-k decreases-loop-k
 unfolding entries_at
-returns-2 c = filling_end c.before.before.loop.invariant.1 c.if1.false
+returns c = filling_end c.loop-k.invariant.1 c.loop-k-test.false
 
-pub entries-spec : {M : Type 1} → statement M
-entries-spec =
+pub entries_spec : {M : Type 1} → statement M
+entries_spec =
     tie.close
     (tie.spec
-    invariant-loop
-    decreases-loop
-    slice-read-base
-    loop-holds
+    invariant-loop-k
+    decreases-loop-k
+    bounds-tables-4
+    loop-k-init
     section-requires
     entry-requires
-    enum-known-n
-    same_length
-    returns
-    enum-known-next
-    add-tables
-    mul-tables
-    slice-write-tables
-    add-k
-    loop-less
-    loop-again
-    same-length-2
-    returns-2)
+    enum_known-n
+    shape_of-tables-in-Fault
+    returns-in-Fault
+    enum_known-next
+    overflow_add-tables
+    offset_bounds-tables-base
+    bounds-tables-base
+    overflow_add-k
+    loop-k-smaller
+    loop-k-preserved
+    shape_of-tables
+    returns)

@@ -12,22 +12,28 @@ use Rattle.graph_tables.proofs.rows_crate.row.Reads as row_reads
 row-requires : tie.Need-row-requires
 row-requires c κs = search rules
 
-enum-known-n : tie.Need-enum-known-n
-enum-known-n c = search rules
+enum_known-n : tie.Need-enum_known-n
+enum_known-n c = search rules
 
-enum-known-q : tie.Need-enum-known-q
-enum-known-q c = search rules
+enum_known-q : tie.Need-enum_known-q
+enum_known-q c = search rules
 
-related-list-requires : tie.Need-related-list-requires
-related-list-requires c κs = search rules
+related_list-requires : tie.Need-related_list-requires
+related_list-requires c κs = search rules
 
-returns : tie.Need-returns
-returns c = sym (entry_stop _ _ _ _ _ (sym c.before.before.before.row.ensures ∙ c.before.n.given.1))
+returns-in-Fault : tie.Need-returns-in-Fault
+returns-in-Fault c = sym (entry_stop _ _ _ _ _ (sym c.row.ensures ∙ c.in-Fault.is))
 
-returns-2 : tie.Need-returns-2
-returns-2 c = c.related-list.ensures ∙ sym (entry_go _ _ _ _ _ (sym c.before.before.before.before.row.ensures ∙ c.before.before.q.given.1))
+returns-in-At : tie.Need-returns-in-At
+returns-in-At c = c.related_list.ensures ∙ sym (entry_go _ _ _ _ _ (sym c.row.ensures ∙ c.in-At.is))
 
 pub entry_spec : {M : Type 1} → statement M
 entry_spec =
     tie.close
-    (tie.spec row-requires enum-known-n enum-known-q related-list-requires returns returns-2)
+    (tie.spec
+    row-requires
+    enum_known-n
+    enum_known-q
+    related_list-requires
+    returns-in-Fault
+    returns-in-At)

@@ -21,97 +21,97 @@ use Rattle.graph_tables.proofs.rows_crate.wide.Reads as wide-reads
 use Rattle.graph_tables.proofs.rows_crate.within.Reads as within-reads
 
 -- the module that was read, and its statement and record
-counted : (c : tie.After-known-told2) → let s = c.before.before.before.before.before.before in (x : ℕ) × (related_module_at s.args.h (modules_in s.args.numbers.now) s.args.numbers.now s.args.at ≡ got x c.before.q.given.0.0)
-counted c = at_got _ _ (sym c.before.before.before.related-module.ensures ∙ c.before.q.given.1)
+counted : (c : tie.In-At) → (x : ℕ) × (related_module_at c.args.h (modules_in c.args.numbers.now) c.args.numbers.now c.args.at ≡ got x c.in-At.q)
+counted c = at_got _ _ (sym c.related_module.ensures ∙ c.in-At.is)
 
-there : (c : tie.After-known-told2) → let s = c.before.before.before.before.before.before in Number (below s.args.h.modules) s.args.numbers.now s.args.at (counted c).0 c.before.q.given.0.0
+there : (c : tie.In-At) → Number (below c.args.h.modules) c.args.numbers.now c.args.at (counted c).0 c.in-At.q
 there c = module_is _ _ _ _ (counted c).1
 
-same : (c : tie.After-wide) → c.wide.result ≡ (counted c.before.before).0
-same c = c.wide.ensures ∙ sym (there c.before.before).same
+same : (c : tie.After-wide-m) → c.wide-m.result ≡ (counted c.before.before).0
+same c = c.wide-m.ensures ∙ sym (there c.before.before).same
 
-in-header : (c : tie.After-wide) → c.wide.result < (header_in c.before.before.before.before.before.before.before.before.args.numbers.now).modules
-in-header c = rw (sym c.before.before.before.before.before.before.before.before.requires.1) (omega (arith, (there c.before.before).good.1, same c))
+in-header : (c : tie.After-wide-m) → c.wide-m.result < (header_in c.args.numbers.now).modules
+in-header c = rw (sym c.requires.1) (omega (arith, (there c.before.before).good.1, same c))
 
-second : (c : tie.After-known-told4) → let s = c.before.before.before.before.before.before.before.before.before.before.before.before.before in (y : ℕ) × (number (below c.before.before.before.before.module-number.result) s.args.numbers.now c.before.before.before.before.before.before.before.before.q.given.0.0 ≡ got y c.before.s.given.0.0)
-second c = at_got _ _ (sym c.before.before.before.within.ensures ∙ c.before.s.given.1)
+second : (c : tie.In-At-within) → (y : ℕ) × (number (below c.module_number-count.result) c.args.numbers.now c.in-At.q ≡ got y c.in-At-within.s)
+second c = at_got _ _ (sym c.within.ensures ∙ c.in-At-within.is)
 
-related-module-requires : tie.Need-related-module-requires
-related-module-requires c κs = search rules
+related_module-requires : tie.Need-related_module-requires
+related_module-requires c κs = search rules
 
-enum-known-n : tie.Need-enum-known-n
-enum-known-n c = search rules
+enum_known-n : tie.Need-enum_known-n
+enum_known-n c = search rules
 
-enum-known-q : tie.Need-enum-known-q
-enum-known-q c = search rules
+enum_known-q : tie.Need-enum_known-q
+enum_known-q c = search rules
 
-mul_wide : tie.Need-overflow-mul-wide
-mul_wide c = omega (arith, (there c).inside)
+offset_bounds-numbers-at : tie.Need-offset_bounds-numbers-at
+offset_bounds-numbers-at c = omega (arith, (there c).inside)
 
-shared-slice-read-wide : tie.Need-shared-slice-read-wide
-shared-slice-read-wide c = (there c.before).inside
+bounds-numbers-at : tie.Need-bounds-numbers-at
+bounds-numbers-at c = (there c.before).inside
 
-wide-requires : tie.Need-wide-requires
-wide-requires c κs = search rules
+wide-m-requires : tie.Need-wide-m-requires
+wide-m-requires c κs = search rules
 
-module-number-requires : tie.Need-module-number-requires
-module-number-requires c κs = (c.before.before.before.before.before.before.before.before.requires.0, (in-header c, omega arith))
+module_number-count-requires : tie.Need-module_number-count-requires
+module_number-count-requires c κs = (c.requires.0, (in-header c, omega arith))
 
 within-requires : tie.Need-within-requires
 within-requires c κs = search rules
 
-enum-known-n-2 : tie.Need-enum-known-n-2
-enum-known-n-2 c = search rules
+enum_known-n-in-Fault-within : tie.Need-enum_known-n-in-Fault-within
+enum_known-n-in-Fault-within c = search rules
 
-enum-known-s : tie.Need-enum-known-s
-enum-known-s c = search rules
+enum_known-s : tie.Need-enum_known-s
+enum_known-s c = search rules
 
-related-import-record-requires : tie.Need-related-import-record-requires
-related-import-record-requires c κs = (c.before.before.before.before.before.before.before.before.before.before.before.before.before.requires.0, in-header c.before.before.before.before.before)
+related_import_record-requires : tie.Need-related_import_record-requires
+related_import_record-requires c κs = (c.requires.0, in-header c.before.before.before)
 
-enum-known-n-3 : tie.Need-enum-known-n-3
-enum-known-n-3 c = search rules
+enum_known-n-in-Fault-related_import_record : tie.Need-enum_known-n-in-Fault-related_import_record
+enum_known-n-in-Fault-related_import_record c = search rules
 
-enum-known-u : tie.Need-enum-known-u
-enum-known-u c = search rules
+enum_known-u : tie.Need-enum_known-u
+enum_known-u c = search rules
 
-within-requires-2 : tie.Need-within-requires-2
-within-requires-2 c κs = search rules
+within-requires-in-At-related_import_record : tie.Need-within-requires-in-At-related_import_record
+within-requires-in-At-related_import_record c κs = search rules
 
-returns : tie.Need-returns
-returns c = sym (related_stop _ _ _ _ _ (sym c.before.before.before.related-module.ensures ∙ c.before.n.given.1))
+returns-in-Fault : tie.Need-returns-in-Fault
+returns-in-Fault c = sym (related_stop _ _ _ _ _ (sym c.related_module.ensures ∙ c.in-Fault.is))
 
-returns-2 : tie.Need-returns-2
+returns-in-Fault-within : tie.Need-returns-in-Fault-within
 unfolding statements_of
-returns-2 c = sym (related-stop-statement _ _ _ _ _ _ _ (counted c.before.before.before.before.before.before.before).1 (same c.before.before.before.before.before) c.before.before.before.before.module-number.ensures (sym c.before.before.before.within.ensures ∙ c.before.n2.given.1))
+returns-in-Fault-within c = sym (related-stop-statement _ _ _ _ _ _ _ (counted c.before.before.before.before.before).1 (same c.before.before.before) c.module_number-count.ensures (sym c.within.ensures ∙ c.in-Fault-within.is))
 
-returns-3 : tie.Need-returns-3
+returns-in-Fault-related_import_record : tie.Need-returns-in-Fault-related_import_record
 unfolding statements_of
-returns-3 c = sym (related-stop-record _ _ _ _ _ _ _ (counted c.before.before.before.before.before.before.before.before.before.before.before).1 (same c.before.before.before.before.before.before.before.before.before) c.before.before.before.before.before.before.before.before.module-number.ensures (second c.before.before.before.before).1 (sym c.before.before.before.related-import-record.ensures ∙ c.before.n3.given.1))
+returns-in-Fault-related_import_record c = sym (related-stop-record _ _ _ _ _ _ _ (counted c.before.before.before.before.before.before.before).1 (same c.before.before.before.before.before) c.module_number-count.ensures (second c.before.before).1 (sym c.related_import_record.ensures ∙ c.in-Fault-related_import_record.is))
 
-returns-4 : tie.Need-returns-4
+returns-in-At-related_import_record : tie.Need-returns-in-At-related_import_record
 unfolding statements_of
-returns-4 c = let r = at_got _ _ (sym c.before.before.before.before.related-import-record.ensures ∙ c.before.before.u.given.1) in c.within2.ensures ∙ sym (related-last _ _ _ _ _ _ _ (counted c.before.before.before.before.before.before.before.before.before.before.before.before).1 (same c.before.before.before.before.before.before.before.before.before.before) c.before.before.before.before.before.before.before.before.before.module-number.ensures (second c.before.before.before.before.before).1 r.1)
+returns-in-At-related_import_record c = let r = at_got _ _ (sym c.related_import_record.ensures ∙ c.in-At-related_import_record.is) in c.within-in-At-related_import_record.ensures ∙ sym (related-last _ _ _ _ _ _ _ (counted c.before.before.before.before.before.before.before.before).1 (same c.before.before.before.before.before.before) c.module_number-count.ensures (second c.before.before.before).1 r.1)
 
-pub related-spec : {M : Type 1} → statement M
-related-spec =
+pub related_spec : {M : Type 1} → statement M
+related_spec =
     tie.close
     (tie.spec
-    related-module-requires
-    enum-known-n
-    enum-known-q
-    mul_wide
-    shared-slice-read-wide
-    wide-requires
-    module-number-requires
+    related_module-requires
+    enum_known-n
+    enum_known-q
+    offset_bounds-numbers-at
+    bounds-numbers-at
+    wide-m-requires
+    module_number-count-requires
     within-requires
-    enum-known-n-2
-    enum-known-s
-    related-import-record-requires
-    enum-known-n-3
-    enum-known-u
-    within-requires-2
-    returns
-    returns-2
-    returns-3
-    returns-4)
+    enum_known-n-in-Fault-within
+    enum_known-s
+    related_import_record-requires
+    enum_known-n-in-Fault-related_import_record
+    enum_known-u
+    within-requires-in-At-related_import_record
+    returns-in-Fault
+    returns-in-Fault-within
+    returns-in-Fault-related_import_record
+    returns-in-At-related_import_record)

@@ -19,62 +19,62 @@ use Rattle.graph_tables.proofs.rows_crate.wide.Reads as wide-reads
 use Rattle.graph_tables.proofs.rows_crate.within.Reads as within-reads
 
 -- the record's number that was read
-counted : (c : tie.After-known-told2) → let s = c.before.before.before.before.before.before.before in (x : ℕ) × (number (below c.before.before.before.before.import-record-count.result) s.args.numbers.now s.args.at ≡ got x c.before.q.given.0.0)
-counted c = at_got _ _ (sym c.before.before.before.within.ensures ∙ c.before.q.given.1)
+counted : (c : tie.In-At) → (x : ℕ) × (number (below c.import_record_count-count.result) c.args.numbers.now c.args.at ≡ got x c.in-At.q)
+counted c = at_got _ _ (sym c.within.ensures ∙ c.in-At.is)
 
-there : (c : tie.After-known-told2) → let s = c.before.before.before.before.before.before.before in Number (below c.before.before.before.before.import-record-count.result) s.args.numbers.now s.args.at (counted c).0 c.before.q.given.0.0
+there : (c : tie.In-At) → Number (below c.import_record_count-count.result) c.args.numbers.now c.args.at (counted c).0 c.in-At.q
 there c = number_got _ _ _ (counted c).1
 
-same : (c : tie.After-wide) → c.wide.result ≡ (counted c.before.before).0
-same c = c.wide.ensures ∙ sym (there c.before.before).same
+same : (c : tie.After-wide-k) → c.wide-k.result ≡ (counted c.before.before).0
+same c = c.wide-k.ensures ∙ sym (there c.before.before).same
 
-import-record-count-requires : tie.Need-import-record-count-requires
-import-record-count-requires c κs = search rules
+import_record_count-count-requires : tie.Need-import_record_count-count-requires
+import_record_count-count-requires c κs = search rules
 
 within-requires : tie.Need-within-requires
 within-requires c κs = search rules
 
-enum-known-n : tie.Need-enum-known-n
-enum-known-n c = search rules
+enum_known-n : tie.Need-enum_known-n
+enum_known-n c = search rules
 
-enum-known-q : tie.Need-enum-known-q
-enum-known-q c = search rules
+enum_known-q : tie.Need-enum_known-q
+enum_known-q c = search rules
 
-mul_wide : tie.Need-overflow-mul-wide
-mul_wide c = omega (arith, (there c).inside)
+offset_bounds-numbers-at : tie.Need-offset_bounds-numbers-at
+offset_bounds-numbers-at c = omega (arith, (there c).inside)
 
-shared-slice-read-wide : tie.Need-shared-slice-read-wide
-shared-slice-read-wide c = (there c.before).inside
+bounds-numbers-at : tie.Need-bounds-numbers-at
+bounds-numbers-at c = (there c.before).inside
 
-wide-requires : tie.Need-wide-requires
-wide-requires c κs = search rules
+wide-k-requires : tie.Need-wide-k-requires
+wide-k-requires c κs = search rules
 
-import-record-number-requires : tie.Need-import-record-number-requires
-import-record-number-requires c κs = let s = c.before.before.before.before.before.before.before.before.before in (s.requires.0, (s.requires.1, omega (arith, (there c.before.before).good.1, same c, c.before.before.before.before.before.before.import-record-count.ensures), omega arith))
+import_record_number-target-requires : tie.Need-import_record_number-target-requires
+import_record_number-target-requires c κs = (c.requires.0, (c.requires.1, omega (arith, (there c.before.before).good.1, same c, c.import_record_count-count.ensures), omega arith))
 
-returns : tie.Need-returns
-returns c = sym (record_stop _ _ _ _ c.before.before.before.before.import-record-count.ensures (sym c.before.before.before.within.ensures ∙ c.before.n.given.1))
+returns-in-Fault : tie.Need-returns-in-Fault
+returns-in-Fault c = sym (record_stop _ _ _ _ c.import_record_count-count.ensures (sym c.within.ensures ∙ c.in-Fault.is))
 
-returns-2 : tie.Need-returns-2
+returns-then-target-eq0 : tie.Need-returns-then-target-eq0
 unfolding walk_of
-returns-2 c = sym (ap walk_of (record_none _ _ _ _ c.before.before.before.before.before.before.before.before.import-record-count.ensures _ _ (counted c.before.before.before.before).1 (same c.before.before) c.before.import-record-number.ensures c.if1.true))
+returns-then-target-eq0 c = sym (ap walk_of (record_none _ _ _ _ c.import_record_count-count.ensures _ _ (counted c.before.before.before.before).1 (same c.before.before) c.import_record_number-target.ensures c.if-target-eq0.true))
 
-returns-3 : tie.Need-returns-3
+returns-else-target-eq0 : tie.Need-returns-else-target-eq0
 unfolding walk_of
-returns-3 c = sym (ap walk_of (record_some _ _ _ _ c.before.before.before.before.before.before.before.before.import-record-count.ensures _ _ (counted c.before.before.before.before).1 (same c.before.before) c.before.import-record-number.ensures c.if1.false))
+returns-else-target-eq0 c = sym (ap walk_of (record_some _ _ _ _ c.import_record_count-count.ensures _ _ (counted c.before.before.before.before).1 (same c.before.before) c.import_record_number-target.ensures c.if-target-eq0.false))
 
-pub related-import-record-spec : {M : Type 1} → statement M
-related-import-record-spec =
+pub related_import_record_spec : {M : Type 1} → statement M
+related_import_record_spec =
     tie.close
     (tie.spec
-    import-record-count-requires
+    import_record_count-count-requires
     within-requires
-    enum-known-n
-    enum-known-q
-    mul_wide
-    shared-slice-read-wide
-    wide-requires
-    import-record-number-requires
-    returns
-    returns-2
-    returns-3)
+    enum_known-n
+    enum_known-q
+    offset_bounds-numbers-at
+    bounds-numbers-at
+    wide-k-requires
+    import_record_number-target-requires
+    returns-in-Fault
+    returns-then-target-eq0
+    returns-else-target-eq0)

@@ -17,49 +17,49 @@ use Rattle.graph_tables.proofs.rows_crate.counter.Reads as counter-reads
 use Rattle.graph_tables.proofs.rows_crate.wide.Reads as wide-reads
 
 -- the count that was read
-counted : (c : tie.After-known-told2) → let s = c.before.before.before.before.before.before in (x : ℕ) × (number (count 16384 0 16385) s.args.numbers.now s.args.at ≡ got x c.before.q.given.0.0)
-counted c = at_got _ _ (sym c.before.before.before.counter.ensures ∙ c.before.q.given.1)
+counted : (c : tie.In-At) → (x : ℕ) × (number (count 16384 0 16385) c.args.numbers.now c.args.at ≡ got x c.in-At.q)
+counted c = at_got _ _ (sym c.counter.ensures ∙ c.in-At.is)
 
-there : (c : tie.After-known-told2) → let s = c.before.before.before.before.before.before in Number (count 16384 0 16385) s.args.numbers.now s.args.at (counted c).0 c.before.q.given.0.0
+there : (c : tie.In-At) → Number (count 16384 0 16385) c.args.numbers.now c.args.at (counted c).0 c.in-At.q
 there c = number_got _ _ _ (counted c).1
 
 counter-requires : tie.Need-counter-requires
 counter-requires c κs = search rules
 
-enum-known-n : tie.Need-enum-known-n
-enum-known-n c = search rules
+enum_known-n : tie.Need-enum_known-n
+enum_known-n c = search rules
 
-enum-known-q : tie.Need-enum-known-q
-enum-known-q c = search rules
+enum_known-q : tie.Need-enum_known-q
+enum_known-q c = search rules
 
-mul_wide : tie.Need-overflow-mul-wide
-mul_wide c = omega (arith, (there c).inside)
+offset_bounds-numbers-at : tie.Need-offset_bounds-numbers-at
+offset_bounds-numbers-at c = omega (arith, (there c).inside)
 
-shared-slice-read-wide : tie.Need-shared-slice-read-wide
-shared-slice-read-wide c = (there c.before).inside
+bounds-numbers-at : tie.Need-bounds-numbers-at
+bounds-numbers-at c = (there c.before).inside
 
-wide-requires : tie.Need-wide-requires
-wide-requires c κs = search rules
+wide-count-requires : tie.Need-wide-count-requires
+wide-count-requires c κs = search rules
 
-related-rows-requires : tie.Need-related-rows-requires
-related-rows-requires c κs = search rules
+related_rows-requires : tie.Need-related_rows-requires
+related_rows-requires c κs = search rules
 
-returns : tie.Need-returns
-returns c = sym (list_stop _ _ _ (sym c.before.before.before.counter.ensures ∙ c.before.n.given.1))
+returns-in-Fault : tie.Need-returns-in-Fault
+returns-in-Fault c = sym (list_stop _ _ _ (sym c.counter.ensures ∙ c.in-Fault.is))
 
-returns-2 : tie.Need-returns-2
-returns-2 c = c.related-rows.ensures ∙ sym (ap walk_of (list_go _ _ _ (counted c.before.before.before).1 ((there c.before.before.before).same ∙ sym c.before.wide.ensures)))
+returns-in-At : tie.Need-returns-in-At
+returns-in-At c = c.related_rows.ensures ∙ sym (ap walk_of (list_go _ _ _ (counted c.before.before.before).1 ((there c.before.before.before).same ∙ sym c.wide-count.ensures)))
 
-pub related-list-spec : {M : Type 1} → statement M
-related-list-spec =
+pub related_list_spec : {M : Type 1} → statement M
+related_list_spec =
     tie.close
     (tie.spec
     counter-requires
-    enum-known-n
-    enum-known-q
-    mul_wide
-    shared-slice-read-wide
-    wide-requires
-    related-rows-requires
-    returns
-    returns-2)
+    enum_known-n
+    enum_known-q
+    offset_bounds-numbers-at
+    bounds-numbers-at
+    wide-count-requires
+    related_rows-requires
+    returns-in-Fault
+    returns-in-At)

@@ -19,58 +19,58 @@ use Rattle.graph_tables.proofs.rows_crate.wide.Reads as wide-reads
 use Rattle.graph_tables.proofs.rows_crate.within.Reads as within-reads
 
 -- the module's number that was read
-counted : (c : tie.After-known-told2) → let s = c.before.before.before.before.before.before in (x : ℕ) × (number (below s.args.h.modules) s.args.numbers.now s.args.at ≡ got x c.before.q.given.0.0)
-counted c = at_got _ _ (sym c.before.before.before.within.ensures ∙ c.before.q.given.1)
+counted : (c : tie.In-At) → (x : ℕ) × (number (below c.args.h.modules) c.args.numbers.now c.args.at ≡ got x c.in-At.q)
+counted c = at_got _ _ (sym c.within.ensures ∙ c.in-At.is)
 
-there : (c : tie.After-known-told2) → let s = c.before.before.before.before.before.before in Number (below s.args.h.modules) s.args.numbers.now s.args.at (counted c).0 c.before.q.given.0.0
+there : (c : tie.In-At) → Number (below c.args.h.modules) c.args.numbers.now c.args.at (counted c).0 c.in-At.q
 there c = number_got _ _ _ (counted c).1
 
-same : (c : tie.After-wide) → c.wide.result ≡ (counted c.before.before).0
-same c = c.wide.ensures ∙ sym (there c.before.before).same
+same : (c : tie.After-wide-m) → c.wide-m.result ≡ (counted c.before.before).0
+same c = c.wide-m.ensures ∙ sym (there c.before.before).same
 
 within-requires : tie.Need-within-requires
 within-requires c κs = search rules
 
-enum-known-n : tie.Need-enum-known-n
-enum-known-n c = search rules
+enum_known-n : tie.Need-enum_known-n
+enum_known-n c = search rules
 
-enum-known-q : tie.Need-enum-known-q
-enum-known-q c = search rules
+enum_known-q : tie.Need-enum_known-q
+enum_known-q c = search rules
 
-mul_wide : tie.Need-overflow-mul-wide
-mul_wide c = omega (arith, (there c).inside)
+offset_bounds-numbers-at : tie.Need-offset_bounds-numbers-at
+offset_bounds-numbers-at c = omega (arith, (there c).inside)
 
-shared-slice-read-wide : tie.Need-shared-slice-read-wide
-shared-slice-read-wide c = (there c.before).inside
+bounds-numbers-at : tie.Need-bounds-numbers-at
+bounds-numbers-at c = (there c.before).inside
 
-wide-requires : tie.Need-wide-requires
-wide-requires c κs = search rules
+wide-m-requires : tie.Need-wide-m-requires
+wide-m-requires c κs = search rules
 
-module-number-requires : tie.Need-module-number-requires
-module-number-requires c κs = let s = c.before.before.before.before.before.before.before.before in (s.requires.0, (rw (sym s.requires.1) (omega (arith, (there c.before.before).good.1, same c)), omega arith))
+module_number-kind-requires : tie.Need-module_number-kind-requires
+module_number-kind-requires c κs = (c.requires.0, (rw (sym c.requires.1) (omega (arith, (there c.before.before).good.1, same c)), omega arith))
 
-returns : tie.Need-returns
-returns c = sym (module_stop _ _ _ _ (sym c.before.before.before.within.ensures ∙ c.before.n.given.1))
+returns-in-Fault : tie.Need-returns-in-Fault
+returns-in-Fault c = sym (module_stop _ _ _ _ (sym c.within.ensures ∙ c.in-Fault.is))
 
-returns-2 : tie.Need-returns-2
+returns-then-kind-eq1 : tie.Need-returns-then-kind-eq1
 unfolding kind_of walk_of
-returns-2 c = sym (ap walk_of (module_normal _ _ _ _ _ _ (counted c.before.before.before.before).1 (same c.before.before) c.before.module-number.ensures c.if1.true))
+returns-then-kind-eq1 c = sym (ap walk_of (module_normal _ _ _ _ _ _ (counted c.before.before.before.before).1 (same c.before.before) c.module_number-kind.ensures c.if-kind-eq1.true))
 
-returns-3 : tie.Need-returns-3
+returns-else-kind-eq1 : tie.Need-returns-else-kind-eq1
 unfolding kind_of walk_of
-returns-3 c = sym (ap walk_of (module_external _ _ _ _ _ _ (counted c.before.before.before.before).1 (same c.before.before) c.before.module-number.ensures c.if1.false))
+returns-else-kind-eq1 c = sym (ap walk_of (module_external _ _ _ _ _ _ (counted c.before.before.before.before).1 (same c.before.before) c.module_number-kind.ensures c.if-kind-eq1.false))
 
-pub related-module-spec : {M : Type 1} → statement M
-related-module-spec =
+pub related_module_spec : {M : Type 1} → statement M
+related_module_spec =
     tie.close
     (tie.spec
     within-requires
-    enum-known-n
-    enum-known-q
-    mul_wide
-    shared-slice-read-wide
-    wide-requires
-    module-number-requires
-    returns
-    returns-2
-    returns-3)
+    enum_known-n
+    enum_known-q
+    offset_bounds-numbers-at
+    bounds-numbers-at
+    wide-m-requires
+    module_number-kind-requires
+    returns-in-Fault
+    returns-then-kind-eq1
+    returns-else-kind-eq1)

@@ -16,53 +16,53 @@ use Rattle.graph_entries.proofs.related_rows.Reads as reads
 use Rattle.graph_entries.proofs.related_rows.Lts as lts
 use Rattle.graph_entries.proofs.related.Reads as related-reads
 
-abbrev invariant-loop : tie.invariant-loop
-invariant-loop numbers modules at count h k₀ q₀ k q = (s : List ℕ) × (done : List (List ℕ)) × Going (related_at h (modules_in numbers) numbers) firsts count [] at k q s done
+abbrev invariant-loop-k : tie.invariant-loop-k
+invariant-loop-k numbers modules at count h k₀ q₀ k q = (s : List ℕ) × (done : List (List ℕ)) × Going (related_at h (modules_in numbers) numbers) firsts count [] at k q s done
 
-abbrev decreases-loop : tie.decreases-loop
-decreases-loop numbers modules at count h k₀ q₀ k q = count - k
+abbrev decreases-loop-k : tie.decreases-loop-k
+decreases-loop-k numbers modules at count h k₀ q₀ k q = count - k
 
-loop-holds : tie.Need-loop-init invariant-loop decreases-loop
-loop-holds c = ([], [], going_start _ _ _ _ _)
+loop-k-init : tie.Need-loop-k-init invariant-loop-k decreases-loop-k
+loop-k-init c = ([], [], going_start _ _ _ _ _)
 
-related-requires : tie.Need-related-requires invariant-loop decreases-loop
-related-requires c κs = let s = c.before.before.before.before in (s.requires.0, s.requires.1)
+related-requires : tie.Need-related-requires invariant-loop-k decreases-loop-k
+related-requires c κs = (c.requires.0, c.requires.1)
 
-enum-known-n : tie.Need-enum-known-n invariant-loop decreases-loop
-enum-known-n c = search rules
+enum_known-n : tie.Need-enum_known-n invariant-loop-k decreases-loop-k
+enum_known-n c = search rules
 
-returns : tie.Need-returns invariant-loop decreases-loop
+returns-in-Fault : tie.Need-returns-in-Fault invariant-loop-k decreases-loop-k
 unfolding related_at
-returns c = let l = c.before.before.before.before.before.loop.invariant in going_stop _ _ _ _ _ l.2 c.before.before.before.before.loop-test.true (sym c.before.before.before.related.ensures ∙ c.before.n.given.1)
+returns-in-Fault c = let l = c.loop-k.invariant in going_stop _ _ _ _ _ l.2 c.loop-k-test.true (sym c.related.ensures ∙ c.in-Fault.is)
 
-enum-known-next : tie.Need-enum-known-next invariant-loop decreases-loop
-enum-known-next c = search rules
+enum_known-next : tie.Need-enum_known-next invariant-loop-k decreases-loop-k
+enum_known-next c = search rules
 
-add-k : tie.Need-overflow-add-k invariant-loop decreases-loop
-add-k c = search rules
+overflow_add-k : tie.Need-overflow_add-k invariant-loop-k decreases-loop-k
+overflow_add-k c = search rules
 
-loop-less : tie.Need-loop-smaller invariant-loop decreases-loop
-loop-less c = search rules
+loop-k-smaller : tie.Need-loop-k-smaller invariant-loop-k decreases-loop-k
+loop-k-smaller c = search rules
 
-loop-again : tie.Need-loop-preserved invariant-loop decreases-loop
+loop-k-preserved : tie.Need-loop-k-preserved invariant-loop-k decreases-loop-k
 unfolding related_at
-loop-again c = let l = c.before.before.before.before.before.loop.invariant in let g = at_got _ _ (sym c.before.before.before.related.ensures ∙ c.before.next.given.1) in (firsts l.0 g.0, l.1 ++ (g.0 ∷ []), going_step _ _ _ _ _ l.2 c.before.before.before.before.loop-test.true g.1)
+loop-k-preserved c = let l = c.loop-k.invariant in let g = at_got _ _ (sym c.related.ensures ∙ c.in-At.is) in (firsts l.0 g.0, l.1 ++ (g.0 ∷ []), going_step _ _ _ _ _ l.2 c.loop-k-test.true g.1)
 
-returns-2 : tie.Need-returns-2 invariant-loop decreases-loop
-returns-2 c = going_end _ _ _ _ _ c.before.loop.invariant.2 c.loop-test.false
+returns : tie.Need-returns invariant-loop-k decreases-loop-k
+returns c = going_end _ _ _ _ _ c.loop-k.invariant.2 c.loop-k-test.false
 
-pub related-rows-spec : {M : Type 1} → statement M
-related-rows-spec =
+pub related_rows_spec : {M : Type 1} → statement M
+related_rows_spec =
     tie.close
     (tie.spec
-    invariant-loop
-    decreases-loop
-    loop-holds
+    invariant-loop-k
+    decreases-loop-k
+    loop-k-init
     related-requires
-    enum-known-n
-    returns
-    enum-known-next
-    add-k
-    loop-less
-    loop-again
-    returns-2)
+    enum_known-n
+    returns-in-Fault
+    enum_known-next
+    overflow_add-k
+    loop-k-smaller
+    loop-k-preserved
+    returns)

@@ -13,23 +13,30 @@ use Rattle.rows.proofs.rows.Reads as rows-reads
 row-requires : tie.Need-row-requires
 row-requires c κs = search rules
 
-enum-known-n : tie.Need-enum-known-n
-enum-known-n c = search rules
+enum_known-n : tie.Need-enum_known-n
+enum_known-n c = search rules
 
-enum-known-a : tie.Need-enum-known-a
-enum-known-a c = search rules
+enum_known-a : tie.Need-enum_known-a
+enum_known-a c = search rules
 
 rows-requires : tie.Need-rows-requires
 rows-requires c κs = search rules
 
-returns : tie.Need-returns
+returns-in-Fault : tie.Need-returns-in-Fault
 unfolding columns_of plain_row
-returns c = sym (depended_stop _ _ _ (sym c.before.before.before.row.ensures ∙ c.before.n.given.1))
+returns-in-Fault c = sym (depended_stop _ _ _ (sym c.row.ensures ∙ c.in-Fault.is))
 
-returns-2 : tie.Need-returns-2
+returns-in-At : tie.Need-returns-in-At
 unfolding columns_of plain_row row_of
-returns-2 c = c.rows.ensures ∙ sym (depended_go _ _ _ (sym c.before.before.before.before.row.ensures ∙ c.before.before.a.given.1))
+returns-in-At c = c.rows.ensures ∙ sym (depended_go _ _ _ (sym c.row.ensures ∙ c.in-At.is))
 
-pub depended-spec : {M : Type 1} → statement M
-depended-spec =
-    tie.close (tie.spec row-requires enum-known-n enum-known-a rows-requires returns returns-2)
+pub depended_spec : {M : Type 1} → statement M
+depended_spec =
+    tie.close
+    (tie.spec
+    row-requires
+    enum_known-n
+    enum_known-a
+    rows-requires
+    returns-in-Fault
+    returns-in-At)

@@ -13,47 +13,47 @@ use Rattle.rows.proofs.rows.Reads as rows-reads
 rows-requires : tie.Need-rows-requires
 rows-requires c κs = search rules
 
-enum-known-n : tie.Need-enum-known-n
-enum-known-n c = search rules
+enum_known-n : tie.Need-enum_known-n
+enum_known-n c = search rules
 
-enum-known-a : tie.Need-enum-known-a
-enum-known-a c = search rules
+enum_known-a : tie.Need-enum_known-a
+enum_known-a c = search rules
 
-rows-requires-2 : tie.Need-rows-requires-2
-rows-requires-2 c κs = search rules
+rows-requires-in-At : tie.Need-rows-requires-in-At
+rows-requires-in-At c κs = search rules
 
-enum-known-n-2 : tie.Need-enum-known-n-2
-enum-known-n-2 c = search rules
+enum_known-n-in-Fault-rows-2 : tie.Need-enum_known-n-in-Fault-rows-2
+enum_known-n-in-Fault-rows-2 c = search rules
 
-enum-known-b : tie.Need-enum-known-b
-enum-known-b c = search rules
+enum_known-b : tie.Need-enum_known-b
+enum_known-b c = search rules
 
-rows-requires-3 : tie.Need-rows-requires-3
-rows-requires-3 c κs = search rules
+rows-requires-in-At-rows : tie.Need-rows-requires-in-At-rows
+rows-requires-in-At-rows c κs = search rules
 
-returns : tie.Need-returns
+returns-in-Fault : tie.Need-returns-in-Fault
 unfolding row_of columns_of export_lists
-returns c = sym (lists_stop _ _ _ _ (sym c.before.before.before.rows.ensures ∙ c.before.n.given.1))
+returns-in-Fault c = sym (lists_stop _ _ _ _ (sym c.rows.ensures ∙ c.in-Fault.is))
 
-returns-2 : tie.Need-returns-2
+returns-in-Fault-rows : tie.Need-returns-in-Fault-rows
 unfolding row_of columns_of export_lists
-returns-2 c = sym (lists_go _ _ _ _ (sym c.before.before.before.before.before.before.before.rows.ensures ∙ c.before.before.before.before.before.a.given.1) ∙ lists_stop _ _ _ _ (sym c.before.before.before.rows2.ensures ∙ c.before.n2.given.1))
+returns-in-Fault-rows c = sym (lists_go _ _ _ _ (sym c.rows.ensures ∙ c.in-At.is) ∙ lists_stop _ _ _ _ (sym c.rows-in-At.ensures ∙ c.in-Fault-rows.is))
 
-returns-3 : tie.Need-returns-3
+returns-in-At-rows : tie.Need-returns-in-At-rows
 unfolding row_of columns_of export_lists
-returns-3 c = c.rows3.ensures ∙ sym (lists_go _ _ _ _ (sym c.before.before.before.before.before.before.before.before.rows.ensures ∙ c.before.before.before.before.before.before.a.given.1) ∙ lists_go _ _ _ _ (sym c.before.before.before.before.rows2.ensures ∙ c.before.before.b.given.1) ∙ lists_one _ _ _)
+returns-in-At-rows c = c.rows-in-At-rows.ensures ∙ sym (lists_go _ _ _ _ (sym c.rows.ensures ∙ c.in-At.is) ∙ lists_go _ _ _ _ (sym c.rows-in-At.ensures ∙ c.in-At-rows.is) ∙ lists_one _ _ _)
 
-pub export-lists-spec : {M : Type 1} → statement M
-export-lists-spec =
+pub export_lists_spec : {M : Type 1} → statement M
+export_lists_spec =
     tie.close
     (tie.spec
     rows-requires
-    enum-known-n
-    enum-known-a
-    rows-requires-2
-    enum-known-n-2
-    enum-known-b
-    rows-requires-3
-    returns
-    returns-2
-    returns-3)
+    enum_known-n
+    enum_known-a
+    rows-requires-in-At
+    enum_known-n-in-Fault-rows-2
+    enum_known-b
+    rows-requires-in-At-rows
+    returns-in-Fault
+    returns-in-Fault-rows
+    returns-in-At-rows)

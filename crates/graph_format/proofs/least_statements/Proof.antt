@@ -6,14 +6,19 @@ use Rattle.graph_format.proofs.least_statements.Tie as tie
 use Rattle.graph_format.proofs.least_statements.Reads as reads
 use Rattle.graph_format.proofs.least_statements.Lts as lts
 
+returns-then-left-kind : tie.Need-returns-then-left-kind
+returns-then-left-kind c = least_kind _ _ _ c.if-last.true c.if-left-kind.true
+
+returns-then-last : tie.Need-returns-then-last
+returns-then-last c = least_left _ _ _ c.if-last.true c.if-left-kind.false
+
 returns : tie.Need-returns
-returns c = least_kind _ _ _ c.before.if1.true c.if2.true
+returns c = least_other _ _ _ c.if-last.false
 
-returns-2 : tie.Need-returns-2
-returns-2 c = least_left _ _ _ c.before.if1.true c.if2.false
-
-returns-3 : tie.Need-returns-3
-returns-3 c = least_other _ _ _ c.if1.false
-
-pub least-statements-spec : {M : Type 1} → statement M
-least-statements-spec = tie.close (tie.spec returns returns-2 returns-3)
+pub least_statements_spec : {M : Type 1} → statement M
+least_statements_spec =
+    tie.close
+    (tie.spec
+    returns-then-left-kind
+    returns-then-last
+    returns)

@@ -15,82 +15,82 @@ use Rattle.graph_format.proofs.module_head.Reads as module-head-reads
 use Rattle.graph_format.proofs.name_lists.Reads as name-lists-reads
 use Rattle.rows.proofs.wide.Reads as wide-reads
 
-module-head-requires : tie.Need-module-head-requires
-module-head-requires c κs = search rules
+module_head-requires : tie.Need-module_head-requires
+module_head-requires c κs = search rules
 
-enum-known-n : tie.Need-enum-known-n
-enum-known-n c = search rules
+enum_known-n : tie.Need-enum_known-n
+enum_known-n c = search rules
 
-enum-known-a : tie.Need-enum-known-a
-enum-known-a c = search rules
+enum_known-a : tie.Need-enum_known-a
+enum_known-a c = search rules
 
-add_wide : tie.Need-overflow-add-wide
-add_wide c = let s = c.before.before.before.before.before in omega (arith, module_inside s.args.h s.args.numbers.now s.args.left s.args.at (sym c.before.before.before.module-head.ensures ∙ c.before.a.given.1))
+overflow_add-at : tie.Need-overflow_add-at
+overflow_add-at c = omega (arith, module_inside c.args.h c.args.numbers.now c.args.left c.args.at (sym c.module_head.ensures ∙ c.in-At.is))
 
-mul_wide : tie.Need-overflow-mul-wide
-mul_wide c = let s = c.before.before.before.before.before in omega (arith, module_inside s.args.h s.args.numbers.now s.args.left s.args.at (sym c.before.before.before.module-head.ensures ∙ c.before.a.given.1))
+offset_bounds-numbers-at : tie.Need-offset_bounds-numbers-at
+offset_bounds-numbers-at c = omega (arith, module_inside c.args.h c.args.numbers.now c.args.left c.args.at (sym c.module_head.ensures ∙ c.in-At.is))
 
-shared-slice-read-wide : tie.Need-shared-slice-read-wide
-shared-slice-read-wide c = let s = c.before.before.before.before.before.before in module_inside s.args.h s.args.numbers.now s.args.left s.args.at (sym c.before.before.before.before.module-head.ensures ∙ c.before.before.a.given.1)
+bounds-numbers-at : tie.Need-bounds-numbers-at
+bounds-numbers-at c = module_inside c.args.h c.args.numbers.now c.args.left c.args.at (sym c.module_head.ensures ∙ c.in-At.is)
 
-wide-requires : tie.Need-wide-requires
-wide-requires c κs = search rules
+wide-count-requires : tie.Need-wide-count-requires
+wide-count-requires c κs = search rules
 
-import-lists-requires : tie.Need-import-lists-requires
-import-lists-requires c κs = search rules
+import_lists-requires : tie.Need-import_lists-requires
+import_lists-requires c κs = search rules
 
-enum-known-n-2 : tie.Need-enum-known-n-2
-enum-known-n-2 c = search rules
+enum_known-n-in-Fault-import_lists : tie.Need-enum_known-n-in-Fault-import_lists
+enum_known-n-in-Fault-import_lists c = search rules
 
-enum-known-b : tie.Need-enum-known-b
-enum-known-b c = search rules
+enum_known-b : tie.Need-enum_known-b
+enum_known-b c = search rules
 
-export-lists-requires : tie.Need-export-lists-requires
-export-lists-requires c κs = search rules
+export_lists-requires : tie.Need-export_lists-requires
+export_lists-requires c κs = search rules
 
-enum-known-n-3 : tie.Need-enum-known-n-3
-enum-known-n-3 c = search rules
+enum_known-n-in-Fault-export_lists : tie.Need-enum_known-n-in-Fault-export_lists
+enum_known-n-in-Fault-export_lists c = search rules
 
-enum-known-c : tie.Need-enum-known-c
-enum-known-c c = search rules
+enum_known-c : tie.Need-enum_known-c
+enum_known-c c = search rules
 
-name-lists-requires : tie.Need-name-lists-requires
-name-lists-requires c κs = search rules
+name_lists-requires : tie.Need-name_lists-requires
+name_lists-requires c κs = search rules
 
-returns : tie.Need-returns
-returns c = sym (module_stop _ _ _ _ (sym c.before.before.before.module-head.ensures ∙ c.before.n.given.1))
+returns-in-Fault : tie.Need-returns-in-Fault
+returns-in-Fault c = sym (module_stop _ _ _ _ (sym c.module_head.ensures ∙ c.in-Fault.is))
 
-returns-2 : tie.Need-returns-2
+returns-in-Fault-import_lists : tie.Need-returns-in-Fault-import_lists
 unfolding module_lists
-returns-2 c = sym (module_go _ _ _ _ (sym c.before.before.before.before.before.before.before.before.before.module-head.ensures ∙ c.before.before.before.before.before.before.before.a.given.1) c.before.before.before.before.wide.ensures ∙ group_stop _ _ _ _ (sym c.before.before.before.import-lists.ensures ∙ c.before.n2.given.1))
+returns-in-Fault-import_lists c = sym (module_go _ _ _ _ (sym c.module_head.ensures ∙ c.in-At.is) c.wide-count.ensures ∙ group_stop _ _ _ _ (sym c.import_lists.ensures ∙ c.in-Fault-import_lists.is))
 
-returns-3 : tie.Need-returns-3
+returns-in-Fault-export_lists : tie.Need-returns-in-Fault-export_lists
 unfolding module_lists
-returns-3 c = sym (module_go _ _ _ _ (sym c.before.before.before.before.before.before.before.before.before.before.before.before.before.module-head.ensures ∙ c.before.before.before.before.before.before.before.before.before.before.before.a.given.1) c.before.before.before.before.before.before.before.before.wide.ensures ∙ group_go _ _ _ _ (sym c.before.before.before.before.before.before.before.import-lists.ensures ∙ c.before.before.before.before.before.b.given.1) ∙ group_stop _ _ _ _ (sym c.before.before.before.export-lists.ensures ∙ c.before.n3.given.1))
+returns-in-Fault-export_lists c = sym (module_go _ _ _ _ (sym c.module_head.ensures ∙ c.in-At.is) c.wide-count.ensures ∙ group_go _ _ _ _ (sym c.import_lists.ensures ∙ c.in-At-import_lists.is) ∙ group_stop _ _ _ _ (sym c.export_lists.ensures ∙ c.in-Fault-export_lists.is))
 
-returns-4 : tie.Need-returns-4
+returns-in-At-export_lists : tie.Need-returns-in-At-export_lists
 unfolding module_lists
-returns-4 c = c.name-lists.ensures ∙ sym (module_go _ _ _ _ (sym c.before.before.before.before.before.before.before.before.before.before.before.before.before.before.module-head.ensures ∙ c.before.before.before.before.before.before.before.before.before.before.before.before.a.given.1) c.before.before.before.before.before.before.before.before.before.wide.ensures ∙ group_go _ _ _ _ (sym c.before.before.before.before.before.before.before.before.import-lists.ensures ∙ c.before.before.before.before.before.before.b.given.1) ∙ group_go _ _ _ _ (sym c.before.before.before.before.export-lists.ensures ∙ c.before.before.c.given.1))
+returns-in-At-export_lists c = c.name_lists.ensures ∙ sym (module_go _ _ _ _ (sym c.module_head.ensures ∙ c.in-At.is) c.wide-count.ensures ∙ group_go _ _ _ _ (sym c.import_lists.ensures ∙ c.in-At-import_lists.is) ∙ group_go _ _ _ _ (sym c.export_lists.ensures ∙ c.in-At-export_lists.is))
 
-pub module-spec : {M : Type 1} → statement M
-module-spec =
+pub module_spec : {M : Type 1} → statement M
+module_spec =
     tie.close
     (tie.spec
-    module-head-requires
-    enum-known-n
-    enum-known-a
-    add_wide
-    mul_wide
-    shared-slice-read-wide
-    wide-requires
-    import-lists-requires
-    enum-known-n-2
-    enum-known-b
-    export-lists-requires
-    enum-known-n-3
-    enum-known-c
-    name-lists-requires
-    returns
-    returns-2
-    returns-3
-    returns-4)
+    module_head-requires
+    enum_known-n
+    enum_known-a
+    overflow_add-at
+    offset_bounds-numbers-at
+    bounds-numbers-at
+    wide-count-requires
+    import_lists-requires
+    enum_known-n-in-Fault-import_lists
+    enum_known-b
+    export_lists-requires
+    enum_known-n-in-Fault-export_lists
+    enum_known-c
+    name_lists-requires
+    returns-in-Fault
+    returns-in-Fault-import_lists
+    returns-in-Fault-export_lists
+    returns-in-At-export_lists)

@@ -15,90 +15,90 @@ use Rattle.rows.proofs.row.Reads as row_reads
 use Rattle.rows.proofs.wide.Reads as wide-reads
 use Rattle.rows.proofs.within.Reads as within-reads
 
-mul_wide : tie.Need-overflow-mul-wide
-mul_wide c = search rules
+offset_bounds-numbers-at : tie.Need-offset_bounds-numbers-at
+offset_bounds-numbers-at c = search rules
 
-shared-slice-read-wide : tie.Need-shared-slice-read-wide
-shared-slice-read-wide c = search rules
+bounds-numbers-at : tie.Need-bounds-numbers-at
+bounds-numbers-at c = search rules
 
-wide-requires : tie.Need-wide-requires
-wide-requires c κs = search rules
+wide-kind-requires : tie.Need-wide-kind-requires
+wide-kind-requires c κs = search rules
 
-namespace-limit-requires : tie.Need-namespace-limit-requires
-namespace-limit-requires c κs = search rules
+namespace_limit-highest-requires : tie.Need-namespace_limit-highest-requires
+namespace_limit-highest-requires c κs = search rules
 
-least-statements-requires : tie.Need-least-statements-requires
-least-statements-requires c κs = search rules
+least_statements-least-requires : tie.Need-least_statements-least-requires
+least_statements-least-requires c κs = search rules
 
-statement-limit-requires : tie.Need-statement-limit-requires
-statement-limit-requires c κs = search rules
+statement_limit-limit-requires : tie.Need-statement_limit-limit-requires
+statement_limit-limit-requires c κs = search rules
 
 within-requires : tie.Need-within-requires
 within-requires c κs = search rules
 
-enum-known-n : tie.Need-enum-known-n
-enum-known-n c = search rules
+enum_known-n : tie.Need-enum_known-n
+enum_known-n c = search rules
 
-enum-known-a : tie.Need-enum-known-a
-enum-known-a c = search rules
+enum_known-a : tie.Need-enum_known-a
+enum_known-a c = search rules
 
 row-requires : tie.Need-row-requires
 row-requires c κs = search rules
 
-enum-known-n-2 : tie.Need-enum-known-n-2
-enum-known-n-2 c = search rules
+enum_known-n-in-Fault-row : tie.Need-enum_known-n-in-Fault-row
+enum_known-n-in-Fault-row c = search rules
 
-enum-known-b : tie.Need-enum-known-b
-enum-known-b c = search rules
+enum_known-b : tie.Need-enum_known-b
+enum_known-b c = search rules
 
-within-requires-2 : tie.Need-within-requires-2
-within-requires-2 c κs = search rules
+within-requires-in-At-row : tie.Need-within-requires-in-At-row
+within-requires-in-At-row c κs = search rules
 
-enum-known-n-3 : tie.Need-enum-known-n-3
-enum-known-n-3 c = search rules
+enum_known-n-in-Fault-within-2 : tie.Need-enum_known-n-in-Fault-within-2
+enum_known-n-in-Fault-within-2 c = search rules
 
-enum-known-c : tie.Need-enum-known-c
-enum-known-c c = search rules
+enum_known-c : tie.Need-enum_known-c
+enum_known-c c = search rules
 
-row-requires-2 : tie.Need-row-requires-2
-row-requires-2 c κs = search rules
+row-requires-in-At-within : tie.Need-row-requires-in-At-within
+row-requires-in-At-within c κs = search rules
 
-returns : tie.Need-returns
-returns c = sym (cells_stop _ _ _ _ (sym c.before.before.before.within.ensures ∙ c.before.n.given.1)) ∙ (let s = c.before.before.before.before.before.before.before.before.before.before.before in counts_are s.args.h s.args.numbers.now s.args.left s.args.at s.args.q c.before.before.before.before.before.before.before.before.wide.ensures c.before.before.before.before.before.before.before.namespace-limit.ensures c.before.before.before.before.before.least-statements.ensures c.before.before.before.before.statement-limit.ensures)
+returns-in-Fault : tie.Need-returns-in-Fault
+returns-in-Fault c = sym (cells_stop _ _ _ _ (sym c.within.ensures ∙ c.in-Fault.is)) ∙ (counts_are c.args.h c.args.numbers.now c.args.left c.args.at c.args.q c.wide-kind.ensures c.namespace_limit-highest.ensures c.least_statements-least.ensures c.statement_limit-limit.ensures)
 
-returns-2 : tie.Need-returns-2
+returns-in-Fault-row : tie.Need-returns-in-Fault-row
 unfolding columns_of
-returns-2 c = sym (cells_go _ _ _ _ (sym c.before.before.before.before.before.before.before.within.ensures ∙ c.before.before.before.before.before.a.given.1) ∙ row_stop (_ ∷ []) _ _ _ (sym c.before.before.before.row.ensures ∙ c.before.n2.given.1)) ∙ (let s = c.before.before.before.before.before.before.before.before.before.before.before.before.before.before.before in counts_are s.args.h s.args.numbers.now s.args.left s.args.at s.args.q c.before.before.before.before.before.before.before.before.before.before.before.before.wide.ensures c.before.before.before.before.before.before.before.before.before.before.before.namespace-limit.ensures c.before.before.before.before.before.before.before.before.before.least-statements.ensures c.before.before.before.before.before.before.before.before.statement-limit.ensures)
+returns-in-Fault-row c = sym (cells_go _ _ _ _ (sym c.within.ensures ∙ c.in-At.is) ∙ row_stop (_ ∷ []) _ _ _ (sym c.row.ensures ∙ c.in-Fault-row.is)) ∙ (counts_are c.args.h c.args.numbers.now c.args.left c.args.at c.args.q c.wide-kind.ensures c.namespace_limit-highest.ensures c.least_statements-least.ensures c.statement_limit-limit.ensures)
 
-returns-3 : tie.Need-returns-3
+returns-in-Fault-within : tie.Need-returns-in-Fault-within
 unfolding columns_of
-returns-3 c = sym (cells_go _ _ _ _ (sym c.before.before.before.before.before.before.before.before.before.before.before.within.ensures ∙ c.before.before.before.before.before.before.before.before.before.a.given.1) ∙ row_go (_ ∷ []) _ _ _ (sym c.before.before.before.before.before.before.before.row.ensures ∙ c.before.before.before.before.before.b.given.1) ∙ cells_stop _ _ _ _ (sym c.before.before.before.within2.ensures ∙ c.before.n3.given.1)) ∙ (let s = c.before.before.before.before.before.before.before.before.before.before.before.before.before.before.before.before.before.before.before in counts_are s.args.h s.args.numbers.now s.args.left s.args.at s.args.q c.before.before.before.before.before.before.before.before.before.before.before.before.before.before.before.before.wide.ensures c.before.before.before.before.before.before.before.before.before.before.before.before.before.before.before.namespace-limit.ensures c.before.before.before.before.before.before.before.before.before.before.before.before.before.least-statements.ensures c.before.before.before.before.before.before.before.before.before.before.before.before.statement-limit.ensures)
+returns-in-Fault-within c = sym (cells_go _ _ _ _ (sym c.within.ensures ∙ c.in-At.is) ∙ row_go (_ ∷ []) _ _ _ (sym c.row.ensures ∙ c.in-At-row.is) ∙ cells_stop _ _ _ _ (sym c.within-in-At-row.ensures ∙ c.in-Fault-within.is)) ∙ (counts_are c.args.h c.args.numbers.now c.args.left c.args.at c.args.q c.wide-kind.ensures c.namespace_limit-highest.ensures c.least_statements-least.ensures c.statement_limit-limit.ensures)
 
-returns-4 : tie.Need-returns-4
+returns-in-At-within : tie.Need-returns-in-At-within
 unfolding columns_of plain_row
-returns-4 c = c.row2.ensures ∙ sym (cells_go _ _ _ _ (sym c.before.before.before.before.before.before.before.before.before.before.before.before.within.ensures ∙ c.before.before.before.before.before.before.before.before.before.before.a.given.1) ∙ row_go (_ ∷ []) _ _ _ (sym c.before.before.before.before.before.before.before.before.row.ensures ∙ c.before.before.before.before.before.before.b.given.1) ∙ cells_go _ _ _ _ (sym c.before.before.before.before.within2.ensures ∙ c.before.before.c.given.1)) ∙ (let s = c.before.before.before.before.before.before.before.before.before.before.before.before.before.before.before.before.before.before.before.before in counts_are s.args.h s.args.numbers.now s.args.left s.args.at s.args.q c.before.before.before.before.before.before.before.before.before.before.before.before.before.before.before.before.before.wide.ensures c.before.before.before.before.before.before.before.before.before.before.before.before.before.before.before.before.namespace-limit.ensures c.before.before.before.before.before.before.before.before.before.before.before.before.before.before.least-statements.ensures c.before.before.before.before.before.before.before.before.before.before.before.before.before.statement-limit.ensures)
+returns-in-At-within c = c.row-in-At-within.ensures ∙ sym (cells_go _ _ _ _ (sym c.within.ensures ∙ c.in-At.is) ∙ row_go (_ ∷ []) _ _ _ (sym c.row.ensures ∙ c.in-At-row.is) ∙ cells_go _ _ _ _ (sym c.within-in-At-row.ensures ∙ c.in-At-within.is)) ∙ (counts_are c.args.h c.args.numbers.now c.args.left c.args.at c.args.q c.wide-kind.ensures c.namespace_limit-highest.ensures c.least_statements-least.ensures c.statement_limit-limit.ensures)
 
-pub module-counts-spec : {M : Type 1} → statement M
-module-counts-spec =
+pub module_counts_spec : {M : Type 1} → statement M
+module_counts_spec =
     tie.close
     (tie.spec
-    mul_wide
-    shared-slice-read-wide
-    wide-requires
-    namespace-limit-requires
-    least-statements-requires
-    statement-limit-requires
+    offset_bounds-numbers-at
+    bounds-numbers-at
+    wide-kind-requires
+    namespace_limit-highest-requires
+    least_statements-least-requires
+    statement_limit-limit-requires
     within-requires
-    enum-known-n
-    enum-known-a
+    enum_known-n
+    enum_known-a
     row-requires
-    enum-known-n-2
-    enum-known-b
-    within-requires-2
-    enum-known-n-3
-    enum-known-c
-    row-requires-2
-    returns
-    returns-2
-    returns-3
-    returns-4)
+    enum_known-n-in-Fault-row
+    enum_known-b
+    within-requires-in-At-row
+    enum_known-n-in-Fault-within-2
+    enum_known-c
+    row-requires-in-At-within
+    returns-in-Fault
+    returns-in-Fault-row
+    returns-in-Fault-within
+    returns-in-At-within)

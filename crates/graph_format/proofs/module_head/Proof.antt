@@ -12,72 +12,72 @@ use Rattle.graph_format.proofs.module_head.Lts as lts
 use Rattle.graph_format.proofs.module_counts.Reads as module-counts-reads
 use Rattle.rows.proofs.row.Reads as row_reads
 
-add-wrapper : tie.Need-overflow-add-wrapper
-add-wrapper c = search rules
+overflow_add-wrapper : tie.Need-overflow_add-wrapper
+overflow_add-wrapper c = search rules
 
 row-requires : tie.Need-row-requires
 row-requires c κs = search rules
 
-enum-known-n : tie.Need-enum-known-n
-enum-known-n c = search rules
+enum_known-n : tie.Need-enum_known-n
+enum_known-n c = search rules
 
-enum-known-a : tie.Need-enum-known-a
-enum-known-a c = search rules
+enum_known-a : tie.Need-enum_known-a
+enum_known-a c = search rules
 
-row-requires-2 : tie.Need-row-requires-2
-row-requires-2 c κs = search rules
+row-requires-in-At : tie.Need-row-requires-in-At
+row-requires-in-At c κs = search rules
 
-enum-known-n-2 : tie.Need-enum-known-n-2
-enum-known-n-2 c = search rules
+enum_known-n-in-Fault-row-2 : tie.Need-enum_known-n-in-Fault-row-2
+enum_known-n-in-Fault-row-2 c = search rules
 
-enum-known-b : tie.Need-enum-known-b
-enum-known-b c = search rules
+enum_known-b : tie.Need-enum_known-b
+enum_known-b c = search rules
 
-row-requires-3 : tie.Need-row-requires-3
-row-requires-3 c κs = search rules
+row-requires-in-At-row : tie.Need-row-requires-in-At-row
+row-requires-in-At-row c κs = search rules
 
-enum-known-n-3 : tie.Need-enum-known-n-3
-enum-known-n-3 c = search rules
+enum_known-n-in-Fault-row-3 : tie.Need-enum_known-n-in-Fault-row-3
+enum_known-n-in-Fault-row-3 c = search rules
 
-enum-known-c : tie.Need-enum-known-c
-enum-known-c c = search rules
+enum_known-c : tie.Need-enum_known-c
+enum_known-c c = search rules
 
-module-counts-requires : tie.Need-module-counts-requires
+module_counts-requires : tie.Need-module_counts-requires
 unfolding columns_of plain_row
-module-counts-requires c κs = omega (arith, cells_inside _ _ _ _ (sym c.before.before.before.before.before.before.before.before.before.before.before.row.ensures ∙ c.before.before.before.before.before.before.before.before.before.a.given.1))
+module_counts-requires c κs = omega (arith, cells_inside _ _ _ _ (sym c.row.ensures ∙ c.in-At.is))
 
-returns : tie.Need-returns
+returns-in-Fault : tie.Need-returns-in-Fault
 unfolding columns_of module_rules
-returns c = sym (row_stop (_ ∷ _ ∷ _ ∷ []) _ _ _ (sym c.before.before.before.row.ensures ∙ c.before.n.given.1))
+returns-in-Fault c = sym (row_stop (_ ∷ _ ∷ _ ∷ []) _ _ _ (sym c.row.ensures ∙ c.in-Fault.is))
 
-returns-2 : tie.Need-returns-2
+returns-in-Fault-row : tie.Need-returns-in-Fault-row
 unfolding columns_of module_rules
-returns-2 c = sym (row_go (_ ∷ _ ∷ _ ∷ []) _ _ _ (sym c.before.before.before.before.before.before.before.row.ensures ∙ c.before.before.before.before.before.a.given.1) ∙ row_stop (_ ∷ _ ∷ _ ∷ []) _ _ _ (sym c.before.before.before.row2.ensures ∙ c.before.n2.given.1))
+returns-in-Fault-row c = sym (row_go (_ ∷ _ ∷ _ ∷ []) _ _ _ (sym c.row.ensures ∙ c.in-At.is) ∙ row_stop (_ ∷ _ ∷ _ ∷ []) _ _ _ (sym c.row-in-At.ensures ∙ c.in-Fault-row.is))
 
-returns-3 : tie.Need-returns-3
+returns-in-Fault-row-2 : tie.Need-returns-in-Fault-row-2
 unfolding columns_of module_rules
-returns-3 c = sym (row_go (_ ∷ _ ∷ _ ∷ []) _ _ _ (sym c.before.before.before.before.before.before.before.before.before.before.before.row.ensures ∙ c.before.before.before.before.before.before.before.before.before.a.given.1) ∙ row_go (_ ∷ _ ∷ _ ∷ []) _ _ _ (sym c.before.before.before.before.before.before.before.row2.ensures ∙ c.before.before.before.before.before.b.given.1) ∙ row_stop (_ ∷ []) _ _ _ (sym c.before.before.before.row3.ensures ∙ c.before.n3.given.1))
+returns-in-Fault-row-2 c = sym (row_go (_ ∷ _ ∷ _ ∷ []) _ _ _ (sym c.row.ensures ∙ c.in-At.is) ∙ row_go (_ ∷ _ ∷ _ ∷ []) _ _ _ (sym c.row-in-At.ensures ∙ c.in-At-row.is) ∙ row_stop (_ ∷ []) _ _ _ (sym c.row-in-At-row.ensures ∙ c.n-in-Fault-row-3-1.given.1))
 
-returns-4 : tie.Need-returns-4
+returns-in-At-row-2 : tie.Need-returns-in-At-row-2
 unfolding columns_of module_rules
-returns-4 c = c.module-counts.ensures ∙ sym (row_go (_ ∷ _ ∷ _ ∷ []) _ _ _ (sym c.before.before.before.before.before.before.before.before.before.before.before.before.row.ensures ∙ c.before.before.before.before.before.before.before.before.before.before.a.given.1) ∙ row_go (_ ∷ _ ∷ _ ∷ []) _ _ _ (sym c.before.before.before.before.before.before.before.before.row2.ensures ∙ c.before.before.before.before.before.before.b.given.1) ∙ row_go (_ ∷ []) _ _ _ (sym c.before.before.before.before.row3.ensures ∙ c.before.before.c.given.1))
+returns-in-At-row-2 c = c.module_counts.ensures ∙ sym (row_go (_ ∷ _ ∷ _ ∷ []) _ _ _ (sym c.row.ensures ∙ c.in-At.is) ∙ row_go (_ ∷ _ ∷ _ ∷ []) _ _ _ (sym c.row-in-At.ensures ∙ c.in-At-row.is) ∙ row_go (_ ∷ []) _ _ _ (sym c.row-in-At-row.ensures ∙ c.c-1.given.1))
 
-pub module-head-spec : {M : Type 1} → statement M
-module-head-spec =
+pub module_head_spec : {M : Type 1} → statement M
+module_head_spec =
     tie.close
     (tie.spec
-    add-wrapper
+    overflow_add-wrapper
     row-requires
-    enum-known-n
-    enum-known-a
-    row-requires-2
-    enum-known-n-2
-    enum-known-b
-    row-requires-3
-    enum-known-n-3
-    enum-known-c
-    module-counts-requires
-    returns
-    returns-2
-    returns-3
-    returns-4)
+    enum_known-n
+    enum_known-a
+    row-requires-in-At
+    enum_known-n-in-Fault-row-2
+    enum_known-b
+    row-requires-in-At-row
+    enum_known-n-in-Fault-row-3
+    enum_known-c
+    module_counts-requires
+    returns-in-Fault
+    returns-in-Fault-row
+    returns-in-Fault-row-2
+    returns-in-At-row-2)

@@ -13,64 +13,64 @@ use Rattle.rows.proofs.rows.Reads as rows-reads
 rows-requires : tie.Need-rows-requires
 rows-requires c κs = search rules
 
-enum-known-n : tie.Need-enum-known-n
-enum-known-n c = search rules
+enum_known-n : tie.Need-enum_known-n
+enum_known-n c = search rules
 
-enum-known-a : tie.Need-enum-known-a
-enum-known-a c = search rules
+enum_known-a : tie.Need-enum_known-a
+enum_known-a c = search rules
 
-rows-requires-2 : tie.Need-rows-requires-2
-rows-requires-2 c κs = search rules
+rows-requires-in-At : tie.Need-rows-requires-in-At
+rows-requires-in-At c κs = search rules
 
-enum-known-n-2 : tie.Need-enum-known-n-2
-enum-known-n-2 c = search rules
+enum_known-n-in-Fault-rows-2 : tie.Need-enum_known-n-in-Fault-rows-2
+enum_known-n-in-Fault-rows-2 c = search rules
 
-enum-known-b : tie.Need-enum-known-b
-enum-known-b c = search rules
+enum_known-b : tie.Need-enum_known-b
+enum_known-b c = search rules
 
-rows-requires-3 : tie.Need-rows-requires-3
-rows-requires-3 c κs = search rules
+rows-requires-in-At-rows : tie.Need-rows-requires-in-At-rows
+rows-requires-in-At-rows c κs = search rules
 
-enum-known-n-3 : tie.Need-enum-known-n-3
-enum-known-n-3 c = search rules
+enum_known-n-in-Fault-rows-3 : tie.Need-enum_known-n-in-Fault-rows-3
+enum_known-n-in-Fault-rows-3 c = search rules
 
-enum-known-c : tie.Need-enum-known-c
-enum-known-c c = search rules
+enum_known-c : tie.Need-enum_known-c
+enum_known-c c = search rules
 
-rows-requires-4 : tie.Need-rows-requires-4
-rows-requires-4 c κs = search rules
+rows-requires-in-At-rows-2 : tie.Need-rows-requires-in-At-rows-2
+rows-requires-in-At-rows-2 c κs = search rules
 
-returns : tie.Need-returns
+returns-in-Fault : tie.Need-returns-in-Fault
 unfolding row_of columns_of name_lists
-returns c = sym (lists_stop _ _ _ _ (sym c.before.before.before.rows.ensures ∙ c.before.n.given.1))
+returns-in-Fault c = sym (lists_stop _ _ _ _ (sym c.rows.ensures ∙ c.in-Fault.is))
 
-returns-2 : tie.Need-returns-2
+returns-in-Fault-rows : tie.Need-returns-in-Fault-rows
 unfolding row_of columns_of name_lists
-returns-2 c = sym (lists_go _ _ _ _ (sym c.before.before.before.before.before.before.before.rows.ensures ∙ c.before.before.before.before.before.a.given.1) ∙ lists_stop _ _ _ _ (sym c.before.before.before.rows2.ensures ∙ c.before.n2.given.1))
+returns-in-Fault-rows c = sym (lists_go _ _ _ _ (sym c.rows.ensures ∙ c.in-At.is) ∙ lists_stop _ _ _ _ (sym c.rows-in-At.ensures ∙ c.in-Fault-rows.is))
 
-returns-3 : tie.Need-returns-3
+returns-in-Fault-rows-2 : tie.Need-returns-in-Fault-rows-2
 unfolding row_of columns_of name_lists
-returns-3 c = sym (lists_go _ _ _ _ (sym c.before.before.before.before.before.before.before.before.before.before.before.rows.ensures ∙ c.before.before.before.before.before.before.before.before.before.a.given.1) ∙ lists_go _ _ _ _ (sym c.before.before.before.before.before.before.before.rows2.ensures ∙ c.before.before.before.before.before.b.given.1) ∙ lists_stop _ _ _ _ (sym c.before.before.before.rows3.ensures ∙ c.before.n3.given.1))
+returns-in-Fault-rows-2 c = sym (lists_go _ _ _ _ (sym c.rows.ensures ∙ c.in-At.is) ∙ lists_go _ _ _ _ (sym c.rows-in-At.ensures ∙ c.in-At-rows.is) ∙ lists_stop _ _ _ _ (sym c.rows-in-At-rows.ensures ∙ c.n-in-Fault-rows-3-1.given.1))
 
-returns-4 : tie.Need-returns-4
+returns-in-At-rows-2 : tie.Need-returns-in-At-rows-2
 unfolding row_of columns_of name_lists
-returns-4 c = c.rows4.ensures ∙ sym (lists_go _ _ _ _ (sym c.before.before.before.before.before.before.before.before.before.before.before.before.rows.ensures ∙ c.before.before.before.before.before.before.before.before.before.before.a.given.1) ∙ lists_go _ _ _ _ (sym c.before.before.before.before.before.before.before.before.rows2.ensures ∙ c.before.before.before.before.before.before.b.given.1) ∙ lists_go _ _ _ _ (sym c.before.before.before.before.rows3.ensures ∙ c.before.before.c.given.1) ∙ lists_one _ _ _)
+returns-in-At-rows-2 c = c.rows-in-At-rows-2.ensures ∙ sym (lists_go _ _ _ _ (sym c.rows.ensures ∙ c.in-At.is) ∙ lists_go _ _ _ _ (sym c.rows-in-At.ensures ∙ c.in-At-rows.is) ∙ lists_go _ _ _ _ (sym c.rows-in-At-rows.ensures ∙ c.c-1.given.1) ∙ lists_one _ _ _)
 
-pub name-lists-spec : {M : Type 1} → statement M
-name-lists-spec =
+pub name_lists_spec : {M : Type 1} → statement M
+name_lists_spec =
     tie.close
     (tie.spec
     rows-requires
-    enum-known-n
-    enum-known-a
-    rows-requires-2
-    enum-known-n-2
-    enum-known-b
-    rows-requires-3
-    enum-known-n-3
-    enum-known-c
-    rows-requires-4
-    returns
-    returns-2
-    returns-3
-    returns-4)
+    enum_known-n
+    enum_known-a
+    rows-requires-in-At
+    enum_known-n-in-Fault-rows-2
+    enum_known-b
+    rows-requires-in-At-rows
+    enum_known-n-in-Fault-rows-3
+    enum_known-c
+    rows-requires-in-At-rows-2
+    returns-in-Fault
+    returns-in-Fault-rows
+    returns-in-Fault-rows-2
+    returns-in-At-rows-2)

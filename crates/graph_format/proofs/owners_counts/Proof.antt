@@ -6,11 +6,15 @@ use Rattle.graph_format.proofs.owners_counts.Tie as tie
 use Rattle.graph_format.proofs.owners_counts.Reads as reads
 use Rattle.graph_format.proofs.owners_counts.Lts as lts
 
-returns : tie.Need-returns
-returns c = owners_none _ c.if1.true
+returns-then-count-eq0 : tie.Need-returns-then-count-eq0
+returns-then-count-eq0 c = owners_none _ c.if-count-eq0.true
 
-returns-2 : tie.Need-returns-2
-returns-2 c = owners_some _ c.if1.false
+returns-else-count-eq0 : tie.Need-returns-else-count-eq0
+returns-else-count-eq0 c = owners_some _ c.if-count-eq0.false
 
-pub owners-counts-spec : {M : Type 1} → statement M
-owners-counts-spec = tie.close (tie.spec returns returns-2)
+pub owners_counts_spec : {M : Type 1} → statement M
+owners_counts_spec =
+    tie.close
+    (tie.spec
+    returns-then-count-eq0
+    returns-else-count-eq0)

@@ -14,27 +14,34 @@ use Rattle.rows.proofs.row.Reads as row_reads
 row-requires : tie.Need-row-requires
 row-requires c κs = search rules
 
-returns : tie.Need-returns
+returns-then-kind-eq0 : tie.Need-returns-then-kind-eq0
 unfolding columns_of plain_row
-returns c = c.row.ensures ∙ sym (ap walk_of (parts_symbol _ _ _ _ c.before.if1.true))
+returns-then-kind-eq0 c = c.row.ensures ∙ sym (ap walk_of (parts_symbol _ _ _ _ c.if-kind-eq0.true))
 
-returns-2 : tie.Need-returns-2
+returns-then-kind-eq1 : tie.Need-returns-then-kind-eq1
 unfolding walk_of
-returns-2 c = sym (ap walk_of (parts_none _ _ _ _ c.before.if1.false c.if2.true))
+returns-then-kind-eq1 c = sym (ap walk_of (parts_none _ _ _ _ c.if-kind-eq0.false c.if-kind-eq1.true))
 
 depended-requires : tie.Need-depended-requires
 depended-requires c κs = search rules
 
-returns-3 : tie.Need-returns-3
-returns-3 c = c.depended.ensures ∙ sym (ap walk_of (parts_depended _ _ _ _ c.before.before.before.if1.false c.before.before.if2.false c.before.if3.true))
+returns-then-kind-eq2 : tie.Need-returns-then-kind-eq2
+returns-then-kind-eq2 c = c.depended.ensures ∙ sym (ap walk_of (parts_depended _ _ _ _ c.if-kind-eq0.false c.if-kind-eq1.false c.if-kind-eq2.true))
 
 member-requires : tie.Need-member-requires
 member-requires c κs = search rules
 
-returns-4 : tie.Need-returns-4
-returns-4 c = c.member.ensures ∙ sym (ap walk_of (parts_member _ _ _ _ c.before.before.before.if1.false c.before.before.if2.false c.before.if3.false))
+returns : tie.Need-returns
+returns c = c.member.ensures ∙ sym (ap walk_of (parts_member _ _ _ _ c.if-kind-eq0.false c.if-kind-eq1.false c.if-kind-eq2.false))
 
-pub parts-spec : {M : Type 1} → statement M
-parts-spec =
+pub parts_spec : {M : Type 1} → statement M
+parts_spec =
     tie.close
-    (tie.spec row-requires returns returns-2 depended-requires returns-3 member-requires returns-4)
+    (tie.spec
+    row-requires
+    returns-then-kind-eq0
+    returns-then-kind-eq1
+    depended-requires
+    returns-then-kind-eq2
+    member-requires
+    returns)

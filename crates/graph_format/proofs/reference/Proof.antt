@@ -14,40 +14,40 @@ use Rattle.rows.proofs.within.Reads as within-reads
 within-requires : tie.Need-within-requires
 within-requires c κs = search rules
 
-enum-known-n : tie.Need-enum-known-n
-enum-known-n c = search rules
+enum_known-n : tie.Need-enum_known-n
+enum_known-n c = search rules
 
-enum-known-a : tie.Need-enum-known-a
-enum-known-a c = search rules
+enum_known-a : tie.Need-enum_known-a
+enum_known-a c = search rules
 
-mul_wide : tie.Need-overflow-mul-wide
-mul_wide c = omega (arith, number_inside _ c.before.before.before.before.before.args.numbers.now c.before.before.before.before.before.args.at (sym c.before.before.before.within.ensures ∙ c.before.a.given.1))
+offset_bounds-numbers-at : tie.Need-offset_bounds-numbers-at
+offset_bounds-numbers-at c = omega (arith, number_inside _ c.args.numbers.now c.args.at (sym c.within.ensures ∙ c.in-At.is))
 
-shared-slice-read-wide : tie.Need-shared-slice-read-wide
-shared-slice-read-wide c = number_inside _ _ _ (sym c.before.before.before.before.within.ensures ∙ c.before.before.a.given.1)
+bounds-numbers-at : tie.Need-bounds-numbers-at
+bounds-numbers-at c = number_inside _ _ _ (sym c.within.ensures ∙ c.in-At.is)
 
-wide-requires : tie.Need-wide-requires
-wide-requires c κs = search rules
+wide-kind-requires : tie.Need-wide-kind-requires
+wide-kind-requires c κs = search rules
 
 parts-requires : tie.Need-parts-requires
 parts-requires c κs = search rules
 
-returns : tie.Need-returns
-returns c = sym (reference_stop _ _ _ _ (sym c.before.before.before.within.ensures ∙ c.before.n.given.1))
+returns-in-Fault : tie.Need-returns-in-Fault
+returns-in-Fault c = sym (reference_stop _ _ _ _ (sym c.within.ensures ∙ c.in-Fault.is))
 
-returns-2 : tie.Need-returns-2
-returns-2 c = c.parts.ensures ∙ sym (reference_go _ _ _ _ (sym c.before.before.before.before.before.before.within.ensures ∙ c.before.before.before.before.a.given.1) c.before.wide.ensures)
+returns-in-At : tie.Need-returns-in-At
+returns-in-At c = c.parts.ensures ∙ sym (reference_go _ _ _ _ (sym c.within.ensures ∙ c.in-At.is) c.wide-kind.ensures)
 
-pub reference-spec : {M : Type 1} → statement M
-reference-spec =
+pub reference_spec : {M : Type 1} → statement M
+reference_spec =
     tie.close
     (tie.spec
     within-requires
-    enum-known-n
-    enum-known-a
-    mul_wide
-    shared-slice-read-wide
-    wide-requires
+    enum_known-n
+    enum_known-a
+    offset_bounds-numbers-at
+    bounds-numbers-at
+    wide-kind-requires
     parts-requires
-    returns
-    returns-2)
+    returns-in-Fault
+    returns-in-At)

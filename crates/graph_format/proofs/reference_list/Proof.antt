@@ -16,40 +16,40 @@ use Rattle.rows.proofs.wide.Reads as wide-reads
 counter-requires : tie.Need-counter-requires
 counter-requires c κs = search rules
 
-enum-known-n : tie.Need-enum-known-n
-enum-known-n c = search rules
+enum_known-n : tie.Need-enum_known-n
+enum_known-n c = search rules
 
-enum-known-a : tie.Need-enum-known-a
-enum-known-a c = search rules
+enum_known-a : tie.Need-enum_known-a
+enum_known-a c = search rules
 
-mul_wide : tie.Need-overflow-mul-wide
-mul_wide c = omega (arith, number_inside _ c.before.before.before.before.before.args.numbers.now c.before.before.before.before.before.args.at (sym c.before.before.before.counter.ensures ∙ c.before.a.given.1))
+offset_bounds-numbers-at : tie.Need-offset_bounds-numbers-at
+offset_bounds-numbers-at c = omega (arith, number_inside _ c.args.numbers.now c.args.at (sym c.counter.ensures ∙ c.in-At.is))
 
-shared-slice-read-wide : tie.Need-shared-slice-read-wide
-shared-slice-read-wide c = number_inside _ c.before.before.before.before.before.before.args.numbers.now c.before.before.before.before.before.before.args.at (sym c.before.before.before.before.counter.ensures ∙ c.before.before.a.given.1)
+bounds-numbers-at : tie.Need-bounds-numbers-at
+bounds-numbers-at c = number_inside _ c.args.numbers.now c.args.at (sym c.counter.ensures ∙ c.in-At.is)
 
-wide-requires : tie.Need-wide-requires
-wide-requires c κs = search rules
+wide-count-requires : tie.Need-wide-count-requires
+wide-count-requires c κs = search rules
 
 references-requires : tie.Need-references-requires
 references-requires c κs = search rules
 
-returns : tie.Need-returns
-returns c = sym (list_stop _ _ _ (sym c.before.before.before.counter.ensures ∙ c.before.n.given.1))
+returns-in-Fault : tie.Need-returns-in-Fault
+returns-in-Fault c = sym (list_stop _ _ _ (sym c.counter.ensures ∙ c.in-Fault.is))
 
-returns-2 : tie.Need-returns-2
-returns-2 c = c.references.ensures ∙ sym (list_by (reference_list c.before.before.before.before.before.before.before.before.args.symbols c.before.before.before.before.before.before.before.before.args.numbers.now) c.before.before.before.before.before.before.before.before.args.numbers.now c.before.before.before.before.before.before.before.before.args.at (sym c.before.before.before.before.before.before.counter.ensures ∙ c.before.before.before.before.a.given.1) c.before.wide.ensures)
+returns-in-At : tie.Need-returns-in-At
+returns-in-At c = c.references.ensures ∙ sym (list_by (reference_list c.args.symbols c.args.numbers.now) c.args.numbers.now c.args.at (sym c.counter.ensures ∙ c.in-At.is) c.wide-count.ensures)
 
-pub reference-list-spec : {M : Type 1} → statement M
-reference-list-spec =
+pub reference_list_spec : {M : Type 1} → statement M
+reference_list_spec =
     tie.close
     (tie.spec
     counter-requires
-    enum-known-n
-    enum-known-a
-    mul_wide
-    shared-slice-read-wide
-    wide-requires
+    enum_known-n
+    enum_known-a
+    offset_bounds-numbers-at
+    bounds-numbers-at
+    wide-count-requires
     references-requires
-    returns
-    returns-2)
+    returns-in-Fault
+    returns-in-At)

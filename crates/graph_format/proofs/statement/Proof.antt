@@ -16,47 +16,47 @@ use Rattle.rows.proofs.rows.Reads as rows-reads
 row-requires : tie.Need-row-requires
 row-requires c κs = search rules
 
-enum-known-n : tie.Need-enum-known-n
-enum-known-n c = search rules
+enum_known-n : tie.Need-enum_known-n
+enum_known-n c = search rules
 
-enum-known-a : tie.Need-enum-known-a
-enum-known-a c = search rules
+enum_known-a : tie.Need-enum_known-a
+enum_known-a c = search rules
 
 rows-requires : tie.Need-rows-requires
 rows-requires c κs = search rules
 
-enum-known-n-2 : tie.Need-enum-known-n-2
-enum-known-n-2 c = search rules
+enum_known-n-in-Fault-rows : tie.Need-enum_known-n-in-Fault-rows
+enum_known-n-in-Fault-rows c = search rules
 
-enum-known-b : tie.Need-enum-known-b
-enum-known-b c = search rules
+enum_known-b : tie.Need-enum_known-b
+enum_known-b c = search rules
 
-reference-list-requires : tie.Need-reference-list-requires
-reference-list-requires c κs = search rules
+reference_list-requires : tie.Need-reference_list-requires
+reference_list-requires c κs = search rules
 
-returns : tie.Need-returns
+returns-in-Fault : tie.Need-returns-in-Fault
 unfolding plain_row columns_of
-returns c = sym (statement_stop _ _ _ _ _ (sym c.before.before.before.row.ensures ∙ c.before.n.given.1))
+returns-in-Fault c = sym (statement_stop _ _ _ _ _ (sym c.row.ensures ∙ c.in-Fault.is))
 
-returns-2 : tie.Need-returns-2
+returns-in-Fault-rows : tie.Need-returns-in-Fault-rows
 unfolding plain_row columns_of row_of statement_lists
-returns-2 c = sym (statement_go _ _ _ _ _ (sym c.before.before.before.before.before.before.before.row.ensures ∙ c.before.before.before.before.before.a.given.1) ∙ lists_stop _ _ _ _ (sym c.before.before.before.rows.ensures ∙ c.before.n2.given.1))
+returns-in-Fault-rows c = sym (statement_go _ _ _ _ _ (sym c.row.ensures ∙ c.in-At.is) ∙ lists_stop _ _ _ _ (sym c.rows.ensures ∙ c.in-Fault-rows.is))
 
-returns-3 : tie.Need-returns-3
+returns-in-At-rows : tie.Need-returns-in-At-rows
 unfolding plain_row columns_of row_of statement_lists
-returns-3 c = c.reference-list.ensures ∙ sym (statement_go _ _ _ _ _ (sym c.before.before.before.before.before.before.before.before.row.ensures ∙ c.before.before.before.before.before.before.a.given.1) ∙ lists_go _ _ _ _ (sym c.before.before.before.before.rows.ensures ∙ c.before.before.b.given.1) ∙ lists_one _ _ _)
+returns-in-At-rows c = c.reference_list.ensures ∙ sym (statement_go _ _ _ _ _ (sym c.row.ensures ∙ c.in-At.is) ∙ lists_go _ _ _ _ (sym c.rows.ensures ∙ c.in-At-rows.is) ∙ lists_one _ _ _)
 
-pub statement-spec : {M : Type 1} → statement M
-statement-spec =
+pub statement_spec : {M : Type 1} → statement M
+statement_spec =
     tie.close
     (tie.spec
     row-requires
-    enum-known-n
-    enum-known-a
+    enum_known-n
+    enum_known-a
     rows-requires
-    enum-known-n-2
-    enum-known-b
-    reference-list-requires
-    returns
-    returns-2
-    returns-3)
+    enum_known-n-in-Fault-rows
+    enum_known-b
+    reference_list-requires
+    returns-in-Fault
+    returns-in-Fault-rows
+    returns-in-At-rows)

@@ -5,14 +5,19 @@ use Rattle.graph_format.proofs.statement_limit.Tie as tie
 use Rattle.graph_format.proofs.statement_limit.Reads as reads
 use Rattle.graph_format.proofs.statement_limit.Lts as lts
 
-add-result : tie.Need-overflow-add-result
-add-result c = search rules
+overflow_add-result : tie.Need-overflow_add-result
+overflow_add-result c = search rules
 
-returns : tie.Need-returns
-returns c = statement_none _ _ c.if1.true
+returns-then-kind-eq0 : tie.Need-returns-then-kind-eq0
+returns-then-kind-eq0 c = statement_none _ _ c.if-kind-eq0.true
 
-returns-2 : tie.Need-returns-2
-returns-2 c = statement_some _ _ c.if1.false
+returns-else-kind-eq0 : tie.Need-returns-else-kind-eq0
+returns-else-kind-eq0 c = statement_some _ _ c.if-kind-eq0.false
 
-pub statement-limit-spec : {M : Type 1} → statement M
-statement-limit-spec = tie.close (tie.spec add-result returns returns-2)
+pub statement_limit_spec : {M : Type 1} → statement M
+statement_limit_spec =
+    tie.close
+    (tie.spec
+    overflow_add-result
+    returns-then-kind-eq0
+    returns-else-kind-eq0)

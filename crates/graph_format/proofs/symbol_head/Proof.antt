@@ -10,30 +10,37 @@ use Rattle.graph_format.proofs.symbol_head.Reads as reads
 use Rattle.graph_format.proofs.symbol_head.Lts as lts
 use Rattle.rows.proofs.row.Reads as row_reads
 
-add-aliases : tie.Need-overflow-add-aliases
-add-aliases c = search rules
+overflow_add-aliases : tie.Need-overflow_add-aliases
+overflow_add-aliases c = search rules
 
 row-requires : tie.Need-row-requires
 row-requires c κs = search rules
 
-enum-known-n : tie.Need-enum-known-n
-enum-known-n c = search rules
+enum_known-n : tie.Need-enum_known-n
+enum_known-n c = search rules
 
-enum-known-a : tie.Need-enum-known-a
-enum-known-a c = search rules
+enum_known-a : tie.Need-enum_known-a
+enum_known-a c = search rules
 
-row-requires-2 : tie.Need-row-requires-2
-row-requires-2 c κs = search rules
+row-requires-in-At : tie.Need-row-requires-in-At
+row-requires-in-At c κs = search rules
 
-returns : tie.Need-returns
+returns-in-Fault : tie.Need-returns-in-Fault
 unfolding symbol_rules columns_of
-returns c = sym (row_stop (_ ∷ _ ∷ _ ∷ []) _ _ _ (sym c.before.before.before.row.ensures ∙ c.before.n.given.1))
+returns-in-Fault c = sym (row_stop (_ ∷ _ ∷ _ ∷ []) _ _ _ (sym c.row.ensures ∙ c.in-Fault.is))
 
-returns-2 : tie.Need-returns-2
+returns-in-At : tie.Need-returns-in-At
 unfolding symbol_rules columns_of plain_row
-returns-2 c = c.row2.ensures ∙ sym (row_go (_ ∷ _ ∷ _ ∷ []) _ _ _ (sym c.before.before.before.before.row.ensures ∙ c.before.before.a.given.1))
+returns-in-At c = c.row-in-At.ensures ∙ sym (row_go (_ ∷ _ ∷ _ ∷ []) _ _ _ (sym c.row.ensures ∙ c.in-At.is))
 
-pub symbol-head-spec : {M : Type 1} → statement M
-symbol-head-spec =
+pub symbol_head_spec : {M : Type 1} → statement M
+symbol_head_spec =
     tie.close
-    (tie.spec add-aliases row-requires enum-known-n enum-known-a row-requires-2 returns returns-2)
+    (tie.spec
+    overflow_add-aliases
+    row-requires
+    enum_known-n
+    enum_known-a
+    row-requires-in-At
+    returns-in-Fault
+    returns-in-At)

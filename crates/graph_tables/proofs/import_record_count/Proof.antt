@@ -9,35 +9,35 @@ use Rattle.graph_tables.proofs.import_record_count.Reads as reads
 use Rattle.graph_tables.proofs.import_record_count.Lts as lts
 use Rattle.tables.proofs.rows_crate.wide.Reads as wide-reads
 
-mul-p : tie.Need-overflow-mul-p
-mul-p c = search rules
+offset_bounds-module_at-m : tie.Need-offset_bounds-module_at-m
+offset_bounds-module_at-m c = search rules
 
-shared-slice-read-p : tie.Need-shared-slice-read-p
-shared-slice-read-p c = let s = c.before.before.before in omega (arith, s.requires.0.long, s.requires.1)
+bounds-module_at-m : tie.Need-bounds-module_at-m
+bounds-module_at-m c = omega (arith, c.requires.0.long, c.requires.1)
 
-add_wide : tie.Need-overflow-add-wide
-add_wide c = let s = c.before.before.before in omega (arith, at-count-inside _ _ s.requires.0 _ s.requires.1)
+overflow_add-p : tie.Need-overflow_add-p
+overflow_add-p c = omega (arith, at-count-inside _ _ c.requires.0 _ c.requires.1)
 
-mul_wide : tie.Need-overflow-mul-wide
-mul_wide c = let s = c.before.before.before in omega (arith, at-count-inside _ _ s.requires.0 _ s.requires.1)
+offset_bounds-numbers-p : tie.Need-offset_bounds-numbers-p
+offset_bounds-numbers-p c = omega (arith, at-count-inside _ _ c.requires.0 _ c.requires.1)
 
-shared-slice-read-wide : tie.Need-shared-slice-read-wide
-shared-slice-read-wide c = let s = c.before.before.before.before in at-count-inside _ _ s.requires.0 _ s.requires.1
+bounds-numbers-p : tie.Need-bounds-numbers-p
+bounds-numbers-p c = at-count-inside _ _ c.requires.0 _ c.requires.1
 
 wide-requires : tie.Need-wide-requires
 wide-requires c κs = search rules
 
 returns : tie.Need-returns
-returns c = let s = c.before.before.before.before.before in c.wide.ensures ∙ at_count _ _ s.requires.0 _ s.requires.1
+returns c = c.wide.ensures ∙ at_count _ _ c.requires.0 _ c.requires.1
 
-pub import-record-count-spec : {M : Type 1} → statement M
-import-record-count-spec =
+pub import_record_count_spec : {M : Type 1} → statement M
+import_record_count_spec =
     tie.close
     (tie.spec
-    mul-p
-    shared-slice-read-p
-    add_wide
-    mul_wide
-    shared-slice-read-wide
+    offset_bounds-module_at-m
+    bounds-module_at-m
+    overflow_add-p
+    offset_bounds-numbers-p
+    bounds-numbers-p
     wide-requires
     returns)

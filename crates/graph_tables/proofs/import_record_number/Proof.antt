@@ -9,47 +9,47 @@ use Rattle.graph_tables.proofs.import_record_number.Reads as reads
 use Rattle.graph_tables.proofs.import_record_number.Lts as lts
 use Rattle.tables.proofs.rows_crate.wide.Reads as wide-reads
 
-mul-p : tie.Need-overflow-mul-p
-mul-p c = search rules
+offset_bounds-module_at-m : tie.Need-offset_bounds-module_at-m
+offset_bounds-module_at-m c = search rules
 
-shared-slice-read-p : tie.Need-shared-slice-read-p
-shared-slice-read-p c = let s = c.before.before.before in omega (arith, s.requires.0.long, s.requires.1.0)
+bounds-module_at-m : tie.Need-bounds-module_at-m
+bounds-module_at-m c = omega (arith, c.requires.0.long, c.requires.1.0)
 
-add_wide : tie.Need-overflow-add-wide
-add_wide c = let s = c.before.before.before in omega (arith, at-record-inside _ _ s.requires.0 _ s.requires.1.0 _ s.requires.1.1 _ s.requires.1.2)
+overflow_add-p : tie.Need-overflow_add-p
+overflow_add-p c = omega (arith, at-record-inside _ _ c.requires.0 _ c.requires.1.0 _ c.requires.1.1 _ c.requires.1.2)
 
-mul_wide : tie.Need-overflow-mul-wide
-mul_wide c = let s = c.before.before.before in omega (arith, at-record-inside _ _ s.requires.0 _ s.requires.1.0 _ s.requires.1.1 _ s.requires.1.2)
+overflow_mul-k : tie.Need-overflow_mul-k
+overflow_mul-k c = omega (arith, at-record-inside _ _ c.requires.0 _ c.requires.1.0 _ c.requires.1.1 _ c.requires.1.2)
 
-add-wide-2 : tie.Need-overflow-add-wide-2
-add-wide-2 c = let s = c.before.before.before in omega (arith, at-record-inside _ _ s.requires.0 _ s.requires.1.0 _ s.requires.1.1 _ s.requires.1.2)
+overflow_add-p-2 : tie.Need-overflow_add-p-2
+overflow_add-p-2 c = omega (arith, at-record-inside _ _ c.requires.0 _ c.requires.1.0 _ c.requires.1.1 _ c.requires.1.2)
 
-add-wide-3 : tie.Need-overflow-add-wide-3
-add-wide-3 c = let s = c.before.before.before in omega (arith, at-record-inside _ _ s.requires.0 _ s.requires.1.0 _ s.requires.1.1 _ s.requires.1.2)
+overflow_add-p-3 : tie.Need-overflow_add-p-3
+overflow_add-p-3 c = omega (arith, at-record-inside _ _ c.requires.0 _ c.requires.1.0 _ c.requires.1.1 _ c.requires.1.2)
 
-mul-wide-2 : tie.Need-overflow-mul-wide-2
-mul-wide-2 c = let s = c.before.before.before in omega (arith, at-record-inside _ _ s.requires.0 _ s.requires.1.0 _ s.requires.1.1 _ s.requires.1.2)
+offset_bounds-numbers-p : tie.Need-offset_bounds-numbers-p
+offset_bounds-numbers-p c = omega (arith, at-record-inside _ _ c.requires.0 _ c.requires.1.0 _ c.requires.1.1 _ c.requires.1.2)
 
-shared-slice-read-wide : tie.Need-shared-slice-read-wide
-shared-slice-read-wide c = let s = c.before.before.before.before in at-record-inside _ _ s.requires.0 _ s.requires.1.0 _ s.requires.1.1 _ s.requires.1.2
+bounds-numbers-p : tie.Need-bounds-numbers-p
+bounds-numbers-p c = at-record-inside _ _ c.requires.0 _ c.requires.1.0 _ c.requires.1.1 _ c.requires.1.2
 
 wide-requires : tie.Need-wide-requires
 wide-requires c κs = search rules
 
 returns : tie.Need-returns
-returns c = let s = c.before.before.before.before.before in c.wide.ensures ∙ at-record _ _ s.requires.0 _ s.requires.1.0 _ s.requires.1.1 _ s.requires.1.2
+returns c = c.wide.ensures ∙ at-record _ _ c.requires.0 _ c.requires.1.0 _ c.requires.1.1 _ c.requires.1.2
 
-pub import-record-number-spec : {M : Type 1} → statement M
-import-record-number-spec =
+pub import_record_number_spec : {M : Type 1} → statement M
+import_record_number_spec =
     tie.close
     (tie.spec
-    mul-p
-    shared-slice-read-p
-    add_wide
-    mul_wide
-    add-wide-2
-    add-wide-3
-    mul-wide-2
-    shared-slice-read-wide
+    offset_bounds-module_at-m
+    bounds-module_at-m
+    overflow_add-p
+    overflow_mul-k
+    overflow_add-p-2
+    overflow_add-p-3
+    offset_bounds-numbers-p
+    bounds-numbers-p
     wide-requires
     returns)

@@ -9,35 +9,35 @@ use Rattle.graph_tables.proofs.module_number.Reads as reads
 use Rattle.graph_tables.proofs.module_number.Lts as lts
 use Rattle.tables.proofs.rows_crate.wide.Reads as wide-reads
 
-mul-p : tie.Need-overflow-mul-p
-mul-p c = search rules
+offset_bounds-module_at-m : tie.Need-offset_bounds-module_at-m
+offset_bounds-module_at-m c = search rules
 
-shared-slice-read-p : tie.Need-shared-slice-read-p
-shared-slice-read-p c = let s = c.before.before.before in omega (arith, s.requires.0.long, s.requires.1.0)
+bounds-module_at-m : tie.Need-bounds-module_at-m
+bounds-module_at-m c = omega (arith, c.requires.0.long, c.requires.1.0)
 
-add_wide : tie.Need-overflow-add-wide
-add_wide c = let s = c.before.before.before in omega (arith, at-inside _ _ s.requires.0 _ s.requires.1.0 _ s.requires.1.1)
+overflow_add-p : tie.Need-overflow_add-p
+overflow_add-p c = omega (arith, at-inside _ _ c.requires.0 _ c.requires.1.0 _ c.requires.1.1)
 
-mul_wide : tie.Need-overflow-mul-wide
-mul_wide c = let s = c.before.before.before in omega (arith, at-inside _ _ s.requires.0 _ s.requires.1.0 _ s.requires.1.1)
+offset_bounds-numbers-p : tie.Need-offset_bounds-numbers-p
+offset_bounds-numbers-p c = omega (arith, at-inside _ _ c.requires.0 _ c.requires.1.0 _ c.requires.1.1)
 
-shared-slice-read-wide : tie.Need-shared-slice-read-wide
-shared-slice-read-wide c = let s = c.before.before.before.before in at-inside _ _ s.requires.0 _ s.requires.1.0 _ s.requires.1.1
+bounds-numbers-p : tie.Need-bounds-numbers-p
+bounds-numbers-p c = at-inside _ _ c.requires.0 _ c.requires.1.0 _ c.requires.1.1
 
 wide-requires : tie.Need-wide-requires
 wide-requires c κs = search rules
 
 returns : tie.Need-returns
-returns c = let s = c.before.before.before.before.before in c.wide.ensures ∙ at_same _ _ s.requires.0 _ s.requires.1.0 _ s.requires.1.1
+returns c = c.wide.ensures ∙ at_same _ _ c.requires.0 _ c.requires.1.0 _ c.requires.1.1
 
-pub module-number-spec : {M : Type 1} → statement M
-module-number-spec =
+pub module_number_spec : {M : Type 1} → statement M
+module_number_spec =
     tie.close
     (tie.spec
-    mul-p
-    shared-slice-read-p
-    add_wide
-    mul_wide
-    shared-slice-read-wide
+    offset_bounds-module_at-m
+    bounds-module_at-m
+    overflow_add-p
+    offset_bounds-numbers-p
+    bounds-numbers-p
     wide-requires
     returns)

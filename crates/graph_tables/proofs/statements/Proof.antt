@@ -16,145 +16,141 @@ use native.Mathlib.Omega.{arith}
 use Rattle.graph_tables.proofs.statements.Statement.{statement}
 use Rattle.graph_tables.proofs.statements.Tie as tie
 
-abbrev invariant-loop : tie.invariant-loop
-invariant-loop numbers at h tables₀ firsts places m₀ q₀ first₀ tables m q first = (done : List (List Item)) × Outer h (modules_in numbers) numbers at tables₀ tables m q first done
+abbrev invariant-loop-m : tie.invariant-loop-m
+invariant-loop-m numbers at h tables₀ firsts places m₀ q₀ first₀ tables m q first = (done : List (List Item)) × Outer h (modules_in numbers) numbers at tables₀ tables m q first done
 
-abbrev decreases-loop : tie.decreases-loop
-decreases-loop numbers at h tables₀ firsts places m₀ q₀ first₀ tables m q first = h.modules - m
+abbrev decreases-loop-m : tie.decreases-loop-m
+decreases-loop-m numbers at h tables₀ firsts places m₀ q₀ first₀ tables m q first = h.modules - m
 
 -- the header is the graph's
-in-header : (c : tie.Then1 invariant-loop decreases-loop) → c.before.before.loop.m < (header_in c.before.before.before.before.before.before.before.args.numbers.now).modules
-in-header c = rw (sym c.before.before.before.before.before.before.before.requires.1) c.if1.true
+in-header : (c : tie.In-loop-m invariant-loop-m decreases-loop-m) → c.loop-m.m < (header_in c.args.numbers.now).modules
+in-header c = rw (sym c.requires.1) c.loop-m-test.true
 
 -- the places of the statements are inside the tables
-room : (c : tie.Start invariant-loop decreases-loop) → start_of c.args.h at_statements + c.args.h.statements ≤ length c.args.tables.now
+room : (c : tie.Start invariant-loop-m decreases-loop-m) → start_of c.args.h at_statements + c.args.h.statements ≤ length c.args.tables.now
 unfolding sizes
 room c = ends_inside c.requires.0.0 3 (omega arith)
 
-places_at : (c : tie.Start invariant-loop decreases-loop) → get_or c.args.tables.now 3 0 ≡ start_of c.args.h at_statements
+places_at : (c : tie.Start invariant-loop-m decreases-loop-m) → get_or c.args.tables.now 3 0 ≡ start_of c.args.h at_statements
 places_at c = c.requires.0.0.starts 3 (omega arith)
 
 -- module m, whose statements a turn reads
-this : (c : tie.After-import-record-count invariant-loop decreases-loop) → let s = c.before.before.before.before.before.before.before.before.before.before.before.before.before in
-    many (statement_at s.args.h c.import-record-count.result s.args.numbers.now) following c.before.before.before.module-number.result 0 c.before.before.before.before.before.before.before.before.loop.q
-    ≡ module_statements s.args.h (modules_in s.args.numbers.now) s.args.numbers.now c.before.before.before.before.before.before.before.before.loop.m c.before.before.before.before.before.before.before.before.loop.q
-this c = as_module _ _ _ _ _ _ _ c.before.before.before.module-number.ensures c.import-record-count.ensures
+this : (c : tie.After-import_record_count-imports invariant-loop-m decreases-loop-m) → many (statement_at c.args.h c.import_record_count-imports.result c.args.numbers.now) following c.module_number-count.result 0 c.loop-m.q
+    ≡ module_statements c.args.h (modules_in c.args.numbers.now) c.args.numbers.now c.loop-m.m c.loop-m.q
+this c = as_module _ _ _ _ _ _ _ c.module_number-count.ensures c.import_record_count-imports.ensures
 
-fits : (c : tie.After-import-record-count invariant-loop decreases-loop) → get_or c.before.before.before.before.before.before.before.before.before.before.before.before.before.args.tables.now 3 0 + c.before.before.before.before.before.before.before.before.loop.first + c.before.before.before.module-number.result ≤ length c.before.before.before.before.before.before.before.before.loop.tables
+fits : (c : tie.After-import_record_count-imports invariant-loop-m decreases-loop-m) → get_or c.args.tables.now 3 0 + c.loop-m.first + c.module_number-count.result ≤ length c.loop-m.tables
 fits c =
-    let s = c.before.before.before.before.before.before.before.before.before.before.before.before.before in
-    let o = c.before.before.before.before.before.before.before.before.loop.invariant.1 in
-    omega (arith, in_table _ _ s.requires.0.1 _ _ (in-header c.before.before.before.before.before.before) c.before.before.before.module-number.ensures, o.sum, o.kept.same_length, room s, places_at s, ap (λ x. x.statements) s.requires.1)
+    let o = c.loop-m.invariant.1 in
+    omega (arith, in_table _ _ c.requires.0.1 _ _ (in-header c.before.before.before.before) c.module_number-count.ensures, o.sum, o.kept.same_length, room c.before.before.before.before.before.before.before.before.before.before.before, places_at c.before.before.before.before.before.before.before.before.before.before.before, ap (λ x. x.statements) c.requires.1)
 
 -- what the call for module m kept, and the word that is then written
-kept : (c : tie.After-module-statements invariant-loop decreases-loop) → Kept (start_of c.before.before.before.before.before.before.before.before.before.before.before.before.before.before.before.args.h at_statements + c.before.before.before.before.before.before.before.before.before.before.loop.first) c.before.before.before.before.before.before.before.before.before.before.loop.tables c.module-statements.new.1.1.1.1.1.1.0
-kept c = rw (places_at c.before.before.before.before.before.before.before.before.before.before.before.before.before.before.before) at c.module-statements.ensures.2
+kept : (c : tie.After-module_statements invariant-loop-m decreases-loop-m) → Kept (start_of c.args.h at_statements + c.loop-m.first) c.loop-m.tables c.module_statements.new.1.1.1.1.1.1.0
+kept c = rw (places_at c.before.before.before.before.before.before.before.before.before.before.before.before.before) at c.module_statements.ensures.2
 
-spot : (c : tie.After-known-told2 invariant-loop decreases-loop) → get_or c.before.before.before.before.before.before.before.before.before.before.before.before.before.before.before.before.before.before.before.before.args.tables.now 2 0 + c.before.before.before.before.before.before.before.before.before.before.before.before.before.before.before.loop.m ≡ start_of c.before.before.before.before.before.before.before.before.before.before.before.before.before.before.before.before.before.before.before.before.args.h at_first_statements + c.before.before.before.before.before.before.before.before.before.before.before.before.before.before.before.loop.m
-spot c = ap (λ b. b + c.before.before.before.before.before.before.before.before.before.before.before.before.before.before.before.loop.m) (c.before.before.before.before.before.before.before.before.before.before.before.before.before.before.before.before.before.before.before.before.requires.0.0.starts 2 (omega arith))
+spot : (c : tie.In-At invariant-loop-m decreases-loop-m) → get_or c.args.tables.now 2 0 + c.loop-m.m ≡ start_of c.args.h at_first_statements + c.loop-m.m
+spot c = ap (λ b. b + c.loop-m.m) (c.requires.0.0.starts 2 (omega arith))
 
-writes : (c : tie.After-known-told2 invariant-loop decreases-loop) → get_or c.before.before.before.before.before.before.before.before.before.before.before.before.before.before.before.before.before.before.before.before.args.tables.now 2 0 + c.before.before.before.before.before.before.before.before.before.before.before.before.before.before.before.loop.m < length c.before.before.before.before.before.module-statements.new.1.1.1.1.1.1.0
-writes c = outer-writes c.before.before.before.before.before.before.before.before.before.before.before.before.before.before.before.loop.invariant.1 c.before.before.before.before.before.before.before.before.before.before.before.before.before.if1.true (omega (arith, room c.before.before.before.before.before.before.before.before.before.before.before.before.before.before.before.before.before.before.before.before)) (kept c.before.before.before.before.before) (spot c)
+writes : (c : tie.In-At invariant-loop-m decreases-loop-m) → get_or c.args.tables.now 2 0 + c.loop-m.m < length c.module_statements.new.1.1.1.1.1.1.0
+writes c = outer-writes c.loop-m.invariant.1 c.loop-m-test.true (omega (arith, room c.before.before.before.before.before.before.before.before.before.before.before.before.before.before.before.before)) (kept c.before.before.before) (spot c)
 
-slice-read-firsts : tie.Need-slice-read-firsts invariant-loop decreases-loop
-slice-read-firsts c = word_inside c.before.before.before.requires.0.0 2 (omega arith)
+bounds-tables-2 : tie.Need-bounds-tables-2 invariant-loop-m decreases-loop-m
+bounds-tables-2 c = word_inside c.requires.0.0 2 (omega arith)
 
-slice-read-places : tie.Need-slice-read-places invariant-loop decreases-loop
-slice-read-places c = word_inside c.before.before.before.before.requires.0.0 3 (omega arith)
+bounds-tables-3 : tie.Need-bounds-tables-3 invariant-loop-m decreases-loop-m
+bounds-tables-3 c = word_inside c.requires.0.0 3 (omega arith)
 
-loop-holds : tie.Need-loop-init invariant-loop decreases-loop
-loop-holds c = ([], outer_start _ _ _ _ _)
+loop-m-init : tie.Need-loop-m-init invariant-loop-m decreases-loop-m
+loop-m-init c = ([], outer_start _ _ _ _ _)
 
-section-requires : tie.Need-section-requires invariant-loop decreases-loop
-section-requires c κs = modules_inside c.before.before.before.before.before.before.before.before.requires.0.0 2 (omega arith) (omega arith) c.before.before.before.loop.invariant.1.kept
+section-requires : tie.Need-section-requires invariant-loop-m decreases-loop-m
+section-requires c κs = modules_inside c.requires.0.0 2 (omega arith) (omega arith) c.loop-m.invariant.1.kept
 
-module-number-requires : tie.Need-module-number-requires invariant-loop decreases-loop
-module-number-requires c κs = let p = c.before.before.before.before.before.before.before.before.before.requires.0 in (modules_kept p.0 2 (omega arith) (omega arith) c.before.before.before.before.loop.invariant.1.kept p.1 c.section.ensures, (in-header c.before.before, omega arith))
+module_number-count-requires : tie.Need-module_number-count-requires invariant-loop-m decreases-loop-m
+module_number-count-requires c κs = let p = c.requires.0 in (modules_kept p.0 2 (omega arith) (omega arith) c.loop-m.invariant.1.kept p.1 c.section.ensures, (in-header c.before, omega arith))
 
-section-requires-2 : tie.Need-section-requires-2 invariant-loop decreases-loop
-section-requires-2 c κs = modules_inside c.before.before.before.before.before.before.before.before.before.before.before.requires.0.0 2 (omega arith) (omega arith) c.before.before.before.before.before.before.loop.invariant.1.kept
+section-requires-in-loop-m : tie.Need-section-requires-in-loop-m invariant-loop-m decreases-loop-m
+section-requires-in-loop-m c κs = modules_inside c.requires.0.0 2 (omega arith) (omega arith) c.loop-m.invariant.1.kept
 
-import-record-count-requires : tie.Need-import-record-count-requires invariant-loop decreases-loop
-import-record-count-requires c κs = let p = c.before.before.before.before.before.before.before.before.before.before.before.before.requires.0 in (modules_kept p.0 2 (omega arith) (omega arith) c.before.before.before.before.before.before.before.loop.invariant.1.kept p.1 c.section2.ensures, in-header c.before.before.before.before.before)
+import_record_count-imports-requires : tie.Need-import_record_count-imports-requires invariant-loop-m decreases-loop-m
+import_record_count-imports-requires c κs = let p = c.requires.0 in (modules_kept p.0 2 (omega arith) (omega arith) c.loop-m.invariant.1.kept p.1 c.section-in-loop-m.ensures, in-header c.before.before.before)
 
-add-module-statements : tie.Need-overflow-add-module-statements invariant-loop decreases-loop
-add-module-statements c = omega (arith, fits c, c.before.before.before.before.before.before.before.before.loop.invariant.1.kept.same_length, c.before.before.before.before.before.before.before.before.before.before.before.before.before.requires.0.0.few)
+overflow_add-places : tie.Need-overflow_add-places invariant-loop-m decreases-loop-m
+overflow_add-places c = omega (arith, fits c, c.loop-m.invariant.1.kept.same_length, c.requires.0.0.few)
 
-module-statements-requires : tie.Need-module-statements-requires invariant-loop decreases-loop
-module-statements-requires c κs = fits c.before
+module_statements-requires : tie.Need-module_statements-requires invariant-loop-m decreases-loop-m
+module_statements-requires c κs = fits c.before
 
-enum-known-n : tie.Need-enum-known-n invariant-loop decreases-loop
-enum-known-n c = search rules
+enum_known-n : tie.Need-enum_known-n invariant-loop-m decreases-loop-m
+enum_known-n c = search rules
 
-same_length : tie.Need-same-length invariant-loop decreases-loop
-same_length c = (kept c.before.before.before.before.before).same_length ∙ c.before.before.before.before.before.before.before.before.before.before.before.before.before.before.before.loop.invariant.1.kept.same_length
+shape_of-tables-in-Fault : tie.Need-shape_of-tables-in-Fault invariant-loop-m decreases-loop-m
+shape_of-tables-in-Fault c = (kept c.before.before.before).same_length ∙ c.loop-m.invariant.1.kept.same_length
 
-returns : tie.Need-returns invariant-loop decreases-loop
-returns c = outer_stop c.before.before.before.before.before.before.before.before.before.before.before.before.before.before.before.loop.invariant.1 c.before.before.before.before.before.before.before.before.before.before.before.before.before.if1.true (sym (ap walk_of (this c.before.before.before.before.before.before.before)) ∙ sym c.before.before.before.before.before.module-statements.ensures.0 ∙ c.before.n.given.1) (kept c.before.before.before.before.before)
+returns-in-Fault : tie.Need-returns-in-Fault invariant-loop-m decreases-loop-m
+returns-in-Fault c = outer_stop c.loop-m.invariant.1 c.loop-m-test.true (sym (ap walk_of (this c.before.before.before.before.before)) ∙ sym c.module_statements.ensures.0 ∙ c.in-Fault.is) (kept c.before.before.before)
 
-enum-known-next : tie.Need-enum-known-next invariant-loop decreases-loop
-enum-known-next c = search rules
+enum_known-next : tie.Need-enum_known-next invariant-loop-m decreases-loop-m
+enum_known-next c = search rules
 
-add-tables : tie.Need-overflow-add-tables invariant-loop decreases-loop
-add-tables c = omega (arith, writes c, (kept c.before.before.before.before.before).same_length, c.before.before.before.before.before.before.before.before.before.before.before.before.before.before.before.loop.invariant.1.kept.same_length, c.before.before.before.before.before.before.before.before.before.before.before.before.before.before.before.before.before.before.before.before.requires.0.0.few)
+overflow_add-tables : tie.Need-overflow_add-tables invariant-loop-m decreases-loop-m
+overflow_add-tables c = omega (arith, writes c, (kept c.before.before.before).same_length, c.loop-m.invariant.1.kept.same_length, c.requires.0.0.few)
 
-mul-tables : tie.Need-overflow-mul-tables invariant-loop decreases-loop
-mul-tables c = omega (arith, writes c, (kept c.before.before.before.before.before).same_length, c.before.before.before.before.before.before.before.before.before.before.before.before.before.before.before.loop.invariant.1.kept.same_length, c.before.before.before.before.before.before.before.before.before.before.before.before.before.before.before.before.before.before.before.before.requires.0.0.few)
+offset_bounds-tables-firsts : tie.Need-offset_bounds-tables-firsts invariant-loop-m decreases-loop-m
+offset_bounds-tables-firsts c = omega (arith, writes c, (kept c.before.before.before).same_length, c.loop-m.invariant.1.kept.same_length, c.requires.0.0.few)
 
-slice-write-tables : tie.Need-slice-write-tables invariant-loop decreases-loop
-slice-write-tables c = writes c
+bounds-tables-firsts : tie.Need-bounds-tables-firsts invariant-loop-m decreases-loop-m
+bounds-tables-firsts c = writes c
 
-add-first : tie.Need-overflow-add-first invariant-loop decreases-loop
-add-first c = omega (arith, fits c.before.before.before.before.before.before.before, c.before.before.before.before.before.before.before.before.before.before.before.before.before.before.before.loop.invariant.1.kept.same_length, c.before.before.before.before.before.before.before.before.before.before.before.before.before.before.before.before.before.before.before.before.requires.0.0.few)
+overflow_add-first : tie.Need-overflow_add-first invariant-loop-m decreases-loop-m
+overflow_add-first c = omega (arith, fits c.before.before.before.before.before, c.loop-m.invariant.1.kept.same_length, c.requires.0.0.few)
 
-add-m : tie.Need-overflow-add-m invariant-loop decreases-loop
-add-m c = search rules
+overflow_add-m : tie.Need-overflow_add-m invariant-loop-m decreases-loop-m
+overflow_add-m c = search rules
 
-loop-less : tie.Need-loop-smaller invariant-loop decreases-loop
-loop-less c = search rules
+loop-m-smaller : tie.Need-loop-m-smaller invariant-loop-m decreases-loop-m
+loop-m-smaller c = search rules
 
-loop-again : tie.Need-loop-preserved invariant-loop decreases-loop
+loop-m-preserved : tie.Need-loop-m-preserved invariant-loop-m decreases-loop-m
 unfolding statements_of
-loop-again c = let i = c.before.before.before.before.before.before.before.before.before.before.before.before.before.before.before.loop.invariant in
-    let s = c.before.before.before.before.before.before.before.before.before.before.before.before.before.before.before.before.before.before.before.before in
-    let t = at_got _ _ (sym (ap walk_of (this c.before.before.before.before.before.before.before)) ∙ sym c.before.before.before.before.before.module-statements.ensures.0 ∙ c.before.next.given.1) in
-    let few : c.before.before.before.before.before.before.before.before.before.before.before.before.before.before.before.loop.m < length (modules_in s.args.numbers.now) = omega (arith, modules_long _ _ s.requires.0.1, in-header c.before.before.before.before.before.before.before.before.before.before.before.before.before) in
-    let placed = rw (this c.before.before.before.before.before.before.before ∙ t.1, places_at s) at c.before.before.before.before.before.module-statements.ensures.1 in
-    (i.0 ++ (t.0 ∷ []), outer-step i.1 c.before.before.before.before.before.before.before.before.before.before.before.before.before.if1.true (omega (arith, room s)) (kept c.before.before.before.before.before) (spot c) few t.1 c.before.before.before.before.before.before.before.before.before.before.module-number.ensures placed)
+loop-m-preserved c = let i = c.loop-m.invariant in
+    let t = at_got _ _ (sym (ap walk_of (this c.before.before.before.before.before)) ∙ sym c.module_statements.ensures.0 ∙ c.in-At.is) in
+    let few : c.loop-m.m < length (modules_in c.args.numbers.now) = omega (arith, modules_long _ _ c.requires.0.1, in-header c.before.before.before.before.before.before.before.before.before) in
+    let placed = rw (this c.before.before.before.before.before ∙ t.1, places_at c.before.before.before.before.before.before.before.before.before.before.before.before.before.before.before.before) at c.module_statements.ensures.1 in
+    (i.0 ++ (t.0 ∷ []), outer-step i.1 c.loop-m-test.true (omega (arith, room c.before.before.before.before.before.before.before.before.before.before.before.before.before.before.before.before)) (kept c.before.before.before) (spot c) few t.1 c.module_number-count.ensures placed)
 
-same-length-2 : tie.Need-same-length-2 invariant-loop decreases-loop
-same-length-2 c = c.before.before.loop.invariant.1.kept.same_length
+shape_of-tables : tie.Need-shape_of-tables invariant-loop-m decreases-loop-m
+shape_of-tables c = c.loop-m.invariant.1.kept.same_length
 
-returns-2 : tie.Need-returns-2 invariant-loop decreases-loop
-returns-2 c = let s = c.before.before.before.before.before.before.before in
-    let fit : (j : ℕ) → first_of (modules_in s.args.numbers.now) j ≤ s.args.h.statements = rw s.requires.1 (first_fits _ _ s.requires.0.1) in
-    outer-end c.before.before.loop.invariant.1 s.requires.0.0 fit (omega (arith, modules_long _ _ s.requires.0.1, ap (λ x. x.modules) s.requires.1)) c.if1.false
+returns : tie.Need-returns invariant-loop-m decreases-loop-m
+returns c = let fit : (j : ℕ) → first_of (modules_in c.args.numbers.now) j ≤ c.args.h.statements = rw c.requires.1 (first_fits _ _ c.requires.0.1) in
+    outer-end c.loop-m.invariant.1 c.requires.0.0 fit (omega (arith, modules_long _ _ c.requires.0.1, ap (λ x. x.modules) c.requires.1)) c.loop-m-test.false
 
-pub statements-spec : {M : Type 1} → statement M
-statements-spec =
+pub statements_spec : {M : Type 1} → statement M
+statements_spec =
     tie.close
     (tie.spec
-    invariant-loop
-    decreases-loop
-    slice-read-firsts
-    slice-read-places
-    loop-holds
+    invariant-loop-m
+    decreases-loop-m
+    bounds-tables-2
+    bounds-tables-3
+    loop-m-init
     section-requires
-    module-number-requires
-    section-requires-2
-    import-record-count-requires
-    add-module-statements
-    module-statements-requires
-    enum-known-n
-    same_length
-    returns
-    enum-known-next
-    add-tables
-    mul-tables
-    slice-write-tables
-    add-first
-    add-m
-    loop-less
-    loop-again
-    same-length-2
-    returns-2)
+    module_number-count-requires
+    section-requires-in-loop-m
+    import_record_count-imports-requires
+    overflow_add-places
+    module_statements-requires
+    enum_known-n
+    shape_of-tables-in-Fault
+    returns-in-Fault
+    enum_known-next
+    overflow_add-tables
+    offset_bounds-tables-firsts
+    bounds-tables-firsts
+    overflow_add-first
+    overflow_add-m
+    loop-m-smaller
+    loop-m-preserved
+    shape_of-tables
+    returns)

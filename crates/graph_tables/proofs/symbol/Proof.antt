@@ -18,52 +18,51 @@ use Rattle.graph_tables.proofs.module_number.Reads as module-number-reads
 use Rattle.tables.proofs.rows_crate.wide.Reads as wide-reads
 
 -- the leading numbers that were read
-headed : (c : tie.After-known-told2) → let s = c.before.before.before.before.before.before in (head : List ℕ) × (cells (symbol_rules s.args.h) s.args.numbers.now s.args.at ≡ got head c.before.a.given.0.0)
-headed c = at_got _ _ (sym c.before.before.before.symbol-head.ensures ∙ c.before.a.given.1)
+headed : (c : tie.In-At) → (head : List ℕ) × (cells (symbol_rules c.args.h) c.args.numbers.now c.args.at ≡ got head c.in-At.a)
+headed c = at_got _ _ (sym c.symbol_head.ensures ∙ c.in-At.is)
 
-symbol-head-requires : tie.Need-symbol-head-requires
-symbol-head-requires c κs = c.before.before.requires.1.1
+symbol_head-requires : tie.Need-symbol_head-requires
+symbol_head-requires c κs = c.requires.1.1
 
-enum-known-n : tie.Need-enum-known-n
-enum-known-n c = search rules
+enum_known-n : tie.Need-enum_known-n
+enum_known-n c = search rules
 
-enum-known-a : tie.Need-enum-known-a
-enum-known-a c = search rules
+enum_known-a : tie.Need-enum_known-a
+enum_known-a c = search rules
 
-mul_wide : tie.Need-overflow-mul-wide
-mul_wide c = omega (arith, owner-inside c.before.before.before.before.before.before.args.h (modules_in c.before.before.before.before.before.before.args.numbers.now) _ 0 _ (headed c).1)
+offset_bounds-numbers-at : tie.Need-offset_bounds-numbers-at
+offset_bounds-numbers-at c = omega (arith, owner-inside c.args.h (modules_in c.args.numbers.now) _ 0 _ (headed c).1)
 
-shared-slice-read-wide : tie.Need-shared-slice-read-wide
-shared-slice-read-wide c = owner-inside c.before.before.before.before.before.before.before.args.h (modules_in c.before.before.before.before.before.before.before.args.numbers.now) _ 0 _ (headed c.before).1
+bounds-numbers-at : tie.Need-bounds-numbers-at
+bounds-numbers-at c = owner-inside c.args.h (modules_in c.args.numbers.now) _ 0 _ (headed c.before).1
 
-wide-requires : tie.Need-wide-requires
-wide-requires c κs = search rules
+wide-owner-requires : tie.Need-wide-owner-requires
+wide-owner-requires c κs = search rules
 
-module-number-requires : tie.Need-module-number-requires
-module-number-requires c κs = let s = c.before.before.before.before.before.before.before.before in
-    let g = owner-good s.args.h (modules_in s.args.numbers.now) _ 0 _ (headed c.before.before).1 in
-    (s.requires.0, (rw (c.wide.ensures, sym s.requires.1.0) g, omega arith))
+module_number-count-requires : tie.Need-module_number-count-requires
+module_number-count-requires c κs = let g = owner-good c.args.h (modules_in c.args.numbers.now) _ 0 _ (headed c.before.before).1 in
+    (c.requires.0, (rw (c.wide-owner.ensures, sym c.requires.1.0) g, omega arith))
 
-symbol-lists-requires : tie.Need-symbol-lists-requires
-symbol-lists-requires c κs = search rules
+symbol_lists-requires : tie.Need-symbol_lists-requires
+symbol_lists-requires c κs = search rules
 
-returns : tie.Need-returns
-returns c = sym (symbol_stop _ _ _ _ _ (sym c.before.before.before.symbol-head.ensures ∙ c.before.n.given.1))
+returns-in-Fault : tie.Need-returns-in-Fault
+returns-in-Fault c = sym (symbol_stop _ _ _ _ _ (sym c.symbol_head.ensures ∙ c.in-Fault.is))
 
-returns-2 : tie.Need-returns-2
-returns-2 c = c.symbol-lists.ensures ∙ sym (symbol-go _ _ _ _ _ (headed c.before.before.before.before).1 _ _ c.before.before.wide.ensures c.before.module-number.ensures)
+returns-in-At : tie.Need-returns-in-At
+returns-in-At c = c.symbol_lists.ensures ∙ sym (symbol-go _ _ _ _ _ (headed c.before.before.before.before).1 _ _ c.wide-owner.ensures c.module_number-count.ensures)
 
-pub symbol-spec : {M : Type 1} → statement M
-symbol-spec =
+pub symbol_spec : {M : Type 1} → statement M
+symbol_spec =
     tie.close
     (tie.spec
-    symbol-head-requires
-    enum-known-n
-    enum-known-a
-    mul_wide
-    shared-slice-read-wide
-    wide-requires
-    module-number-requires
-    symbol-lists-requires
-    returns
-    returns-2)
+    symbol_head-requires
+    enum_known-n
+    enum_known-a
+    offset_bounds-numbers-at
+    bounds-numbers-at
+    wide-owner-requires
+    module_number-count-requires
+    symbol_lists-requires
+    returns-in-Fault
+    returns-in-At)

@@ -7,11 +7,16 @@ use Rattle.host.proofs.keep_check.Tie as tie
 check-requires : tie.Need-check-requires
 check-requires c κs = search rules
 
-check-answer-requires : tie.Need-check-answer-requires
-check-answer-requires c κs = search rules
+check_answer-requires : tie.Need-check_answer-requires
+check_answer-requires c κs = search rules
 
 returns : tie.Need-returns
-returns c = c.check-answer.ensures ∙ ap check_answer_of c.before.check.ensures
+returns c = c.check_answer.ensures ∙ ap check_answer_of c.check.ensures
 
-pub keep-check-spec : {M : Type 1} → statement M
-keep-check-spec = tie.close (tie.spec check-requires check-answer-requires returns)
+pub keep_check_spec : {M : Type 1} → statement M
+keep_check_spec =
+    tie.close
+    (tie.spec
+    check-requires
+    check_answer-requires
+    returns)

@@ -7,48 +7,48 @@ use Rattle.host.proofs.keep_drain.Tie as tie
 drain-requires : tie.Need-drain-requires
 drain-requires c κs = search rules
 
-drain-answer-requires : tie.Need-drain-answer-requires
-drain-answer-requires c κs = search rules
+drain_answer-requires : tie.Need-drain_answer-requires
+drain_answer-requires c κs = search rules
 
-same_length : tie.Need-same-length
-same_length c = search rules
+shape_of-marks : tie.Need-shape_of-marks
+shape_of-marks c = search rules
 
-same-length-2 : tie.Need-same-length-2
-same-length-2 c = search rules
+shape_of-lines : tie.Need-shape_of-lines
+shape_of-lines c = search rules
 
-same-length-3 : tie.Need-same-length-3
-same-length-3 c = search rules
+shape_of-modules : tie.Need-shape_of-modules
+shape_of-modules c = search rules
 
-same-length-4 : tie.Need-same-length-4
-same-length-4 c = search rules
+shape_of-statements : tie.Need-shape_of-statements
+shape_of-statements c = search rules
 
-same-length-5 : tie.Need-same-length-5
-same-length-5 c = search rules
+shape_of-used : tie.Need-shape_of-used
+shape_of-used c = search rules
 
-same-length-6 : tie.Need-same-length-6
-same-length-6 c = search rules
+shape_of-external : tie.Need-shape_of-external
+shape_of-external c = search rules
 
-same-length-7 : tie.Need-same-length-7
-same-length-7 c = search rules
+shape_of-json : tie.Need-shape_of-json
+shape_of-json c = search rules
 
-same-length-8 : tie.Need-same-length-8
-same-length-8 c = search rules
+shape_of-reason : tie.Need-shape_of-reason
+shape_of-reason c = search rules
 
 returns : tie.Need-returns
-returns c = let e = c.before.before.before.before.before.before.before.before.before.before.before.before.before.before.before.before.before.drain.ensures in record { answers = c.drain-answer.ensures ∙ ap drain_answer_of e.answer; leaves = rw e.answer at e }
+returns c = let e = c.drain.ensures in record { answers = c.drain_answer.ensures ∙ ap drain_answer_of e.answer; leaves = rw e.answer at e }
 
-pub keep-drain-spec : {M : Type 1} → statement M
-keep-drain-spec =
+pub keep_drain_spec : {M : Type 1} → statement M
+keep_drain_spec =
     tie.close
     (tie.spec
     drain-requires
-    drain-answer-requires
-    same_length
-    same-length-2
-    same-length-3
-    same-length-4
-    same-length-5
-    same-length-6
-    same-length-7
-    same-length-8
+    drain_answer-requires
+    shape_of-marks
+    shape_of-lines
+    shape_of-modules
+    shape_of-statements
+    shape_of-used
+    shape_of-external
+    shape_of-json
+    shape_of-reason
     returns)

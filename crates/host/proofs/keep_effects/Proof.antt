@@ -7,14 +7,20 @@ use Rattle.host.proofs.keep_effects.Tie as tie
 effects-requires : tie.Need-effects-requires
 effects-requires c κs = search rules
 
-check-answer-requires : tie.Need-check-answer-requires
-check-answer-requires c κs = search rules
+check_answer-requires : tie.Need-check_answer-requires
+check_answer-requires c κs = search rules
 
-same_length : tie.Need-same-length
-same_length c = search rules
+shape_of-verdicts : tie.Need-shape_of-verdicts
+shape_of-verdicts c = search rules
 
 returns : tie.Need-returns
-returns c = let e = c.before.before.before.effects.ensures in record { answers = c.check-answer.ensures ∙ ap check_answer_of e.0; leaves = e.1 }
+returns c = let e = c.effects.ensures in record { answers = c.check_answer.ensures ∙ ap check_answer_of e.0; leaves = e.1 }
 
-pub keep-effects-spec : {M : Type 1} → statement M
-keep-effects-spec = tie.close (tie.spec effects-requires check-answer-requires same_length returns)
+pub keep_effects_spec : {M : Type 1} → statement M
+keep_effects_spec =
+    tie.close
+    (tie.spec
+    effects-requires
+    check_answer-requires
+    shape_of-verdicts
+    returns)

@@ -7,14 +7,20 @@ use Rattle.host.proofs.keep_read.Tie as tie
 read-requires : tie.Need-read-requires
 read-requires c κs = search rules
 
-read-answer-requires : tie.Need-read-answer-requires
-read-answer-requires c κs = search rules
+read_answer-requires : tie.Need-read_answer-requires
+read_answer-requires c κs = search rules
 
-same_length : tie.Need-same-length
-same_length c = search rules
+shape_of-numbers : tie.Need-shape_of-numbers
+shape_of-numbers c = search rules
 
 returns : tie.Need-returns
-returns c = let r = c.before.before.before.read.ensures in record { answers = c.read_answer.ensures ∙ ap read_answer_of r.answers; leaves = r.leaves }
+returns c = let r = c.read.ensures in record { answers = c.read_answer.ensures ∙ ap read_answer_of r.answers; leaves = r.leaves }
 
-pub keep-read-spec : {M : Type 1} → statement M
-keep-read-spec = tie.close (tie.spec read-requires read-answer-requires same_length returns)
+pub keep_read_spec : {M : Type 1} → statement M
+keep_read_spec =
+    tie.close
+    (tie.spec
+    read-requires
+    read_answer-requires
+    shape_of-numbers
+    returns)

@@ -7,60 +7,60 @@ use Rattle.host.proofs.keep_run.Tie as tie
 run-requires : tie.Need-run-requires
 run-requires c κs = search rules
 
-run-answer-requires : tie.Need-run-answer-requires
-run-answer-requires c κs = search rules
+run_answer-requires : tie.Need-run_answer-requires
+run_answer-requires c κs = search rules
 
-same_length : tie.Need-same-length
-same_length c = search rules
+shape_of-marks : tie.Need-shape_of-marks
+shape_of-marks c = search rules
 
-same-length-2 : tie.Need-same-length-2
-same-length-2 c = search rules
+shape_of-lines : tie.Need-shape_of-lines
+shape_of-lines c = search rules
 
-same-length-3 : tie.Need-same-length-3
-same-length-3 c = search rules
+shape_of-modules : tie.Need-shape_of-modules
+shape_of-modules c = search rules
 
-same-length-4 : tie.Need-same-length-4
-same-length-4 c = search rules
+shape_of-statements : tie.Need-shape_of-statements
+shape_of-statements c = search rules
 
-same-length-5 : tie.Need-same-length-5
-same-length-5 c = search rules
+shape_of-used : tie.Need-shape_of-used
+shape_of-used c = search rules
 
-same-length-6 : tie.Need-same-length-6
-same-length-6 c = search rules
+shape_of-external : tie.Need-shape_of-external
+shape_of-external c = search rules
 
-same-length-7 : tie.Need-same-length-7
-same-length-7 c = search rules
+shape_of-json : tie.Need-shape_of-json
+shape_of-json c = search rules
 
-same-length-8 : tie.Need-same-length-8
-same-length-8 c = search rules
+shape_of-reason : tie.Need-shape_of-reason
+shape_of-reason c = search rules
 
-same-length-9 : tie.Need-same-length-9
-same-length-9 c = search rules
+shape_of-dead : tie.Need-shape_of-dead
+shape_of-dead c = search rules
 
-same-length-10 : tie.Need-same-length-10
-same-length-10 c = search rules
+shape_of-helpers : tie.Need-shape_of-helpers
+shape_of-helpers c = search rules
 
-same-length-11 : tie.Need-same-length-11
-same-length-11 c = search rules
+shape_of-entries : tie.Need-shape_of-entries
+shape_of-entries c = search rules
 
 returns : tie.Need-returns
-returns c = let e = c.before.before.before.before.before.before.before.before.before.before.before.before.before.before.before.before.before.before.before.before.before.before.before.run.ensures in record { answers = c.run-answer.ensures ∙ ap run_answer_of e.answer; leaves = rw e.answer at e }
+returns c = let e = c.run.ensures in record { answers = c.run_answer.ensures ∙ ap run_answer_of e.answer; leaves = rw e.answer at e }
 
-pub keep-run-spec : {M : Type 1} → statement M
-keep-run-spec =
+pub keep_run_spec : {M : Type 1} → statement M
+keep_run_spec =
     tie.close
     (tie.spec
     run-requires
-    run-answer-requires
-    same_length
-    same-length-2
-    same-length-3
-    same-length-4
-    same-length-5
-    same-length-6
-    same-length-7
-    same-length-8
-    same-length-9
-    same-length-10
-    same-length-11
+    run_answer-requires
+    shape_of-marks
+    shape_of-lines
+    shape_of-modules
+    shape_of-statements
+    shape_of-used
+    shape_of-external
+    shape_of-json
+    shape_of-reason
+    shape_of-dead
+    shape_of-helpers
+    shape_of-entries
     returns)

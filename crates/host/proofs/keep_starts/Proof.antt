@@ -7,20 +7,28 @@ use Rattle.host.proofs.keep_starts.Tie as tie
 starts-requires : tie.Need-starts-requires
 starts-requires c κs = search rules
 
-starts-answer-requires : tie.Need-starts-answer-requires
-starts-answer-requires c κs = search rules
+starts_answer-requires : tie.Need-starts_answer-requires
+starts_answer-requires c κs = search rules
 
-same_length : tie.Need-same-length
-same_length c = search rules
+shape_of-marks : tie.Need-shape_of-marks
+shape_of-marks c = search rules
 
-same-length-2 : tie.Need-same-length-2
-same-length-2 c = search rules
+shape_of-lines : tie.Need-shape_of-lines
+shape_of-lines c = search rules
 
-same-length-3 : tie.Need-same-length-3
-same-length-3 c = search rules
+shape_of-starts : tie.Need-shape_of-starts
+shape_of-starts c = search rules
 
 returns : tie.Need-returns
-returns c = let e = c.before.before.before.before.before.before.before.starts.ensures in record { answers = c.starts-answer.ensures ∙ ap starts_answer_of e.answer; leaves = rw e.answer at e }
+returns c = let e = c.starts.ensures in record { answers = c.starts_answer.ensures ∙ ap starts_answer_of e.answer; leaves = rw e.answer at e }
 
-pub keep-starts-spec : {M : Type 1} → statement M
-keep-starts-spec = tie.close (tie.spec starts-requires starts-answer-requires same_length same-length-2 same-length-3 returns)
+pub keep_starts_spec : {M : Type 1} → statement M
+keep_starts_spec =
+    tie.close
+    (tie.spec
+    starts-requires
+    starts_answer-requires
+    shape_of-marks
+    shape_of-lines
+    shape_of-starts
+    returns)

@@ -7,37 +7,47 @@ use Rattle.keep_rules.proofs.Picks.{gives_good, nothing_good}
 use Rattle.include_module.proofs.dependency_candidate.Statement.{statement}
 use Rattle.include_module.proofs.dependency_candidate.Tie as tie
 
-dependency-requires : tie.Need-dependency-requires
-dependency-requires c κs = let s = c.before.before in (s.requires.0.loaded, s.requires.1)
+dependency-d-requires : tie.Need-dependency-d-requires
+dependency-d-requires c κs = (c.requires.0.loaded, c.requires.1)
 
-is-normal-requires : tie.Need-is-normal-requires
-is-normal-requires c κs = let s = c.before.before.before in (s.requires.0.loaded, c.dependency.ensures.1)
+is_normal-requires : tie.Need-is_normal-requires
+is_normal-requires c κs = (c.requires.0.loaded, c.dependency-d.ensures.1)
 
-returns : tie.Need-returns
-returns c = (dependency_external _ _ _ _ _ c.before.before.dependency.ensures.0 (sym c.before.is_normal.ensures ∙ not_true _ c.if1.true), nothing_good)
+returns-then-not-is_normal : tie.Need-returns-then-not-is_normal
+returns-then-not-is_normal c = (dependency_external _ _ _ _ _ c.dependency-d.ensures.0 (sym c.is_normal.ensures ∙ not_true _ c.if-not-is_normal.true), nothing_good)
 
 option-requires : tie.Need-option-requires
-option-requires c κs = let s = c.before.before.before.before.before in (s.requires.0.loaded.long, omega arith)
+option-requires c κs = (c.requires.0.loaded.long, omega arith)
 
-returns-2 : tie.Need-returns-2
+returns-then-not-option : tie.Need-returns-then-not-option
 unfolding graph_in
-returns-2 c = let d = c.before.before.before.before.dependency.ensures in
-    let n = sym c.before.before.before.is_normal.ensures ∙ not-false _ c.before.before.if1.false in
-    (dependency_whole _ _ _ _ _ d.0 n (sym c.before.option.ensures ∙ not_true _ c.if2.true), gives_good (d.1, n))
+returns-then-not-option c = let d = c.dependency-d.ensures in
+    let n = sym c.is_normal.ensures ∙ not-false _ c.if-not-is_normal.false in
+    (dependency_whole _ _ _ _ _ d.0 n (sym c.option.ensures ∙ not_true _ c.if-not-option.true), gives_good (d.1, n))
 
-has-effects-requires : tie.Need-has-effects-requires
-has-effects-requires c κs = let s = c.before.before.before.before.before.before.before in (s.requires.0.settled, c.before.before.before.before.dependency.ensures.1)
+has_effects-requires : tie.Need-has_effects-requires
+has_effects-requires c κs = (c.requires.0.settled, c.dependency-d.ensures.1)
 
-returns-3 : tie.Need-returns-3
+returns-then-has_effects : tie.Need-returns-then-has_effects
 unfolding graph_in
-returns-3 c = let d = c.before.before.before.before.before.before.dependency.ensures in
-    let n = sym c.before.before.before.before.before.is_normal.ensures ∙ not-false _ c.before.before.before.before.if1.false in
-    (dependency_effects _ _ _ _ _ d.0 n (sym c.before.before.before.option.ensures ∙ not-false _ c.before.before.if2.false) (sym c.before.has_effects.ensures ∙ c.if3.true), gives_good (d.1, n))
+returns-then-has_effects c = let d = c.dependency-d.ensures in
+    let n = sym c.is_normal.ensures ∙ not-false _ c.if-not-is_normal.false in
+    (dependency_effects _ _ _ _ _ d.0 n (sym c.option.ensures ∙ not-false _ c.if-not-option.false) (sym c.has_effects.ensures ∙ c.if-has_effects.true), gives_good (d.1, n))
 
-returns-4 : tie.Need-returns-4
-returns-4 c = let d = c.before.before.before.before.before.before.dependency.ensures in
-    let n = sym c.before.before.before.before.before.is_normal.ensures ∙ not-false _ c.before.before.before.before.if1.false in
-    (dependency_quiet _ _ _ _ _ d.0 n (sym c.before.before.before.option.ensures ∙ not-false _ c.before.before.if2.false) (sym c.before.has_effects.ensures ∙ c.if3.false), nothing_good)
+returns : tie.Need-returns
+returns c = let d = c.dependency-d.ensures in
+    let n = sym c.is_normal.ensures ∙ not-false _ c.if-not-is_normal.false in
+    (dependency_quiet _ _ _ _ _ d.0 n (sym c.option.ensures ∙ not-false _ c.if-not-option.false) (sym c.has_effects.ensures ∙ c.if-has_effects.false), nothing_good)
 
-pub dependency-candidate-spec : {M : Type 1} → statement M
-dependency-candidate-spec = tie.close (tie.spec dependency-requires is-normal-requires returns option-requires returns-2 has-effects-requires returns-3 returns-4)
+pub dependency_candidate_spec : {M : Type 1} → statement M
+dependency_candidate_spec =
+    tie.close
+    (tie.spec
+    dependency-d-requires
+    is_normal-requires
+    returns-then-not-is_normal
+    option-requires
+    returns-then-not-option
+    has_effects-requires
+    returns-then-has_effects
+    returns)

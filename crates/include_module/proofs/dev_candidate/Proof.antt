@@ -6,15 +6,20 @@ use Rattle.keep_rules.proofs.Picks.{gives_good, nothing_good}
 use Rattle.include_module.proofs.dev_candidate.Statement.{statement}
 use Rattle.include_module.proofs.dev_candidate.Tie as tie
 
-dev-namespace-requires : tie.Need-dev-namespace-requires
-dev-namespace-requires c κs = let s = c.before.before in (s.requires.0, s.requires.1.0)
+dev_namespace-requires : tie.Need-dev_namespace-requires
+dev_namespace-requires c κs = (c.requires.0, c.requires.1.0)
+
+returns-then-dev_namespace : tie.Need-returns-then-dev_namespace
+unfolding graph_in
+returns-then-dev_namespace c = (dev_kept _ _ _ (sym c.dev_namespace.ensures ∙ c.if-dev_namespace.true), gives_good (c.requires.1.0, statements_of_normal c.requires.0.loaded c.args.m.0 c.requires.1.0 c.requires.1.1))
 
 returns : tie.Need-returns
-unfolding graph_in
-returns c = let s = c.before.before.before.before in (dev_kept _ _ _ (sym c.before.dev-namespace.ensures ∙ c.if1.true), gives_good (s.requires.1.0, statements_of_normal s.requires.0.loaded s.args.m.0 s.requires.1.0 s.requires.1.1))
+returns c = (dev_left _ _ _ (sym c.dev_namespace.ensures ∙ c.if-dev_namespace.false), nothing_good)
 
-returns-2 : tie.Need-returns-2
-returns-2 c = (dev_left _ _ _ (sym c.before.dev-namespace.ensures ∙ c.if1.false), nothing_good)
-
-pub dev-candidate-spec : {M : Type 1} → statement M
-dev-candidate-spec = tie.close (tie.spec dev-namespace-requires returns returns-2)
+pub dev_candidate_spec : {M : Type 1} → statement M
+dev_candidate_spec =
+    tie.close
+    (tie.spec
+    dev_namespace-requires
+    returns-then-dev_namespace
+    returns)

@@ -7,24 +7,32 @@ use Rattle.include_module.proofs.dev_namespace.Statement.{statement}
 use Rattle.include_module.proofs.dev_namespace.Tie as tie
 
 option-requires : tie.Need-option-requires
-option-requires c κs = (c.before.before.requires.0.loaded.long, omega arith)
+option-requires c κs = (c.requires.0.loaded.long, omega arith)
 
-returns : tie.Need-returns
-returns c = not_dev _ _ (sym c.before.option.ensures ∙ not_true _ c.if1.true)
+returns-then-not-option : tie.Need-returns-then-not-option
+returns-then-not-option c = not_dev _ _ (sym c.option.ensures ∙ not_true _ c.if-not-option.true)
 
-header-of-requires : tie.Need-header-of-requires
-header-of-requires c κs = c.before.before.before.before.requires.0.loaded.long
+header_of-h-requires : tie.Need-header_of-h-requires
+header_of-h-requires c κs = c.requires.0.loaded.long
 
-returns-2 : tie.Need-returns-2
+returns-then-m-h : tie.Need-returns-then-m-h
 unfolding graph_in
-returns-2 c = dev-runtime _ _ _ (ap (λ h. h.runtime) c.before.before.before.header_of.ensures) (sym c.before.before.before.before.before.option.ensures ∙ not-false _ c.before.before.before.before.if1.false) c.if2.true
+returns-then-m-h c = dev-runtime _ _ _ (ap (λ h. h.runtime) c.header_of-h.ensures) (sym c.option.ensures ∙ not-false _ c.if-not-option.false) c.if-m-h.true
 
 exports-requires : tie.Need-exports-requires
-exports-requires c κs = let s = c.before.before.before.before.before.before.before.before in (s.requires.0.loaded, s.requires.1)
+exports-requires c κs = (c.requires.0.loaded, c.requires.1)
 
-returns-3 : tie.Need-returns-3
+returns : tie.Need-returns
 unfolding graph_in
-returns-3 c = dev-other _ _ _ (ap (λ h. h.runtime) c.before.before.before.before.header_of.ensures) (sym c.before.before.before.before.before.before.option.ensures ∙ not-false _ c.before.before.before.before.before.if1.false) c.before.if2.false c.exports.ensures
+returns c = dev-other _ _ _ (ap (λ h. h.runtime) c.header_of-h.ensures) (sym c.option.ensures ∙ not-false _ c.if-not-option.false) c.if-m-h.false c.exports.ensures
 
-pub dev-namespace-spec : {M : Type 1} → statement M
-dev-namespace-spec = tie.close (tie.spec option-requires returns header-of-requires returns-2 exports-requires returns-3)
+pub dev_namespace_spec : {M : Type 1} → statement M
+dev_namespace_spec =
+    tie.close
+    (tie.spec
+    option-requires
+    returns-then-not-option
+    header_of-h-requires
+    returns-then-m-h
+    exports-requires
+    returns)

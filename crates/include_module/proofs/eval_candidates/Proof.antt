@@ -6,25 +6,34 @@ use Rattle.include_module.proofs.eval_candidates.Statement.{statement}
 use Rattle.include_module.proofs.eval_candidates.Tie as tie
 
 flags-requires : tie.Need-flags-requires
-flags-requires c κs = let s = c.before.before in (s.requires.0.loaded, s.requires.1)
+flags-requires c κs = (c.requires.0.loaded, c.requires.1)
 
 flag-requires : tie.Need-flag-requires
 flag-requires c κs = (omega arith)
 
+returns-then-not-flag : tie.Need-returns-then-not-flag
+returns-then-not-flag c = no_eval _ _ _ c.flags.ensures (sym c.flag.ensures ∙ not_true _ c.if-not-flag.true)
+
+module_type-requires : tie.Need-module_type-requires
+module_type-requires c κs = (c.requires.0.loaded, c.requires.1)
+
+named_import_count-requires : tie.Need-named_import_count-requires
+named_import_count-requires c κs = (c.requires.0.loaded, c.requires.1)
+
+returns-then-module_type-lt2 : tie.Need-returns-then-module_type-lt2
+returns-then-module_type-lt2 c = eval-all _ _ _ c.flags.ensures _ c.module_type.ensures (sym c.flag.ensures ∙ not-false _ c.if-not-flag.false) c.if-module_type-lt2.true c.named_import_count.ensures.0
+
 returns : tie.Need-returns
-returns c = no_eval _ _ _ c.before.before.flags.ensures (sym c.before.flag.ensures ∙ not_true _ c.if1.true)
+returns c = eval-none _ _ _ c.flags.ensures _ c.module_type.ensures (sym c.flag.ensures ∙ not-false _ c.if-not-flag.false) c.if-module_type-lt2.false
 
-module-type-requires : tie.Need-module-type-requires
-module-type-requires c κs = let s = c.before.before.before.before.before in (s.requires.0.loaded, s.requires.1)
-
-named-import-count-requires : tie.Need-named-import-count-requires
-named-import-count-requires c κs = let s = c.before.before.before.before.before.before.before in (s.requires.0.loaded, s.requires.1)
-
-returns-2 : tie.Need-returns-2
-returns-2 c = eval-all _ _ _ c.before.before.before.before.before.flags.ensures _ c.before.before.module-type.ensures (sym c.before.before.before.before.flag.ensures ∙ not-false _ c.before.before.before.if1.false) c.before.if2.true c.named-import-count.ensures.0
-
-returns-3 : tie.Need-returns-3
-returns-3 c = eval-none _ _ _ c.before.before.before.before.flags.ensures _ c.before.module-type.ensures (sym c.before.before.before.flag.ensures ∙ not-false _ c.before.before.if1.false) c.if2.false
-
-pub eval-candidates-spec : {M : Type 1} → statement M
-eval-candidates-spec = tie.close (tie.spec flags-requires flag-requires returns module-type-requires named-import-count-requires returns-2 returns-3)
+pub eval_candidates_spec : {M : Type 1} → statement M
+eval_candidates_spec =
+    tie.close
+    (tie.spec
+    flags-requires
+    flag-requires
+    returns-then-not-flag
+    module_type-requires
+    named_import_count-requires
+    returns-then-module_type-lt2
+    returns)

@@ -4,19 +4,25 @@ use Rattle.determine_side_effects.specs.graph_crate.Check.{graph_in}
 use Rattle.include_module.proofs.is_quiet_runtime.Statement.{statement}
 use Rattle.include_module.proofs.is_quiet_runtime.Tie as tie
 
-header-of-requires : tie.Need-header-of-requires
-header-of-requires c κs = c.before.before.requires.0.loaded.long
+header_of-h-requires : tie.Need-header_of-h-requires
+header_of-h-requires c κs = c.requires.0.loaded.long
+
+returns-then-m-h : tie.Need-returns-then-m-h
+unfolding graph_in
+returns-then-m-h c = another_module _ _ _ _ (ap (λ h. h.runtime) c.header_of-h.ensures) c.if-m-h.true
+
+has_effects-requires : tie.Need-has_effects-requires
+has_effects-requires c κs = (c.requires.0.settled, c.requires.1)
 
 returns : tie.Need-returns
 unfolding graph_in
-returns c = another_module _ _ _ _ (ap (λ h. h.runtime) c.before.before.before.header_of.ensures) c.if1.true
+returns c = the_runtime _ _ _ _ (ap (λ h. h.runtime) c.header_of-h.ensures) c.if-m-h.false c.has_effects.ensures
 
-has-effects-requires : tie.Need-has-effects-requires
-has-effects-requires c κs = let s = c.before.before.before.before.before.before in (s.requires.0.settled, s.requires.1)
-
-returns-2 : tie.Need-returns-2
-unfolding graph_in
-returns-2 c = the_runtime _ _ _ _ (ap (λ h. h.runtime) c.before.before.before.before.header_of.ensures) c.before.if1.false c.has_effects.ensures
-
-pub is-quiet-runtime-spec : {M : Type 1} → statement M
-is-quiet-runtime-spec = tie.close (tie.spec header-of-requires returns has-effects-requires returns-2)
+pub is_quiet_runtime_spec : {M : Type 1} → statement M
+is_quiet_runtime_spec =
+    tie.close
+    (tie.spec
+    header_of-h-requires
+    returns-then-m-h
+    has_effects-requires
+    returns)

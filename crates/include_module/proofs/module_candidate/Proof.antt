@@ -5,35 +5,47 @@ use mathlib.Core.Path.{◌∙◌}
 use Rattle.include_module.proofs.module_candidate.Statement.{statement}
 use Rattle.include_module.proofs.module_candidate.Tie as tie
 
-sweep-candidate-requires : tie.Need-sweep-candidate-requires
-sweep-candidate-requires c κs = let s = c.before.before.before in (s.requires.0, (s.requires.1.0.0, place_in _ (segment_0 _ _ _ _ c.if1.true) s.requires.1.0.2))
+sweep_candidate-requires : tie.Need-sweep_candidate-requires
+sweep_candidate-requires c κs = (c.requires.0, (c.requires.1.0.0, place_in _ (segment_0 _ _ _ _ c.if-j-eq0.true) c.requires.1.0.2))
+
+returns-then-j-eq0 : tie.Need-returns-then-j-eq0
+returns-then-j-eq0 c = let e = c.sweep_candidate.ensures in (e.0 ∙ picked _ (segment_0 _ _ _ _ c.if-j-eq0.true), e.1)
+
+dependency_candidate-requires : tie.Need-dependency_candidate-requires
+dependency_candidate-requires c κs = (c.requires.0, (c.requires.1.0.0, place_in _ (segment_1 _ _ _ _ c.if-j-eq1.true) c.requires.1.0.2))
+
+returns-then-j-eq1 : tie.Need-returns-then-j-eq1
+returns-then-j-eq1 c = let e = c.dependency_candidate.ensures in (e.0 ∙ picked _ (segment_1 _ _ _ _ c.if-j-eq1.true), e.1)
+
+eval_candidate-requires : tie.Need-eval_candidate-requires
+eval_candidate-requires c κs = (c.requires.0, (c.requires.1.0.0, eval_in _ _ _ (place_in _ (segment_2 _ _ _ _ c.if-j-eq2.true) c.requires.1.0.2)))
+
+returns-then-j-eq2 : tie.Need-returns-then-j-eq2
+returns-then-j-eq2 c = let e = c.eval_candidate.ensures in (e.0 ∙ picked _ (segment_2 _ _ _ _ c.if-j-eq2.true), e.1)
+
+export_symbol_candidate-requires : tie.Need-export_symbol_candidate-requires
+export_symbol_candidate-requires c κs = (c.requires.0, (c.requires.1.0.0, place_in _ (segment_3 _ _ _ _ c.if-j-eq3.true) c.requires.1.0.2))
+
+returns-then-j-eq3 : tie.Need-returns-then-j-eq3
+returns-then-j-eq3 c = let e = c.export_symbol_candidate.ensures in (e.0 ∙ picked _ (segment_3 _ _ _ _ c.if-j-eq3.true), e.1)
+
+dev_candidate-requires : tie.Need-dev_candidate-requires
+dev_candidate-requires c κs = (c.requires.0, (c.requires.1.0.0, c.requires.1.1))
 
 returns : tie.Need-returns
-returns c = let e = c.sweep-candidate.ensures in (e.0 ∙ picked _ (segment_0 _ _ _ _ c.before.if1.true), e.1)
+returns c = let e = c.dev_candidate.ensures in (e.0 ∙ dev_any _ _ _ _ ∙ picked _ (segment_4 _ _ _ _ c.requires.1.0.1 c.if-j-eq0.false c.if-j-eq1.false c.if-j-eq2.false c.if-j-eq3.false), e.1)
 
-dependency-candidate-requires : tie.Need-dependency-candidate-requires
-dependency-candidate-requires c κs = let s = c.before.before.before.before in (s.requires.0, (s.requires.1.0.0, place_in _ (segment_1 _ _ _ _ c.if2.true) s.requires.1.0.2))
-
-returns-2 : tie.Need-returns-2
-returns-2 c = let e = c.dependency-candidate.ensures in (e.0 ∙ picked _ (segment_1 _ _ _ _ c.before.if2.true), e.1)
-
-eval-candidate-requires : tie.Need-eval-candidate-requires
-eval-candidate-requires c κs = let s = c.before.before.before.before.before in (s.requires.0, (s.requires.1.0.0, eval_in _ _ _ (place_in _ (segment_2 _ _ _ _ c.if3.true) s.requires.1.0.2)))
-
-returns-3 : tie.Need-returns-3
-returns-3 c = let e = c.eval-candidate.ensures in (e.0 ∙ picked _ (segment_2 _ _ _ _ c.before.if3.true), e.1)
-
-export-symbol-candidate-requires : tie.Need-export-symbol-candidate-requires
-export-symbol-candidate-requires c κs = let s = c.before.before.before.before.before.before in (s.requires.0, (s.requires.1.0.0, place_in _ (segment_3 _ _ _ _ c.if4.true) s.requires.1.0.2))
-
-returns-4 : tie.Need-returns-4
-returns-4 c = let e = c.export-symbol-candidate.ensures in (e.0 ∙ picked _ (segment_3 _ _ _ _ c.before.if4.true), e.1)
-
-dev-candidate-requires : tie.Need-dev-candidate-requires
-dev-candidate-requires c κs = let s = c.before.before.before.before.before.before in (s.requires.0, (s.requires.1.0.0, s.requires.1.1))
-
-returns-5 : tie.Need-returns-5
-returns-5 c = let e = c.dev-candidate.ensures in (e.0 ∙ dev_any _ _ _ _ ∙ picked _ (segment_4 _ _ _ _ c.before.before.before.before.before.before.before.requires.1.0.1 c.before.before.before.before.if1.false c.before.before.before.if2.false c.before.before.if3.false c.before.if4.false), e.1)
-
-pub module-candidate-spec : {M : Type 1} → statement M
-module-candidate-spec = tie.close (tie.spec sweep-candidate-requires returns dependency-candidate-requires returns-2 eval-candidate-requires returns-3 export-symbol-candidate-requires returns-4 dev-candidate-requires returns-5)
+pub module_candidate_spec : {M : Type 1} → statement M
+module_candidate_spec =
+    tie.close
+    (tie.spec
+    sweep_candidate-requires
+    returns-then-j-eq0
+    dependency_candidate-requires
+    returns-then-j-eq1
+    eval_candidate-requires
+    returns-then-j-eq2
+    export_symbol_candidate-requires
+    returns-then-j-eq3
+    dev_candidate-requires
+    returns)

@@ -4,32 +4,43 @@ use mathlib.Core.Path.{◌∙◌}
 use Rattle.include_module.proofs.module_candidates.Statement.{statement}
 use Rattle.include_module.proofs.module_candidates.Tie as tie
 
-statement-count-requires : tie.Need-statement-count-requires
-statement-count-requires c κs = let s = c.before.before.before in (s.requires.0.loaded, s.requires.1.0)
+statement_count-requires : tie.Need-statement_count-requires
+statement_count-requires c κs = (c.requires.0.loaded, c.requires.1.0)
+
+returns-then-j-eq0 : tie.Need-returns-then-j-eq0
+returns-then-j-eq0 c = c.statement_count.ensures.0 ∙ counted (segment_0 _ _ _ _ c.if-j-eq0.true)
+
+dependency_count-requires : tie.Need-dependency_count-requires
+dependency_count-requires c κs = (c.requires.0.loaded, c.requires.1.0)
+
+returns-then-j-eq1 : tie.Need-returns-then-j-eq1
+returns-then-j-eq1 c = c.dependency_count.ensures.0 ∙ counted (segment_1 _ _ _ _ c.if-j-eq1.true)
+
+eval_candidates-requires : tie.Need-eval_candidates-requires
+eval_candidates-requires c κs = (c.requires.0, c.requires.1.0)
+
+returns-then-j-eq2 : tie.Need-returns-then-j-eq2
+returns-then-j-eq2 c = c.eval_candidates.ensures ∙ counted (segment_2 _ _ _ _ c.if-j-eq2.true)
+
+export_symbol_count-requires : tie.Need-export_symbol_count-requires
+export_symbol_count-requires c κs = (c.requires.0.loaded, c.requires.1.0)
+
+returns-then-j-eq3 : tie.Need-returns-then-j-eq3
+returns-then-j-eq3 c = c.export_symbol_count.ensures.0 ∙ counted (segment_3 _ _ _ _ c.if-j-eq3.true)
 
 returns : tie.Need-returns
-returns c = c.statement-count.ensures.0 ∙ counted (segment_0 _ _ _ _ c.before.if1.true)
+returns c = counted (segment_4 _ _ _ _ c.requires.1.1 c.if-j-eq0.false c.if-j-eq1.false c.if-j-eq2.false c.if-j-eq3.false)
 
-dependency-count-requires : tie.Need-dependency-count-requires
-dependency-count-requires c κs = let s = c.before.before.before.before in (s.requires.0.loaded, s.requires.1.0)
-
-returns-2 : tie.Need-returns-2
-returns-2 c = c.dependency-count.ensures.0 ∙ counted (segment_1 _ _ _ _ c.before.if2.true)
-
-eval-candidates-requires : tie.Need-eval-candidates-requires
-eval-candidates-requires c κs = let s = c.before.before.before.before.before in (s.requires.0, s.requires.1.0)
-
-returns-3 : tie.Need-returns-3
-returns-3 c = c.eval-candidates.ensures ∙ counted (segment_2 _ _ _ _ c.before.if3.true)
-
-export-symbol-count-requires : tie.Need-export-symbol-count-requires
-export-symbol-count-requires c κs = let s = c.before.before.before.before.before.before in (s.requires.0.loaded, s.requires.1.0)
-
-returns-4 : tie.Need-returns-4
-returns-4 c = c.export-symbol-count.ensures.0 ∙ counted (segment_3 _ _ _ _ c.before.if4.true)
-
-returns-5 : tie.Need-returns-5
-returns-5 c = counted (segment_4 _ _ _ _ c.before.before.before.before.before.before.requires.1.1 c.before.before.before.if1.false c.before.before.if2.false c.before.if3.false c.if4.false)
-
-pub module-candidates-spec : {M : Type 1} → statement M
-module-candidates-spec = tie.close (tie.spec statement-count-requires returns dependency-count-requires returns-2 eval-candidates-requires returns-3 export-symbol-count-requires returns-4 returns-5)
+pub module_candidates_spec : {M : Type 1} → statement M
+module_candidates_spec =
+    tie.close
+    (tie.spec
+    statement_count-requires
+    returns-then-j-eq0
+    dependency_count-requires
+    returns-then-j-eq1
+    eval_candidates-requires
+    returns-then-j-eq2
+    export_symbol_count-requires
+    returns-then-j-eq3
+    returns)

@@ -6,14 +6,19 @@ use Rattle.include_module.proofs.sweep_candidate.Statement.{statement}
 use Rattle.include_module.proofs.sweep_candidate.Tie as tie
 
 swept-requires : tie.Need-swept-requires
-swept-requires c κs = (c.before.before.requires.0, c.before.before.requires.1)
+swept-requires c κs = (c.requires.0, c.requires.1)
+
+returns-then-swept : tie.Need-returns-then-swept
+unfolding graph_in
+returns-then-swept c = (swept_kept _ _ _ _ (sym c.swept.ensures ∙ c.if-swept.true), gives_good c.requires.1)
 
 returns : tie.Need-returns
-unfolding graph_in
-returns c = (swept_kept _ _ _ _ (sym c.before.swept.ensures ∙ c.if1.true), gives_good c.before.before.before.before.requires.1)
+returns c = (swept_left _ _ _ _ (sym c.swept.ensures ∙ c.if-swept.false), nothing_good)
 
-returns-2 : tie.Need-returns-2
-returns-2 c = (swept_left _ _ _ _ (sym c.before.swept.ensures ∙ c.if1.false), nothing_good)
-
-pub sweep-candidate-spec : {M : Type 1} → statement M
-sweep-candidate-spec = tie.close (tie.spec swept-requires returns returns-2)
+pub sweep_candidate_spec : {M : Type 1} → statement M
+sweep_candidate_spec =
+    tie.close
+    (tie.spec
+    swept-requires
+    returns-then-swept
+    returns)

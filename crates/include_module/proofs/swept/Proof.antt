@@ -5,26 +5,35 @@ use native.Mathlib.Omega.{arith}
 use Rattle.include_module.proofs.swept.Statement.{statement}
 use Rattle.include_module.proofs.swept.Tie as tie
 
-returns : tie.Need-returns
-returns c = never_first _ _ _ _ c.if1.true
+returns-then-i-eq0 : tie.Need-returns-then-i-eq0
+returns-then-i-eq0 c = never_first _ _ _ _ c.if-i-eq0.true
 
 option-requires : tie.Need-option-requires
-option-requires c κs = (c.before.before.before.before.requires.0.loaded.long, omega arith)
+option-requires c κs = (c.requires.0.loaded.long, omega arith)
 
 verdict-requires : tie.Need-verdict-requires
-verdict-requires c κs = let s = c.before.before.before.before.before.before in (s.requires.0.settled, s.requires.1.0)
+verdict-requires c κs = (c.requires.0.settled, c.requires.1.0)
 
-swept-shaken-requires : tie.Need-swept-shaken-requires
-swept-shaken-requires c κs = c.before.before.before.before.before.before.before.before.requires
+swept_shaken-requires : tie.Need-swept_shaken-requires
+swept_shaken-requires c κs = c.requires
 
-returns-2 : tie.Need-returns-2
-returns-2 c = swept-shaken _ _ _ _ c.before.before.before.before.before.if1.false (sym c.before.before.before.before.option.ensures ∙ c.before.before.before.if2.true) c.before.before.verdict.ensures c.before.if3.true c.swept-shaken.ensures
+returns-then-verdict-ne4 : tie.Need-returns-then-verdict-ne4
+returns-then-verdict-ne4 c = swept-shaken _ _ _ _ c.if-i-eq0.false (sym c.option.ensures ∙ c.if-option.true) c.verdict.ensures c.if-verdict-ne4.true c.swept_shaken.ensures
 
-swept-whole-requires : tie.Need-swept-whole-requires
-swept-whole-requires c κs = c.before.before.before.before.before.before.requires
+swept_whole-requires : tie.Need-swept_whole-requires
+swept_whole-requires c κs = c.requires
 
-returns-3 : tie.Need-returns-3
-returns-3 c = swept_all _ _ _ _ c.before.before.before.if1.false (⊎_elim (λ w. inl (sym w.1.ensures ∙ w.2.left)) (λ w. inr (sym c.before.before.option.ensures ∙ w.left)) c.before.if2.branch) c.swept-whole.ensures
+returns : tie.Need-returns
+returns c = swept_all _ _ _ _ c.if-i-eq0.false (⊎_elim (λ w. inl (sym w.1.ensures ∙ w.2.left)) (λ w. inr (sym c.option.ensures ∙ w.left)) c.if-option.branch) c.swept_whole.ensures
 
-pub swept-spec : {M : Type 1} → statement M
-swept-spec = tie.close (tie.spec returns option-requires verdict-requires swept-shaken-requires returns-2 swept-whole-requires returns-3)
+pub swept_spec : {M : Type 1} → statement M
+swept_spec =
+    tie.close
+    (tie.spec
+    returns-then-i-eq0
+    option-requires
+    verdict-requires
+    swept_shaken-requires
+    returns-then-verdict-ne4
+    swept_whole-requires
+    returns)

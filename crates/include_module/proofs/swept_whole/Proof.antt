@@ -5,20 +5,27 @@ use native.Mathlib.Omega.{arith}
 use Rattle.include_module.proofs.swept_whole.Statement.{statement}
 use Rattle.include_module.proofs.swept_whole.Tie as tie
 
-bits-requires : tie.Need-bits-requires
-bits-requires c κs = let s = c.before.before in (s.requires.0.loaded, s.requires.1)
+bits-bits-requires : tie.Need-bits-bits-requires
+bits-bits-requires c κs = (c.requires.0.loaded, c.requires.1)
 
 flag-requires : tie.Need-flag-requires
 flag-requires c κs = (omega arith)
 
-returns : tie.Need-returns
-returns c = whole_free _ _ _ _ c.before.before.bits.ensures (sym c.before.flag.ensures ∙ not_true _ c.if1.true)
+returns-then-not-flag : tie.Need-returns-then-not-flag
+returns-then-not-flag c = whole_free _ _ _ _ c.bits-bits.ensures (sym c.flag.ensures ∙ not_true _ c.if-not-flag.true)
 
 flag-requires-2 : tie.Need-flag-requires-2
 flag-requires-2 c κs = (omega arith)
 
-returns-2 : tie.Need-returns-2
-returns-2 c = c.flag2.ensures ∙ whole_effect _ _ _ _ c.before.before.before.bits.ensures (sym c.before.before.flag.ensures ∙ not-false _ c.before.if1.false)
+returns : tie.Need-returns
+returns c = c.flag-2.ensures ∙ whole_effect _ _ _ _ c.bits-bits.ensures (sym c.flag.ensures ∙ not-false _ c.if-not-flag.false)
 
-pub swept-whole-spec : {M : Type 1} → statement M
-swept-whole-spec = tie.close (tie.spec bits-requires flag-requires returns flag-requires-2 returns-2)
+pub swept_whole_spec : {M : Type 1} → statement M
+swept_whole_spec =
+    tie.close
+    (tie.spec
+    bits-bits-requires
+    flag-requires
+    returns-then-not-flag
+    flag-requires-2
+    returns)

@@ -11,53 +11,70 @@ use Rattle.include_statement.proofs.bails_out.Statement.{statement}
 use Rattle.include_statement.proofs.bails_out.Tie as tie
 
 -- no bare import of a module without effects
-past : (c : tie.Joined4) → let s = c.before.before.before.before.before.before.before.before.before.before.before in (has_effects (last_verdicts (graph_in s.args.numbers.now)) s.args.t.0 ≡ true) ⊎ (flag 1 c.before.before.import-record-bits.result ≡ false)
-past c = ⊎_elim (λ w. inl (sym w.1.ensures ∙ not-false _ w.2.left)) (λ w. inr (sym c.before.flag.ensures ∙ w.left)) c.if4.branch
+past : (c : tie.Joined-flag) → (has_effects (last_verdicts (graph_in c.args.numbers.now)) c.args.t.0 ≡ true) ⊎ (flag 1 c.import_record_bits.result ≡ false)
+past c = ⊎_elim (λ w. inl (sym w.1.ensures ∙ not-false _ w.2.left)) (λ w. inr (sym c.flag.ensures ∙ w.left)) c.if-flag.branch
 
-is-normal-requires : tie.Need-is-normal-requires
-is-normal-requires c κs = let s = c.before.before in (s.requires.0.loaded, s.requires.1.1)
+is_normal-requires : tie.Need-is_normal-requires
+is_normal-requires c κs = (c.requires.0.loaded, c.requires.1.1)
 
-returns : tie.Need-returns
-returns c = bails_external _ _ _ _ _ c.before.before.before.before.requires.1.3 (sym c.before.is_normal.ensures ∙ not_true _ c.if1.true)
+returns-then-not-is_normal : tie.Need-returns-then-not-is_normal
+returns-then-not-is_normal c = bails_external _ _ _ _ _ c.requires.1.3 (sym c.is_normal.ensures ∙ not_true _ c.if-not-is_normal.true)
 
 exports-requires : tie.Need-exports-requires
-exports-requires c κs = let s = c.before.before.before.before in (s.requires.0.loaded, s.requires.1.1)
+exports-requires c κs = (c.requires.0.loaded, c.requires.1.1)
 
-returns-2 : tie.Need-returns-2
-returns-2 c = bails-other _ _ _ _ _ c.before.before.before.before.before.before.requires.1.3 (sym c.before.before.before.is_normal.ensures ∙ not-false _ c.before.before.if1.false) _ c.before.exports.ensures c.if2.true
+returns-then-exports-ne1 : tie.Need-returns-then-exports-ne1
+returns-then-exports-ne1 c = bails-other _ _ _ _ _ c.requires.1.3 (sym c.is_normal.ensures ∙ not-false _ c.if-not-is_normal.false) _ c.exports.ensures c.if-exports-ne1.true
 
-import-record-kind-requires : tie.Need-import-record-kind-requires
-import-record-kind-requires c κs = let s = c.before.before.before.before.before.before in (s.requires.0.loaded, (s.requires.1.0, s.requires.1.2))
+import_record_kind-requires : tie.Need-import_record_kind-requires
+import_record_kind-requires c κs = (c.requires.0.loaded, (c.requires.1.0, c.requires.1.2))
 
-returns-3 : tie.Need-returns-3
-returns-3 c = bails-import _ _ _ _ _ c.before.before.before.before.before.before.before.before.requires.1.3 (sym c.before.before.before.before.before.is_normal.ensures ∙ not-false _ c.before.before.before.before.if1.false) _ c.before.before.before.exports.ensures c.before.before.if2.false _ c.before.import-record-kind.ensures c.if3.true
+returns-then-import_record_kind-eq0 : tie.Need-returns-then-import_record_kind-eq0
+returns-then-import_record_kind-eq0 c = bails-import _ _ _ _ _ c.requires.1.3 (sym c.is_normal.ensures ∙ not-false _ c.if-not-is_normal.false) _ c.exports.ensures c.if-exports-ne1.false _ c.import_record_kind.ensures c.if-import_record_kind-eq0.true
 
-import-record-bits-requires : tie.Need-import-record-bits-requires
-import-record-bits-requires c κs = let s = c.before.before.before.before.before.before.before.before in (s.requires.0.loaded, (s.requires.1.0, s.requires.1.2))
+import_record_bits-requires : tie.Need-import_record_bits-requires
+import_record_bits-requires c κs = (c.requires.0.loaded, (c.requires.1.0, c.requires.1.2))
 
 flag-requires : tie.Need-flag-requires
 flag-requires c κs = (omega arith)
 
-has-effects-requires : tie.Need-has-effects-requires
-has-effects-requires c κs = let s = c.before.before.before.before.before.before.before.before.before.before.before in (s.requires.0.settled, s.requires.1.1)
+has_effects-requires : tie.Need-has_effects-requires
+has_effects-requires c κs = (c.requires.0.settled, c.requires.1.1)
 
-returns-4 : tie.Need-returns-4
-returns-4 c = bails-bare _ _ _ _ _ c.before.before.before.before.before.before.before.before.before.before.before.before.before.requires.1.3 (sym c.before.before.before.before.before.before.before.before.before.before.is_normal.ensures ∙ not-false _ c.before.before.before.before.before.before.before.before.before.if1.false) _ c.before.before.before.before.before.before.before.before.exports.ensures c.before.before.before.before.before.before.before.if2.false _ c.before.before.before.before.before.before.import-record-kind.ensures c.before.before.before.before.before.if3.false _ c.before.before.before.before.import-record-bits.ensures (sym c.before.before.before.flag.ensures ∙ c.before.before.if4.true) (sym c.before.has_effects.ensures ∙ not_true _ c.if5.true)
+returns-then-not-has_effects : tie.Need-returns-then-not-has_effects
+returns-then-not-has_effects c = bails-bare _ _ _ _ _ c.requires.1.3 (sym c.is_normal.ensures ∙ not-false _ c.if-not-is_normal.false) _ c.exports.ensures c.if-exports-ne1.false _ c.import_record_kind.ensures c.if-import_record_kind-eq0.false _ c.import_record_bits.ensures (sym c.flag.ensures ∙ c.if-flag.true) (sym c.has_effects.ensures ∙ not_true _ c.if-not-has_effects.true)
 
 flags-requires : tie.Need-flags-requires
-flags-requires c κs = let s = c.before.before.before.before.before.before.before.before.before.before.before in (s.requires.0.loaded, s.requires.1.0)
+flags-requires c κs = (c.requires.0.loaded, c.requires.1.0)
 
 flag-requires-2 : tie.Need-flag-requires-2
 flag-requires-2 c κs = (omega arith)
 
-returns-5 : tie.Need-returns-5
-returns-5 c = bails-own _ _ _ _ _ c.before.before.before.before.before.before.before.before.before.before.before.before.before.before.requires.1.3 (sym c.before.before.before.before.before.before.before.before.before.before.before.is_normal.ensures ∙ not-false _ c.before.before.before.before.before.before.before.before.before.before.if1.false) _ c.before.before.before.before.before.before.before.before.before.exports.ensures c.before.before.before.before.before.before.before.before.if2.false _ c.before.before.before.before.before.before.before.import-record-kind.ensures c.before.before.before.before.before.before.if3.false _ c.before.before.before.before.before.import-record-bits.ensures (past c.before.before.before) _ c.before.before.flags.ensures (sym c.before.flag2.ensures ∙ not_true _ c.if6.true)
+returns-then-not-flag : tie.Need-returns-then-not-flag
+returns-then-not-flag c = bails-own _ _ _ _ _ c.requires.1.3 (sym c.is_normal.ensures ∙ not-false _ c.if-not-is_normal.false) _ c.exports.ensures c.if-exports-ne1.false _ c.import_record_kind.ensures c.if-import_record_kind-eq0.false _ c.import_record_bits.ensures (past c.before.before.before) _ c.flags.ensures (sym c.flag-2.ensures ∙ not_true _ c.if-not-flag.true)
 
-reexport-count-requires : tie.Need-reexport-count-requires
-reexport-count-requires c κs = let s = c.before.before.before.before.before.before.before.before.before.before.before.before.before.before in (s.requires.0.loaded, s.requires.1.0)
+reexport_count-requires : tie.Need-reexport_count-requires
+reexport_count-requires c κs = (c.requires.0.loaded, c.requires.1.0)
 
-returns-6 : tie.Need-returns-6
-returns-6 c = bails-several _ _ _ _ _ c.before.before.before.before.before.before.before.before.before.before.before.before.before.before.before.requires.1.3 (sym c.before.before.before.before.before.before.before.before.before.before.before.before.is_normal.ensures ∙ not-false _ c.before.before.before.before.before.before.before.before.before.before.before.if1.false) _ c.before.before.before.before.before.before.before.before.before.before.exports.ensures c.before.before.before.before.before.before.before.before.before.if2.false _ c.before.before.before.before.before.before.before.before.import-record-kind.ensures c.before.before.before.before.before.before.before.if3.false _ c.before.before.before.before.before.before.import-record-bits.ensures (past c.before.before.before.before) _ c.before.before.before.flags.ensures _ c.reexport-count.ensures (sym c.before.before.flag2.ensures ∙ not-false _ c.before.if6.false)
+returns : tie.Need-returns
+returns c = bails-several _ _ _ _ _ c.requires.1.3 (sym c.is_normal.ensures ∙ not-false _ c.if-not-is_normal.false) _ c.exports.ensures c.if-exports-ne1.false _ c.import_record_kind.ensures c.if-import_record_kind-eq0.false _ c.import_record_bits.ensures (past c.before.before.before.before) _ c.flags.ensures _ c.reexport_count.ensures (sym c.flag-2.ensures ∙ not-false _ c.if-not-flag.false)
 
-pub bails-out-spec : {M : Type 1} → statement M
-bails-out-spec = tie.close (tie.spec is-normal-requires returns exports-requires returns-2 import-record-kind-requires returns-3 import-record-bits-requires flag-requires has-effects-requires returns-4 flags-requires flag-requires-2 returns-5 reexport-count-requires returns-6)
+pub bails_out_spec : {M : Type 1} → statement M
+bails_out_spec =
+    tie.close
+    (tie.spec
+    is_normal-requires
+    returns-then-not-is_normal
+    exports-requires
+    returns-then-exports-ne1
+    import_record_kind-requires
+    returns-then-import_record_kind-eq0
+    import_record_bits-requires
+    flag-requires
+    has_effects-requires
+    returns-then-not-has_effects
+    flags-requires
+    flag-requires-2
+    returns-then-not-flag
+    reexport_count-requires
+    returns)

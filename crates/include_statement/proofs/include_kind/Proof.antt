@@ -4,26 +4,35 @@ use native.Mathlib.Omega.{arith}
 use Rattle.include_statement.proofs.include_kind.Statement.{statement}
 use Rattle.include_statement.proofs.include_kind.Tie as tie
 
-bits-requires : tie.Need-bits-requires
-bits-requires c κs = let s = c.before.before in (s.requires.0.loaded, s.requires.1)
+bits-bits-requires : tie.Need-bits-bits-requires
+bits-bits-requires c κs = (c.requires.0.loaded, c.requires.1)
 
-module-type-requires : tie.Need-module-type-requires
-module-type-requires c κs = let s = c.before.before.before in (s.requires.0.loaded, s.requires.1.0)
+module_type-json-requires : tie.Need-module_type-json-requires
+module_type-json-requires c κs = (c.requires.0.loaded, c.requires.1.0)
 
 flag-requires : tie.Need-flag-requires
 flag-requires c κs = (omega arith)
 
+returns-then-json : tie.Need-returns-then-json
+returns-then-json c = (reason_12 _ _ _ _ _ c.bits-bits.ensures c.module_type-json.ensures (sym c.flag.ensures ∙ c.if-flag.true) c.if-json.true, omega arith, omega arith)
+
+returns-then-flag : tie.Need-returns-then-flag
+returns-then-flag c = (reason_4 _ _ _ _ _ c.bits-bits.ensures c.module_type-json.ensures (sym c.flag.ensures ∙ c.if-flag.true) c.if-json.false, omega arith, omega arith)
+
+returns-then-json-2 : tie.Need-returns-then-json-2
+returns-then-json-2 c = (reason_9 _ _ _ _ _ c.bits-bits.ensures c.module_type-json.ensures (sym c.flag.ensures ∙ c.if-flag.false) c.if-json-2.true, omega arith, omega arith)
+
 returns : tie.Need-returns
-returns c = (reason_12 _ _ _ _ _ c.before.before.before.before.bits.ensures c.before.before.before.module-type.ensures (sym c.before.before.flag.ensures ∙ c.before.if1.true) c.if2.true, omega arith, omega arith)
+returns c = (reason_1 _ _ _ _ _ c.bits-bits.ensures c.module_type-json.ensures (sym c.flag.ensures ∙ c.if-flag.false) c.if-json-2.false, omega arith, omega arith)
 
-returns-2 : tie.Need-returns-2
-returns-2 c = (reason_4 _ _ _ _ _ c.before.before.before.before.bits.ensures c.before.before.before.module-type.ensures (sym c.before.before.flag.ensures ∙ c.before.if1.true) c.if2.false, omega arith, omega arith)
-
-returns-3 : tie.Need-returns-3
-returns-3 c = (reason_9 _ _ _ _ _ c.before.before.before.before.bits.ensures c.before.before.before.module-type.ensures (sym c.before.before.flag.ensures ∙ c.before.if1.false) c.if3.true, omega arith, omega arith)
-
-returns-4 : tie.Need-returns-4
-returns-4 c = (reason_1 _ _ _ _ _ c.before.before.before.before.bits.ensures c.before.before.before.module-type.ensures (sym c.before.before.flag.ensures ∙ c.before.if1.false) c.if3.false, omega arith, omega arith)
-
-pub include-kind-spec : {M : Type 1} → statement M
-include-kind-spec = tie.close (tie.spec bits-requires module-type-requires flag-requires returns returns-2 returns-3 returns-4)
+pub include_kind_spec : {M : Type 1} → statement M
+include_kind_spec =
+    tie.close
+    (tie.spec
+    bits-bits-requires
+    module_type-json-requires
+    flag-requires
+    returns-then-json
+    returns-then-flag
+    returns-then-json-2
+    returns)

@@ -14,62 +14,82 @@ use Rattle.include_statement.proofs.reference_candidates.Statement.{statement}
 use Rattle.include_statement.proofs.reference_candidates.Tie as tie
 
 -- the symbol of a kind that has one
-symbol : (c : tie.After-wide2) → let s = c.before.before.before.before.before.before.before.before in c.wide2.result ≡ reference_symbol (get_or (references (statement_of (graph_in s.args.numbers.now) s.args.m.0 s.args.i.0)) s.args.r [])
-symbol c = let s = c.before.before.before.before.before.before.before.before in c.wide2.ensures ∙ symbol_is s.requires.1 c.before.before.before.before.if1.false c.before.before.before.if2.false
+symbol : (c : tie.After-wide-s) → c.wide-s.result ≡ reference_symbol (get_or (references (statement_of (graph_in c.args.numbers.now) c.args.m.0 c.args.i.0)) c.args.r [])
+symbol c = c.wide-s.ensures ∙ symbol_is c.requires.1 c.if-kind-eq1.false c.if-kind-eq2.false
 
-mul-kind : tie.Need-overflow-mul-kind
-mul-kind c = let s = c.before.before in omega (arith, kind_here s.requires.1)
+offset_bounds-numbers-place : tie.Need-offset_bounds-numbers-place
+offset_bounds-numbers-place c = omega (arith, kind_here c.requires.1)
 
-shared-slice-read-kind : tie.Need-shared-slice-read-kind
-shared-slice-read-kind c = kind_here c.before.before.before.requires.1
+bounds-numbers-place : tie.Need-bounds-numbers-place
+bounds-numbers-place c = kind_here c.requires.1
 
-returns : tie.Need-returns
-returns c = no_places _ _ _ (kind_is c.before.before.before.before.requires.1) c.if1.true
+returns-then-kind-eq1 : tie.Need-returns-then-kind-eq1
+returns-then-kind-eq1 c = no_places _ _ _ (kind_is c.requires.1) c.if-kind-eq1.true
 
-add_wide : tie.Need-overflow-add-wide
-add_wide c = let s = c.before.before.before.before.before in omega (arith, parts-here s.requires.1 c.if2.true)
+overflow_add-place : tie.Need-overflow_add-place
+overflow_add-place c = omega (arith, parts-here c.requires.1 c.if-kind-eq2.true)
 
-mul_wide : tie.Need-overflow-mul-wide
-mul_wide c = let s = c.before.before.before.before.before in omega (arith, parts-here s.requires.1 c.if2.true)
+offset_bounds-numbers-place-then-kind-eq2 : tie.Need-offset_bounds-numbers-place-then-kind-eq2
+offset_bounds-numbers-place-then-kind-eq2 c = omega (arith, parts-here c.requires.1 c.if-kind-eq2.true)
 
-shared-slice-read-wide : tie.Need-shared-slice-read-wide
-shared-slice-read-wide c = let s = c.before.before.before.before.before.before in omega (arith, parts-here s.requires.1 c.before.if2.true)
+bounds-numbers-place-then-kind-eq2 : tie.Need-bounds-numbers-place-then-kind-eq2
+bounds-numbers-place-then-kind-eq2 c = omega (arith, parts-here c.requires.1 c.if-kind-eq2.true)
 
 wide-requires : tie.Need-wide-requires
 wide-requires c κs = search rules
 
-add-result : tie.Need-overflow-add-result
-add-result c = let s = c.before.before.before.before.before.before.before in omega (arith, c.wide.ensures, parts-here s.requires.1 c.before.before.if2.true)
+overflow_add-result : tie.Need-overflow_add-result
+overflow_add-result c = omega (arith, c.wide.ensures, parts-here c.requires.1 c.if-kind-eq2.true)
 
-returns-2 : tie.Need-returns-2
-returns-2 c = let s = c.before.before.before.before.before.before.before in depended_places _ _ _ (kind_is s.requires.1) c.before.before.if2.true (c.wide.ensures ∙ depended_is s.requires.1 c.before.before.if2.true)
+returns-then-kind-eq2 : tie.Need-returns-then-kind-eq2
+returns-then-kind-eq2 c = depended_places _ _ _ (kind_is c.requires.1) c.if-kind-eq2.true (c.wide.ensures ∙ depended_is c.requires.1 c.if-kind-eq2.true)
 
-is-inlined-enum-member-access-requires : tie.Need-is-inlined-enum-member-access-requires
-is-inlined-enum-member-access-requires c κs = (c.before.before.before.before.before.before.requires.0, (c.before.before.before.before.before.before.requires.1, c.if3.true))
+is_inlined_enum_member_access-requires : tie.Need-is_inlined_enum_member_access-requires
+is_inlined_enum_member_access-requires c κs = (c.requires.0, (c.requires.1, c.if-kind-eq3.true))
 
-returns-3 : tie.Need-returns-3
-returns-3 c = let s = c.before.before.before.before.before.before.before.before in inlined_places _ _ _ (kind_is s.requires.1) c.before.before.if3.true (sym c.before.is-inlined-enum-member-access.ensures ∙ c.if4.true)
+returns-then-is_inlined_enum_member_access : tie.Need-returns-then-is_inlined_enum_member_access
+returns-then-is_inlined_enum_member_access c = inlined_places _ _ _ (kind_is c.requires.1) c.if-kind-eq3.true (sym c.is_inlined_enum_member_access.ensures ∙ c.if-is_inlined_enum_member_access.true)
 
-add-wide-2 : tie.Need-overflow-add-wide-2
-add-wide-2 c = let s = c.before.before.before.before.before.before in omega (arith, symbol-here s.requires.1 c.before.before.if1.false c.before.if2.false)
+overflow_add-place-2 : tie.Need-overflow_add-place-2
+overflow_add-place-2 c = omega (arith, symbol-here c.requires.1 c.if-kind-eq1.false c.if-kind-eq2.false)
 
-mul-wide-2 : tie.Need-overflow-mul-wide-2
-mul-wide-2 c = let s = c.before.before.before.before.before.before in omega (arith, symbol-here s.requires.1 c.before.before.if1.false c.before.if2.false)
+offset_bounds-numbers-place-2 : tie.Need-offset_bounds-numbers-place-2
+offset_bounds-numbers-place-2 c = omega (arith, symbol-here c.requires.1 c.if-kind-eq1.false c.if-kind-eq2.false)
 
-shared-slice-read-wide-2 : tie.Need-shared-slice-read-wide-2
-shared-slice-read-wide-2 c = let s = c.before.before.before.before.before.before.before in omega (arith, symbol-here s.requires.1 c.before.before.before.if1.false c.before.before.if2.false)
+bounds-numbers-place-2 : tie.Need-bounds-numbers-place-2
+bounds-numbers-place-2 c = omega (arith, symbol-here c.requires.1 c.if-kind-eq1.false c.if-kind-eq2.false)
 
-wide-requires-2 : tie.Need-wide-requires-2
-wide-requires-2 c κs = search rules
+wide-s-requires : tie.Need-wide-s-requires
+wide-s-requires c κs = search rules
 
-forward-count-requires : tie.Need-forward-count-requires
-forward-count-requires c κs = let s = c.before.before.before.before.before.before.before.before in (s.requires.0, omega (arith, symbol c, symbol_below s.requires.1 s.requires.0.loaded c.before.before.before.before.if1.false))
+forward_count-requires : tie.Need-forward_count-requires
+forward_count-requires c κs = (c.requires.0, omega (arith, symbol c, symbol_below c.requires.1 c.requires.0.loaded c.if-kind-eq1.false))
 
-add-result-2 : tie.Need-overflow-add-result-2
-add-result-2 c = omega (arith, c.forward-count.ensures.1)
+overflow_add-result-2 : tie.Need-overflow_add-result-2
+overflow_add-result-2 c = omega (arith, c.forward_count.ensures.1)
 
-returns-4 : tie.Need-returns-4
-returns-4 c = let s = c.before.before.before.before.before.before.before.before.before in let l : get_or s.args.numbers.now s.args.place 0 < 4 = omega (arith, s.requires.1.stands.few, s.requires.1.stands.kind) in plain_places _ _ _ (kind_is s.requires.1) _ c.before.before.before.before.before.if1.false c.before.before.before.before.if2.false l (⊎_elim (λ w. inl (sym w.1.ensures ∙ w.2.left)) (λ w. inr w.left) c.before.before.before.if3.branch) (symbol c.before) c.forward-count.ensures.0
+returns : tie.Need-returns
+returns c = let l : get_or c.args.numbers.now c.args.place 0 < 4 = omega (arith, c.requires.1.stands.few, c.requires.1.stands.kind) in plain_places _ _ _ (kind_is c.requires.1) _ c.if-kind-eq1.false c.if-kind-eq2.false l (⊎_elim (λ w. inl (sym w.1.ensures ∙ w.2.left)) (λ w. inr w.left) c.if-kind-eq3.branch) (symbol c.before) c.forward_count.ensures.0
 
-pub reference-candidates-spec : {M : Type 1} → statement M
-reference-candidates-spec = tie.close (tie.spec mul-kind shared-slice-read-kind returns add_wide mul_wide shared-slice-read-wide wide-requires add-result returns-2 is-inlined-enum-member-access-requires returns-3 add-wide-2 mul-wide-2 shared-slice-read-wide-2 wide-requires-2 forward-count-requires add-result-2 returns-4)
+pub reference_candidates_spec : {M : Type 1} → statement M
+reference_candidates_spec =
+    tie.close
+    (tie.spec
+    offset_bounds-numbers-place
+    bounds-numbers-place
+    returns-then-kind-eq1
+    overflow_add-place
+    offset_bounds-numbers-place-then-kind-eq2
+    bounds-numbers-place-then-kind-eq2
+    wide-requires
+    overflow_add-result
+    returns-then-kind-eq2
+    is_inlined_enum_member_access-requires
+    returns-then-is_inlined_enum_member_access
+    overflow_add-place-2
+    offset_bounds-numbers-place-2
+    bounds-numbers-place-2
+    wide-s-requires
+    forward_count-requires
+    overflow_add-result-2
+    returns)

@@ -4,44 +4,58 @@ use mathlib.Core.Path.{sym, ◌∙◌}
 use Rattle.include_statements.proofs.follow_module.Statement.{statement}
 use Rattle.include_statements.proofs.follow_module.Tie as tie
 
-is-quiet-runtime-requires : tie.Need-is-quiet-runtime-requires
-is-quiet-runtime-requires c κs = let s = c.before.before.before.before in (s.requires.0, s.requires.1.1.0)
+is_quiet_runtime-requires : tie.Need-is_quiet_runtime-requires
+is_quiet_runtime-requires c κs = (c.requires.0, c.requires.1.1.0)
+
+returns-then-is_quiet_runtime : tie.Need-returns-then-is_quiet_runtime
+unfolding module_segments
+returns-then-is_quiet_runtime c = rw (module_quiet _ _ _ (sym c.is_quiet_runtime.ensures ∙ c.if-is_quiet_runtime.true)) (segments_none _ _ _ _ _ _ c.requires.1.0)
+
+sweep_statements-requires : tie.Need-sweep_statements-requires
+sweep_statements-requires c κs = (c.requires.0, (c.requires.1.0, (c.requires.1.1.0, c.requires.1.1.2)))
+
+enum_told-1 : tie.Need-enum_told-1
+enum_told-1 c = c.in-Full.keys1
+
+shape_of-marks-in-Full : tie.Need-shape_of-marks-in-Full
+shape_of-marks-in-Full c = c.sweep_statements.auto.1.1.0
+
+shape_of-lines-in-Full : tie.Need-shape_of-lines-in-Full
+shape_of-lines-in-Full c = c.sweep_statements.auto.1.1.1.0
+
+returns-in-Full : tie.Need-returns-in-Full
+unfolding module_segments
+returns-in-Full c = segments_as _ _ _ _ _ _ _ _ _ (module_segments_lem _ _ _ (sym c.is_quiet_runtime.ensures ∙ c.if-is_quiet_runtime.false)) (segments_stop _ _ _ _ _ _ _ _ _ c.in-Full.is c.sweep_statements.ensures)
+
+enum_known-n : tie.Need-enum_known-n
+enum_known-n c = c.in-Lines.keys2
+
+include_imports-requires : tie.Need-include_imports-requires
+include_imports-requires c κs = let w1 = grown_on _ _ _ _ _ _ _ _ _ c.in-Lines.is c.sweep_statements.ensures _ c.requires.1.1.2 in (c.requires.0, (w1.0, (c.requires.1.1.0, c.requires.1.1.1, w1.1)))
+
+shape_of-marks : tie.Need-shape_of-marks
+shape_of-marks c = c.include_imports.auto.1.1.0 ∙ c.sweep_statements.auto.1.1.0
+
+shape_of-lines : tie.Need-shape_of-lines
+shape_of-lines c = c.include_imports.auto.1.1.1.0 ∙ c.sweep_statements.auto.1.1.1.0
 
 returns : tie.Need-returns
 unfolding module_segments
-returns c = rw (module_quiet _ _ _ (sym c.before.is-quiet-runtime.ensures ∙ c.if1.true)) (segments_none _ _ _ _ _ _ c.before.before.before.before.before.before.requires.1.0)
+returns c = segments_as _ _ _ _ _ _ _ _ _ (module_segments_lem _ _ _ (sym c.is_quiet_runtime.ensures ∙ c.if-is_quiet_runtime.false)) (segments_both _ _ _ _ _ _ _ _ _ _ c.in-Lines.is c.sweep_statements.ensures _ _ _ c.include_imports.ensures)
 
-sweep-statements-requires : tie.Need-sweep-statements-requires
-sweep-statements-requires c κs = let s = c.before.before.before.before.before.before.before.before in (s.requires.0, (s.requires.1.0, (s.requires.1.1.0, s.requires.1.1.2)))
-
-enum_told : tie.Need-enum-told
-enum_told c = c.match.keys1
-
-same_length : tie.Need-same-length
-same_length c = c.before.before.before.before.before.before.sweep-statements.auto.1.1.0
-
-same-length-2 : tie.Need-same-length-2
-same-length-2 c = c.before.before.before.before.before.before.sweep-statements.auto.1.1.1.0
-
-returns-2 : tie.Need-returns-2
-unfolding module_segments
-returns-2 c = segments_as _ _ _ _ _ _ _ _ _ (module_segments_lem _ _ _ (sym c.before.before.before.before.before.before.before.before.before.before.is-quiet-runtime.ensures ∙ c.before.before.before.before.before.before.before.before.before.if1.false)) (segments_stop _ _ _ _ _ _ _ _ _ c.enum_told.given.1 c.before.before.before.before.before.before.sweep-statements.ensures)
-
-enum-known-n : tie.Need-enum-known-n
-enum-known-n c = c.match.keys2
-
-include-imports-requires : tie.Need-include-imports-requires
-include-imports-requires c κs = let s = c.before.before.before.before.before.before.before.before.before.before.before.before.before.before.before.before.before.before in let w1 = grown_on _ _ _ _ _ _ _ _ _ c.before.before.before.n.given.1 c.before.before.before.before.before.before.before.before.before.sweep-statements.ensures _ s.requires.1.1.2 in (s.requires.0, (w1.0, (s.requires.1.1.0, s.requires.1.1.1, w1.1)))
-
-same-length-3 : tie.Need-same-length-3
-same-length-3 c = c.before.before.before.before.include-imports.auto.1.1.0 ∙ c.before.before.before.before.before.before.before.before.before.before.before.before.before.before.sweep-statements.auto.1.1.0
-
-same-length-4 : tie.Need-same-length-4
-same-length-4 c = c.before.before.before.before.include-imports.auto.1.1.1.0 ∙ c.before.before.before.before.before.before.before.before.before.before.before.before.before.before.sweep-statements.auto.1.1.1.0
-
-returns-3 : tie.Need-returns-3
-unfolding module_segments
-returns-3 c = segments_as _ _ _ _ _ _ _ _ _ (module_segments_lem _ _ _ (sym c.before.before.before.before.before.before.before.before.before.before.before.before.before.before.before.before.before.before.is-quiet-runtime.ensures ∙ c.before.before.before.before.before.before.before.before.before.before.before.before.before.before.before.before.before.if1.false)) (segments_both _ _ _ _ _ _ _ _ _ _ c.before.before.before.before.before.before.before.before.n.given.1 c.before.before.before.before.before.before.before.before.before.before.before.before.before.before.sweep-statements.ensures _ _ _ c.before.before.before.before.include-imports.ensures)
-
-pub follow-module-spec : {M : Type 1} → statement M
-follow-module-spec = tie.close (tie.spec is-quiet-runtime-requires returns sweep-statements-requires enum_told same_length same-length-2 returns-2 enum-known-n include-imports-requires same-length-3 same-length-4 returns-3)
+pub follow_module_spec : {M : Type 1} → statement M
+follow_module_spec =
+    tie.close
+    (tie.spec
+    is_quiet_runtime-requires
+    returns-then-is_quiet_runtime
+    sweep_statements-requires
+    enum_told-1
+    shape_of-marks-in-Full
+    shape_of-lines-in-Full
+    returns-in-Full
+    enum_known-n
+    include_imports-requires
+    shape_of-marks
+    shape_of-lines
+    returns)

@@ -4,37 +4,49 @@ use mathlib.Core.Path.{◌∙◌}
 use Rattle.include_statements.proofs.follow_statement.Statement.{statement}
 use Rattle.include_statements.proofs.follow_statement.Tie as tie
 
-scan-import-records-requires : tie.Need-scan-import-records-requires
-scan-import-records-requires c κs = let s = c.before.before.before.before.before.before in (s.requires.0, (s.requires.1.0, (s.requires.1.1.0, s.requires.1.1.1, s.requires.1.1.2)))
+scan_import_records-requires : tie.Need-scan_import_records-requires
+scan_import_records-requires c κs = (c.requires.0, (c.requires.1.0, (c.requires.1.1.0, c.requires.1.1.1, c.requires.1.1.2)))
 
-enum_told : tie.Need-enum-told
-enum_told c = c.match.keys1
+enum_told-1 : tie.Need-enum_told-1
+enum_told-1 c = c.in-Full.keys1
 
-same_length : tie.Need-same-length
-same_length c = c.before.before.before.before.before.before.scan-import-records.auto.1.1.0
+shape_of-marks-in-Full : tie.Need-shape_of-marks-in-Full
+shape_of-marks-in-Full c = c.scan_import_records.auto.1.1.0
 
-same-length-2 : tie.Need-same-length-2
-same-length-2 c = c.before.before.before.before.before.before.scan-import-records.auto.1.1.1.0
+shape_of-lines-in-Full : tie.Need-shape_of-lines-in-Full
+shape_of-lines-in-Full c = c.scan_import_records.auto.1.1.1.0
+
+returns-in-Full : tie.Need-returns-in-Full
+unfolding segments_of statement_segments
+returns-in-Full c = segments_stop _ _ _ _ _ _ _ _ _ c.in-Full.is c.scan_import_records.ensures
+
+enum_known-n : tie.Need-enum_known-n
+enum_known-n c = c.in-Lines.keys2
+
+include_references-requires : tie.Need-include_references-requires
+include_references-requires c κs = let w1 = grown_on _ _ _ _ _ _ _ _ _ c.in-Lines.is c.scan_import_records.ensures _ c.requires.1.1.2 in (c.requires.0, (w1.0, (c.requires.1.1.0, c.requires.1.1.1, w1.1)))
+
+shape_of-marks : tie.Need-shape_of-marks
+shape_of-marks c = c.include_references.auto.1.1.0 ∙ c.scan_import_records.auto.1.1.0
+
+shape_of-lines : tie.Need-shape_of-lines
+shape_of-lines c = c.include_references.auto.1.1.1.0 ∙ c.scan_import_records.auto.1.1.1.0
 
 returns : tie.Need-returns
 unfolding segments_of statement_segments
-returns c = segments_stop _ _ _ _ _ _ _ _ _ c.enum_told.given.1 c.before.before.before.before.before.before.scan-import-records.ensures
+returns c = segments_both _ _ _ _ _ _ _ _ _ _ c.in-Lines.is c.scan_import_records.ensures _ _ _ c.include_references.ensures
 
-enum-known-n : tie.Need-enum-known-n
-enum-known-n c = c.match.keys2
-
-include-references-requires : tie.Need-include-references-requires
-include-references-requires c κs = let s = c.before.before.before.before.before.before.before.before.before.before.before.before.before.before.before.before in let w1 = grown_on _ _ _ _ _ _ _ _ _ c.before.before.before.n.given.1 c.before.before.before.before.before.before.before.before.before.scan-import-records.ensures _ s.requires.1.1.2 in (s.requires.0, (w1.0, (s.requires.1.1.0, s.requires.1.1.1, w1.1)))
-
-same-length-3 : tie.Need-same-length-3
-same-length-3 c = c.before.before.before.before.include-references.auto.1.1.0 ∙ c.before.before.before.before.before.before.before.before.before.before.before.before.before.before.scan-import-records.auto.1.1.0
-
-same-length-4 : tie.Need-same-length-4
-same-length-4 c = c.before.before.before.before.include-references.auto.1.1.1.0 ∙ c.before.before.before.before.before.before.before.before.before.before.before.before.before.before.scan-import-records.auto.1.1.1.0
-
-returns-2 : tie.Need-returns-2
-unfolding segments_of statement_segments
-returns-2 c = segments_both _ _ _ _ _ _ _ _ _ _ c.before.before.before.before.before.before.before.before.n.given.1 c.before.before.before.before.before.before.before.before.before.before.before.before.before.before.scan-import-records.ensures _ _ _ c.before.before.before.before.include-references.ensures
-
-pub follow-statement-spec : {M : Type 1} → statement M
-follow-statement-spec = tie.close (tie.spec scan-import-records-requires enum_told same_length same-length-2 returns enum-known-n include-references-requires same-length-3 same-length-4 returns-2)
+pub follow_statement_spec : {M : Type 1} → statement M
+follow_statement_spec =
+    tie.close
+    (tie.spec
+    scan_import_records-requires
+    enum_told-1
+    shape_of-marks-in-Full
+    shape_of-lines-in-Full
+    returns-in-Full
+    enum_known-n
+    include_references-requires
+    shape_of-marks
+    shape_of-lines
+    returns)

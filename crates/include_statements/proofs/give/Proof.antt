@@ -5,34 +5,41 @@ use mathlib.Core.Path.{refl}
 use Rattle.include_statements.proofs.give.Statement.{statement}
 use Rattle.include_statements.proofs.give.Tie as tie
 
-enum_told : tie.Need-enum-told
-enum_told c = c.match.keys1
+enum_told-1 : tie.Need-enum_told-1
+enum_told-1 c = c.in-Nothing.keys1
 
-enum-known-candidate : tie.Need-enum-known-candidate
-enum-known-candidate c = c.match.keys2
+enum_known-candidate : tie.Need-enum_known-candidate
+enum_known-candidate c = c.in-Gives.keys2
 
-add-t15 : tie.Need-overflow-add-t15
-add-t15 c = let s = c.before.before.before.before.before.before.before.before.before in record { fits = omega (arith, s.requires.1.1.2, held_few s.requires.0.loaded _ _ _ _ s.requires.1.0, s.requires.1.0.base_few, marks_few s.requires.0.loaded) }
+overflow_add-k : tie.Need-overflow_add-k
+overflow_add-k c = record { fits = omega (arith, c.requires.1.1.2, held_few c.requires.0.loaded _ _ _ _ c.requires.1.0, c.requires.1.0.base_few, marks_few c.requires.0.loaded) }
 
 add-requires : tie.Need-add-requires
 add-requires c κs =
-    let s = c.before.before.before.before.before.before.before.before.before in
-    let good = s.requires.1.1.1.known _ c.before.before.before.candidate.given.1 in
-    (s.requires.0.loaded, (s.requires.1.0, record { good_fact = good; rule_small = s.requires.1.1.0; because_earlier = omega (arith, s.requires.1.1.2); and_earlier = omega arith }))
+    let good = c.requires.1.1.1.known _ c.in-Gives.is in
+    (c.requires.0.loaded, (c.requires.1.0, record { good_fact = good; rule_small = c.requires.1.1.0; because_earlier = omega (arith, c.requires.1.1.2); and_earlier = omega arith }))
 
-returns : tie.Need-returns
-returns c = let s = c.before.before.before.before.before.before in give_none _ _ _ _ _ _ _ _ c.enum_told.given.1 s.requires.1.0
+returns-in-Nothing : tie.Need-returns-in-Nothing
+returns-in-Nothing c = give_none _ _ _ _ _ _ _ _ c.in-Nothing.is c.requires.1.0
 
-same_length : tie.Need-same-length
-same_length c = c.before.before.before.before.add.auto.1.1.0
+shape_of-marks : tie.Need-shape_of-marks
+shape_of-marks c = c.add.auto.1.1.0
 
-same-length-2 : tie.Need-same-length-2
-same-length-2 c = c.before.before.before.before.add.auto.1.1.1.0
+shape_of-lines : tie.Need-shape_of-lines
+shape_of-lines c = c.add.auto.1.1.1.0
 
-returns-2 : tie.Need-returns-2
-returns-2 c = give_one _ _ _ _ _ _ _ _ _ _ c.before.before.before.before.before.before.before.before.candidate.given.1 c.before.before.before.before.add.ensures
+returns-in-Gives : tie.Need-returns-in-Gives
+returns-in-Gives c = give_one _ _ _ _ _ _ _ _ _ _ c.in-Gives.is c.add.ensures
 
 pub give_spec : {M : Type 1} → statement M
 give_spec =
     tie.close
-    (tie.spec enum_told enum-known-candidate add-t15 add-requires returns same_length same-length-2 returns-2)
+    (tie.spec
+    enum_told-1
+    enum_known-candidate
+    overflow_add-k
+    add-requires
+    returns-in-Nothing
+    shape_of-marks
+    shape_of-lines
+    returns-in-Gives)

@@ -17,62 +17,83 @@ use native.Mathlib.Omega.{arith}
 use Rattle.include_statements.proofs.include_references.Statement.{statement}
 use Rattle.include_statements.proofs.include_references.Tie as tie
 
-abbrev invariant-loop : tie.invariant-loop
-invariant-loop numbers tables marks₀ lines₀ m i k base count place₀ total₀ r₀ marks lines place total r = (length marks ≡ length marks₀) × (length lines ≡ length lines₀) × ReferencesAt numbers place (drop r (references (statement_of (graph_in numbers) m.0 i.0))) × Going (graph_in numbers) base (adds (graph_in numbers) base (lines_of total₀ lines₀) (lines_by k (map (reference_segment (graph_in numbers) (reason_of (graph_in numbers) m.0 i.0)) (references (statement_of (graph_in numbers) m.0 i.0))))) (lines_by k (map (reference_segment (graph_in numbers) (reason_of (graph_in numbers) m.0 i.0)) (drop r (references (statement_of (graph_in numbers) m.0 i.0))))) total₀ marks lines total
+abbrev invariant-loop-r : tie.invariant-loop-r
+invariant-loop-r numbers tables marks₀ lines₀ m i k base count place₀ total₀ r₀ marks lines place total r = (length marks ≡ length marks₀) × (length lines ≡ length lines₀) × ReferencesAt numbers place (drop r (references (statement_of (graph_in numbers) m.0 i.0))) × Going (graph_in numbers) base (adds (graph_in numbers) base (lines_of total₀ lines₀) (lines_by k (map (reference_segment (graph_in numbers) (reason_of (graph_in numbers) m.0 i.0)) (references (statement_of (graph_in numbers) m.0 i.0))))) (lines_by k (map (reference_segment (graph_in numbers) (reason_of (graph_in numbers) m.0 i.0)) (drop r (references (statement_of (graph_in numbers) m.0 i.0))))) total₀ marks lines total
 
-abbrev decreases-loop : tie.decreases-loop
-decreases-loop numbers tables marks₀ lines₀ m i k base count place₀ total₀ r₀ marks lines place total r = count - r
+abbrev decreases-loop-r : tie.decreases-loop-r
+decreases-loop-r numbers tables marks₀ lines₀ m i k base count place₀ total₀ r₀ marks lines place total r = count - r
 
-reference-count-requires : tie.Need-reference-count-requires invariant-loop decreases-loop
-reference-count-requires c κs = let s = c.before.before.before.before in (s.requires.0.loaded, (s.requires.1.1.0, s.requires.1.1.1))
+reference_count-count-requires : tie.Need-reference_count-count-requires invariant-loop-r decreases-loop-r
+reference_count-count-requires c κs = (c.requires.0.loaded, (c.requires.1.1.0, c.requires.1.1.1))
 
-first-reference-requires : tie.Need-first-reference-requires invariant-loop decreases-loop
-first-reference-requires c κs = let s = c.before.before.before.before.before in (s.requires.0.loaded, (s.requires.1.1.0, s.requires.1.1.1))
+first_reference-place-requires : tie.Need-first_reference-place-requires invariant-loop-r decreases-loop-r
+first_reference-place-requires c κs = (c.requires.0.loaded, (c.requires.1.1.0, c.requires.1.1.1))
 
-loop-holds : tie.Need-loop-init invariant-loop decreases-loop
-loop-holds c = let s = c.before.before.before.before.before.before in (refl, refl, c.first-reference.ensures, segments_start _ _ _ _ _ _ _ s.requires.1.0)
+loop-r-init : tie.Need-loop-r-init invariant-loop-r decreases-loop-r
+loop-r-init c = (refl, refl, c.first_reference-place.ensures, segments_start _ _ _ _ _ _ _ c.requires.1.0)
 
-include-reference-requires : tie.Need-include-reference-requires invariant-loop decreases-loop
-include-reference-requires c κs = let s = c.before.before.before.before.before.before.before.before.before.before in let v = c.before.before.before.loop.invariant in (s.requires.0, (v.3.held, (stands_here _ _ _ _ _ _ c.before.before.before.before.before.reference-count.ensures.0 c.before.before.loop-test.true v.2 s.requires.1.1.0 s.requires.1.1.1, before_more _ _ _ s.requires.1.1.2 v.3.more)))
+include_reference-requires : tie.Need-include_reference-requires invariant-loop-r decreases-loop-r
+include_reference-requires c κs = let v = c.loop-r.invariant in (c.requires.0, (v.3.held, (stands_here _ _ _ _ _ _ c.reference_count-count.ensures.0 c.loop-r-test.true v.2 c.requires.1.1.0 c.requires.1.1.1, before_more _ _ _ c.requires.1.1.2 v.3.more)))
 
-enum-known-n : tie.Need-enum-known-n invariant-loop decreases-loop
-enum-known-n c = c.match.keys1
+enum_known-n : tie.Need-enum_known-n invariant-loop-r decreases-loop-r
+enum_known-n c = c.in-Lines.keys1
 
-enum_told : tie.Need-enum-told invariant-loop decreases-loop
-enum_told c = c.match.keys2
+enum_told-1 : tie.Need-enum_told-1 invariant-loop-r decreases-loop-r
+enum_told-1 c = c.in-Full.keys2
 
-same_length : tie.Need-same-length invariant-loop decreases-loop
-same_length c = c.before.before.before.before.before.before.include-reference.auto.1.1.0 ∙ c.before.before.before.before.before.before.before.before.before.before.loop.invariant.0
+shape_of-marks-in-Full : tie.Need-shape_of-marks-in-Full invariant-loop-r decreases-loop-r
+shape_of-marks-in-Full c = c.include_reference.auto.1.1.0 ∙ c.loop-r.invariant.0
 
-same-length-2 : tie.Need-same-length-2 invariant-loop decreases-loop
-same-length-2 c = c.before.before.before.before.before.before.include-reference.auto.1.1.1.0 ∙ c.before.before.before.before.before.before.before.before.before.before.loop.invariant.1
+shape_of-lines-in-Full : tie.Need-shape_of-lines-in-Full invariant-loop-r decreases-loop-r
+shape_of-lines-in-Full c = c.include_reference.auto.1.1.1.0 ∙ c.loop-r.invariant.1
 
-returns : tie.Need-returns invariant-loop decreases-loop
-returns c = references-full _ _ _ _ _ _ _ _ _ _ _ _ c.before.before.before.before.before.before.before.before.before.before.before.before.reference-count.ensures.0 c.before.before.before.before.before.before.before.before.before.before.loop.invariant.3 c.before.before.before.before.before.before.before.before.before.loop-test.true _ _ _ c.enum_told.given.1 c.before.before.before.before.before.before.include-reference.ensures
+returns-in-Full : tie.Need-returns-in-Full invariant-loop-r decreases-loop-r
+returns-in-Full c = references-full _ _ _ _ _ _ _ _ _ _ _ _ c.reference_count-count.ensures.0 c.loop-r.invariant.3 c.loop-r-test.true _ _ _ c.in-Full.is c.include_reference.ensures
 
-reference-width-requires : tie.Need-reference-width-requires invariant-loop decreases-loop
-reference-width-requires c κs = width_inside _ _ _ _ _ _ c.before.before.before.before.before.before.before.before.before.before.before.before.before.reference-count.ensures.0 c.before.before.before.before.before.before.before.before.before.before.loop-test.true c.before.before.before.before.before.before.before.before.before.before.before.loop.invariant.2
+reference_width-place-requires : tie.Need-reference_width-place-requires invariant-loop-r decreases-loop-r
+reference_width-place-requires c κs = width_inside _ _ _ _ _ _ c.reference_count-count.ensures.0 c.loop-r-test.true c.loop-r.invariant.2
 
-add-place : tie.Need-overflow-add-place invariant-loop decreases-loop
-add-place c = record { fits = omega (arith, c.reference-width.ensures, width_inside _ _ _ _ _ _ c.before.before.before.before.before.before.before.before.before.before.before.before.before.before.reference-count.ensures.0 c.before.before.before.before.before.before.before.before.before.before.before.loop-test.true c.before.before.before.before.before.before.before.before.before.before.before.before.loop.invariant.2) }
+overflow_add-place : tie.Need-overflow_add-place invariant-loop-r decreases-loop-r
+overflow_add-place c = record { fits = omega (arith, c.reference_width-place.ensures, width_inside _ _ _ _ _ _ c.reference_count-count.ensures.0 c.loop-r-test.true c.loop-r.invariant.2) }
 
-add_r : tie.Need-overflow-add-r invariant-loop decreases-loop
-add_r c = record { fits = omega (arith, c.before.before.before.before.before.before.before.before.before.before.before.loop-test.true) }
+overflow_add-r : tie.Need-overflow_add-r invariant-loop-r decreases-loop-r
+overflow_add-r c = record { fits = omega (arith, c.loop-r-test.true) }
 
-loop-less : tie.Need-loop-smaller invariant-loop decreases-loop
-loop-less c = turn_less _ _ c.before.before.before.before.before.before.before.before.before.before.before.loop-test.true
+loop-r-smaller : tie.Need-loop-r-smaller invariant-loop-r decreases-loop-r
+loop-r-smaller c = turn_less _ _ c.loop-r-test.true
 
-loop-again : tie.Need-loop-preserved invariant-loop decreases-loop
-loop-again c = let v = c.before.before.before.before.before.before.before.before.before.before.before.before.loop.invariant in let a = c.before.before.before.before.before.before.before.before.include-reference in (a.auto.1.1.0 ∙ v.0, a.auto.1.1.1.0 ∙ v.1, stand_next _ _ _ _ _ _ c.before.before.before.before.before.before.before.before.before.before.before.before.before.before.reference-count.ensures.0 c.before.before.before.before.before.before.before.before.before.before.before.loop-test.true v.2 _ c.reference-width.ensures, references-next _ _ _ _ _ _ _ _ _ _ _ _ c.before.before.before.before.before.before.before.before.before.before.before.before.before.before.reference-count.ensures.0 v.3 c.before.before.before.before.before.before.before.before.before.before.before.loop-test.true _ _ _ _ c.before.before.n.given.1 a.ensures)
+loop-r-preserved : tie.Need-loop-r-preserved invariant-loop-r decreases-loop-r
+loop-r-preserved c = let v = c.loop-r.invariant in let a = c.include_reference in (a.auto.1.1.0 ∙ v.0, a.auto.1.1.1.0 ∙ v.1, stand_next _ _ _ _ _ _ c.reference_count-count.ensures.0 c.loop-r-test.true v.2 _ c.reference_width-place.ensures, references-next _ _ _ _ _ _ _ _ _ _ _ _ c.reference_count-count.ensures.0 v.3 c.loop-r-test.true _ _ _ _ c.in-Lines.is a.ensures)
 
-same-length-3 : tie.Need-same-length-3 invariant-loop decreases-loop
-same-length-3 c = c.before.loop.invariant.0
+shape_of-marks : tie.Need-shape_of-marks invariant-loop-r decreases-loop-r
+shape_of-marks c = c.loop-r.invariant.0
 
-same-length-4 : tie.Need-same-length-4 invariant-loop decreases-loop
-same-length-4 c = c.before.loop.invariant.1
+shape_of-lines : tie.Need-shape_of-lines invariant-loop-r decreases-loop-r
+shape_of-lines c = c.loop-r.invariant.1
 
-returns-2 : tie.Need-returns-2 invariant-loop decreases-loop
-returns-2 c = references_done _ _ _ _ _ _ _ _ _ _ _ _ c.before.before.before.reference-count.ensures.0 c.before.loop.invariant.3 c.loop-test.false
+returns : tie.Need-returns invariant-loop-r decreases-loop-r
+returns c = references_done _ _ _ _ _ _ _ _ _ _ _ _ c.reference_count-count.ensures.0 c.loop-r.invariant.3 c.loop-r-test.false
 
-pub include-references-spec : {M : Type 1} → statement M
-include-references-spec = tie.close (tie.spec invariant-loop decreases-loop reference-count-requires first-reference-requires loop-holds include-reference-requires enum-known-n enum_told same_length same-length-2 returns reference-width-requires add-place add_r loop-less loop-again same-length-3 same-length-4 returns-2)
+pub include_references_spec : {M : Type 1} → statement M
+include_references_spec =
+    tie.close
+    (tie.spec
+    invariant-loop-r
+    decreases-loop-r
+    reference_count-count-requires
+    first_reference-place-requires
+    loop-r-init
+    include_reference-requires
+    enum_known-n
+    enum_told-1
+    shape_of-marks-in-Full
+    shape_of-lines-in-Full
+    returns-in-Full
+    reference_width-place-requires
+    overflow_add-place
+    overflow_add-r
+    loop-r-smaller
+    loop-r-preserved
+    shape_of-marks
+    shape_of-lines
+    returns)

@@ -21,56 +21,75 @@ use Rattle.include_statements.proofs.scan_import_records.Tie as tie
 abbrev candidates : List ℕ → ModuleIdx → StmtIdx → Segment
 candidates numbers m i = segment 7 (length (statement_import_records (statement_of (graph_in numbers) m.0 i.0))) (import_record_candidate (graph_in numbers) (last_verdicts (graph_in numbers)) m.0 i.0)
 
-abbrev invariant-loop : tie.invariant-loop
-invariant-loop numbers tables marks₀ lines₀ m i k base count total₀ c₀ marks lines total c = (length marks ≡ length marks₀) × (length lines ≡ length lines₀) × Going (graph_in numbers) base (adds (graph_in numbers) base (lines_of total₀ lines₀) (lines_by k (candidates numbers m i ∷ []))) (lines_from k (candidates numbers m i) c) total₀ marks lines total
+abbrev invariant-loop-c : tie.invariant-loop-c
+invariant-loop-c numbers tables marks₀ lines₀ m i k base count total₀ c₀ marks lines total c = (length marks ≡ length marks₀) × (length lines ≡ length lines₀) × Going (graph_in numbers) base (adds (graph_in numbers) base (lines_of total₀ lines₀) (lines_by k (candidates numbers m i ∷ []))) (lines_from k (candidates numbers m i) c) total₀ marks lines total
 
-abbrev decreases-loop : tie.decreases-loop
-decreases-loop numbers tables marks₀ lines₀ m i k base count total₀ c₀ marks lines total c = count - c
+abbrev decreases-loop-c : tie.decreases-loop-c
+decreases-loop-c numbers tables marks₀ lines₀ m i k base count total₀ c₀ marks lines total c = count - c
 
-import-record-count-requires : tie.Need-import-record-count-requires invariant-loop decreases-loop
-import-record-count-requires c κs = let s = c.before.before.before.before in (s.requires.0.loaded, (s.requires.1.1.0, s.requires.1.1.1))
+import_record_count-count-requires : tie.Need-import_record_count-count-requires invariant-loop-c decreases-loop-c
+import_record_count-count-requires c κs = (c.requires.0.loaded, (c.requires.1.1.0, c.requires.1.1.1))
 
-loop-holds : tie.Need-loop-init invariant-loop decreases-loop
-loop-holds c = let s = c.before.before.before.before.before in (refl, refl, segment_start _ _ _ _ _ _ _ s.requires.1.0)
+loop-c-init : tie.Need-loop-c-init invariant-loop-c decreases-loop-c
+loop-c-init c = (refl, refl, segment_start _ _ _ _ _ _ _ c.requires.1.0)
 
-import-record-candidate-requires : tie.Need-import-record-candidate-requires invariant-loop decreases-loop
-import-record-candidate-requires c κs = let s = c.before.before.before.before.before.before.before in (s.requires.0, (s.requires.1.1.0, s.requires.1.1.1, below_same _ _ _ c.loop-test.true c.before.before.import-record-count.ensures.0))
+import_record_candidate-candidate-requires : tie.Need-import_record_candidate-candidate-requires invariant-loop-c decreases-loop-c
+import_record_candidate-candidate-requires c κs = (c.requires.0, (c.requires.1.1.0, c.requires.1.1.1, below_same _ _ _ c.loop-c-test.true c.import_record_count-count.ensures.0))
 
-give-requires : tie.Need-give-requires invariant-loop decreases-loop
-give-requires c κs = let s = c.before.before.before.before.before.before.before.before.before.before in let v = c.before.before.before.before.loop.invariant.2 in (s.requires.0, (v.held, (omega arith, c.before.before.import-record-candidate.ensures.1, before_more _ _ _ s.requires.1.1.2 v.more)))
+give-requires : tie.Need-give-requires invariant-loop-c decreases-loop-c
+give-requires c κs = let v = c.loop-c.invariant.2 in (c.requires.0, (v.held, (omega arith, c.import_record_candidate-candidate.ensures.1, before_more _ _ _ c.requires.1.1.2 v.more)))
 
-enum-known-n : tie.Need-enum-known-n invariant-loop decreases-loop
-enum-known-n c = c.match.keys1
+enum_known-n : tie.Need-enum_known-n invariant-loop-c decreases-loop-c
+enum_known-n c = c.in-Lines.keys1
 
-enum_told : tie.Need-enum-told invariant-loop decreases-loop
-enum_told c = c.match.keys2
+enum_told-1 : tie.Need-enum_told-1 invariant-loop-c decreases-loop-c
+enum_told-1 c = c.in-Full.keys2
 
-same_length : tie.Need-same-length invariant-loop decreases-loop
-same_length c = c.before.before.before.before.before.before.give.auto.1.1.0 ∙ c.before.before.before.before.before.before.before.before.before.before.before.loop.invariant.0
+shape_of-marks-in-Full : tie.Need-shape_of-marks-in-Full invariant-loop-c decreases-loop-c
+shape_of-marks-in-Full c = c.give.auto.1.1.0 ∙ c.loop-c.invariant.0
 
-same-length-2 : tie.Need-same-length-2 invariant-loop decreases-loop
-same-length-2 c = c.before.before.before.before.before.before.give.auto.1.1.1.0 ∙ c.before.before.before.before.before.before.before.before.before.before.before.loop.invariant.1
+shape_of-lines-in-Full : tie.Need-shape_of-lines-in-Full invariant-loop-c decreases-loop-c
+shape_of-lines-in-Full c = c.give.auto.1.1.1.0 ∙ c.loop-c.invariant.1
 
-returns : tie.Need-returns invariant-loop decreases-loop
-returns c = segment-full _ _ _ _ _ _ _ _ _ _ _ c.before.before.before.before.before.before.before.before.before.before.before.loop.invariant.2 c.before.before.before.before.before.before.before.before.before.before.before.before.import-record-count.ensures.0 c.before.before.before.before.before.before.before.before.before.before.loop-test.true _ c.before.before.before.before.before.before.before.before.before.import-record-candidate.ensures.0 _ _ _ c.enum_told.given.1 c.before.before.before.before.before.before.give.ensures
+returns-in-Full : tie.Need-returns-in-Full invariant-loop-c decreases-loop-c
+returns-in-Full c = segment-full _ _ _ _ _ _ _ _ _ _ _ c.loop-c.invariant.2 c.import_record_count-count.ensures.0 c.loop-c-test.true _ c.import_record_candidate-candidate.ensures.0 _ _ _ c.in-Full.is c.give.ensures
 
-add-c : tie.Need-overflow-add-c invariant-loop decreases-loop
-add-c c = record { fits = omega (arith, c.before.before.before.before.before.before.before.before.before.before.before.loop-test.true) }
+overflow_add-c : tie.Need-overflow_add-c invariant-loop-c decreases-loop-c
+overflow_add-c c = record { fits = omega (arith, c.loop-c-test.true) }
 
-loop-less : tie.Need-loop-smaller invariant-loop decreases-loop
-loop-less c = turn_less _ _ c.before.before.before.before.before.before.before.before.before.before.before.loop-test.true
+loop-c-smaller : tie.Need-loop-c-smaller invariant-loop-c decreases-loop-c
+loop-c-smaller c = turn_less _ _ c.loop-c-test.true
 
-loop-again : tie.Need-loop-preserved invariant-loop decreases-loop
-loop-again c = let v = c.before.before.before.before.before.before.before.before.before.before.before.before.loop.invariant in let a = c.before.before.before.before.before.before.before.give in (a.auto.1.1.0 ∙ v.0, a.auto.1.1.1.0 ∙ v.1, segment-step _ _ _ _ _ _ _ _ _ _ _ v.2 c.before.before.before.before.before.before.before.before.before.before.before.before.before.import-record-count.ensures.0 c.before.before.before.before.before.before.before.before.before.before.before.loop-test.true _ c.before.before.before.before.before.before.before.before.before.before.import-record-candidate.ensures.0 _ _ _ _ c.before.n.given.1 a.ensures)
+loop-c-preserved : tie.Need-loop-c-preserved invariant-loop-c decreases-loop-c
+loop-c-preserved c = let v = c.loop-c.invariant in let a = c.give in (a.auto.1.1.0 ∙ v.0, a.auto.1.1.1.0 ∙ v.1, segment-step _ _ _ _ _ _ _ _ _ _ _ v.2 c.import_record_count-count.ensures.0 c.loop-c-test.true _ c.import_record_candidate-candidate.ensures.0 _ _ _ _ c.in-Lines.is a.ensures)
 
-same-length-3 : tie.Need-same-length-3 invariant-loop decreases-loop
-same-length-3 c = c.before.loop.invariant.0
+shape_of-marks : tie.Need-shape_of-marks invariant-loop-c decreases-loop-c
+shape_of-marks c = c.loop-c.invariant.0
 
-same-length-4 : tie.Need-same-length-4 invariant-loop decreases-loop
-same-length-4 c = c.before.loop.invariant.1
+shape_of-lines : tie.Need-shape_of-lines invariant-loop-c decreases-loop-c
+shape_of-lines c = c.loop-c.invariant.1
 
-returns-2 : tie.Need-returns-2 invariant-loop decreases-loop
-returns-2 c = segment_done _ _ _ _ _ _ _ _ _ _ _ c.before.loop.invariant.2 c.before.before.import-record-count.ensures.0 c.loop-test.false
+returns : tie.Need-returns invariant-loop-c decreases-loop-c
+returns c = segment_done _ _ _ _ _ _ _ _ _ _ _ c.loop-c.invariant.2 c.import_record_count-count.ensures.0 c.loop-c-test.false
 
-pub scan-import-records-spec : {M : Type 1} → statement M
-scan-import-records-spec = tie.close (tie.spec invariant-loop decreases-loop import-record-count-requires loop-holds import-record-candidate-requires give-requires enum-known-n enum_told same_length same-length-2 returns add-c loop-less loop-again same-length-3 same-length-4 returns-2)
+pub scan_import_records_spec : {M : Type 1} → statement M
+scan_import_records_spec =
+    tie.close
+    (tie.spec
+    invariant-loop-c
+    decreases-loop-c
+    import_record_count-count-requires
+    loop-c-init
+    import_record_candidate-candidate-requires
+    give-requires
+    enum_known-n
+    enum_told-1
+    shape_of-marks-in-Full
+    shape_of-lines-in-Full
+    returns-in-Full
+    overflow_add-c
+    loop-c-smaller
+    loop-c-preserved
+    shape_of-marks
+    shape_of-lines
+    returns)

@@ -9,34 +9,44 @@ use Rattle.include_symbol.proofs.alias_candidate.Statement.{statement}
 use Rattle.include_symbol.proofs.alias_candidate.Tie as tie
 
 -- the root's alias
-alias : (c : tie.After-alias-namespace) → c.alias-namespace.result ≡ alias_namespace (symbol_of (graph_in c.before.before.before.before.args.numbers.now) (root_of (graph_in c.before.before.before.before.args.numbers.now).symbols c.before.before.before.before.args.s.0))
-alias c = c.alias-namespace.ensures.0 ∙ ap (λ r. alias_namespace (symbol_of (graph_in c.before.before.before.before.args.numbers.now) r)) c.before.root.ensures.0
+alias : (c : tie.After-alias_namespace-alias) → c.alias_namespace-alias.result ≡ alias_namespace (symbol_of (graph_in c.args.numbers.now) (root_of (graph_in c.args.numbers.now).symbols c.args.s.0))
+alias c = c.alias_namespace-alias.ensures.0 ∙ ap (λ r. alias_namespace (symbol_of (graph_in c.args.numbers.now) r)) c.root-root.ensures.0
 
-root-requires : tie.Need-root-requires
-root-requires c κs = let s = c.before.before in (s.requires.0.loaded, s.requires.1)
+root-root-requires : tie.Need-root-root-requires
+root-root-requires c κs = (c.requires.0.loaded, c.requires.1)
 
-alias-namespace-requires : tie.Need-alias-namespace-requires
-alias-namespace-requires c κs = (c.before.before.before.requires.0.loaded, c.root.ensures.1)
+alias_namespace-alias-requires : tie.Need-alias_namespace-alias-requires
+alias_namespace-alias-requires c κs = (c.requires.0.loaded, c.root-root.ensures.1)
+
+returns-then-alias-eq0 : tie.Need-returns-then-alias-eq0
+unfolding graph_in
+returns-then-alias-eq0 c = (no_alias _ _ _ _ (alias c.before) c.if-alias-eq0.true, nothing_good)
+
+alias_name-name-requires : tie.Need-alias_name-name-requires
+alias_name-name-requires c κs = (c.requires.0.loaded, c.root-root.ensures.1)
+
+overflow_sub-alias : tie.Need-overflow_sub-alias
+overflow_sub-alias c = omega (arith, c.if-alias-eq0.false)
+
+commonjs_of-requires : tie.Need-commonjs_of-requires
+commonjs_of-requires c κs = (c.requires.0.named, omega (arith, c.if-alias-eq0.false, c.alias_namespace-alias.ensures.1))
+
+export_candidate-requires : tie.Need-export_candidate-requires
+export_candidate-requires c κs = (c.requires.0, c.commonjs_of.ensures.1)
 
 returns : tie.Need-returns
 unfolding graph_in
-returns c = (no_alias _ _ _ _ (alias c.before) c.if1.true, nothing_good)
+returns c = (an_alias _ _ _ _ (alias c.before.before.before.before) _ c.if-alias-eq0.false (c.alias_name-name.ensures ∙ ap (λ r. alias_name (symbol_of (graph_in c.args.numbers.now) r)) c.root-root.ensures.0) c.commonjs_of.ensures.0 c.export_candidate.ensures.0, c.export_candidate.ensures.1)
 
-alias-name-requires : tie.Need-alias-name-requires
-alias-name-requires c κs = (c.before.before.before.before.before.requires.0.loaded, c.before.before.root.ensures.1)
-
-sub-t9 : tie.Need-overflow-sub-t9
-sub-t9 c = omega (arith, c.before.if1.false)
-
-commonjs-of-requires : tie.Need-commonjs-of-requires
-commonjs-of-requires c κs = (c.before.before.before.before.before.before.requires.0.named, omega (arith, c.before.if1.false, c.before.before.alias-namespace.ensures.1))
-
-export-candidate-requires : tie.Need-export-candidate-requires
-export-candidate-requires c κs = (c.before.before.before.before.before.before.before.requires.0, c.commonjs-of.ensures.1)
-
-returns-2 : tie.Need-returns-2
-unfolding graph_in
-returns-2 c = let s = c.before.before.before.before.before.before.before.before in (an_alias _ _ _ _ (alias c.before.before.before.before) _ c.before.before.before.if1.false (c.before.before.alias-name.ensures ∙ ap (λ r. alias_name (symbol_of (graph_in s.args.numbers.now) r)) c.before.before.before.before.before.root.ensures.0) c.before.commonjs-of.ensures.0 c.export-candidate.ensures.0, c.export-candidate.ensures.1)
-
-pub alias-candidate-spec : {M : Type 1} → statement M
-alias-candidate-spec = tie.close (tie.spec root-requires alias-namespace-requires returns alias-name-requires sub-t9 commonjs-of-requires export-candidate-requires returns-2)
+pub alias_candidate_spec : {M : Type 1} → statement M
+alias_candidate_spec =
+    tie.close
+    (tie.spec
+    root-root-requires
+    alias_namespace-alias-requires
+    returns-then-alias-eq0
+    alias_name-name-requires
+    overflow_sub-alias
+    commonjs_of-requires
+    export_candidate-requires
+    returns)

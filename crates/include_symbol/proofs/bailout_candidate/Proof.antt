@@ -5,15 +5,20 @@ use Rattle.keep_rules.proofs.Picks.{gives_good, nothing_good}
 use Rattle.include_symbol.proofs.bailout_candidate.Statement.{statement}
 use Rattle.include_symbol.proofs.bailout_candidate.Tie as tie
 
+returns-then-n-eq0 : tie.Need-returns-then-n-eq0
+returns-then-n-eq0 c = (bailout_none _ c.if-n-eq0.true, nothing_good)
+
+overflow_sub-result : tie.Need-overflow_sub-result
+overflow_sub-result c = omega (arith, c.if-n-eq0.false)
+
 returns : tie.Need-returns
-returns c = (bailout_none _ c.if1.true, nothing_good)
-
-sub-t4 : tie.Need-overflow-sub-t4
-sub-t4 c = omega (arith, c.if1.false)
-
-returns-2 : tie.Need-returns-2
 unfolding graph_in
-returns-2 c = (bailout_some _ c.if1.false, gives_good (omega (arith, c.if1.false, c.before.requires)))
+returns c = (bailout_some _ c.if-n-eq0.false, gives_good (omega (arith, c.if-n-eq0.false, c.requires)))
 
-pub bailout-candidate-spec : {M : Type 1} → statement M
-bailout-candidate-spec = tie.close (tie.spec returns sub-t4 returns-2)
+pub bailout_candidate_spec : {M : Type 1} → statement M
+bailout_candidate_spec =
+    tie.close
+    (tie.spec
+    returns-then-n-eq0
+    overflow_sub-result
+    returns)

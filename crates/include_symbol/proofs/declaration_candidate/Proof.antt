@@ -9,41 +9,53 @@ use Rattle.include_symbol.proofs.declaration_candidate.Statement.{statement}
 use Rattle.include_symbol.proofs.declaration_candidate.Tie as tie
 
 -- the owner is normal
-usual : (c : tie.After-owner) → normal (graph_in c.before.before.before.before.args.numbers.now) c.owner.result.0 ≡ true
-usual c = declared_in _ _ _ c.owner.ensures.0 _ (rw (sym c.before.target-of.ensures.0) at c.before.before.before.before.requires.1.1)
+usual : (c : tie.After-owner-o) → normal (graph_in c.args.numbers.now) c.owner-o.result.0 ≡ true
+usual c = declared_in _ _ _ c.owner-o.ensures.0 _ (rw (sym c.target_of-t.ensures.0) at c.requires.1.1)
 
-target-of-requires : tie.Need-target-of-requires
-target-of-requires c κs = (c.before.before.requires.0.loaded, c.before.before.requires.1.0)
+target_of-t-requires : tie.Need-target_of-t-requires
+target_of-t-requires c κs = (c.requires.0.loaded, c.requires.1.0)
 
-owner-requires : tie.Need-owner-requires
-owner-requires c κs = (c.before.before.before.requires.0.loaded, c.target-of.ensures.1)
+owner-o-requires : tie.Need-owner-o-requires
+owner-o-requires c κs = (c.requires.0.loaded, c.target_of-t.ensures.1)
 
-declaring-count-requires : tie.Need-declaring-count-requires
-declaring-count-requires c κs = (c.before.before.before.before.requires.0.loaded, c.before.target-of.ensures.1)
+declaring_count-requires : tie.Need-declaring_count-requires
+declaring_count-requires c κs = (c.requires.0.loaded, c.target_of-t.ensures.1)
 
-declaring-requires : tie.Need-declaring-requires
-declaring-requires c κs = (c.before.before.before.before.before.before.requires.0.loaded, (c.before.before.before.target-of.ensures.1, omega (arith, c.if1.true, c.before.declaring-count.ensures.0)))
+declaring-i-requires : tie.Need-declaring-i-requires
+declaring-i-requires c κs = (c.requires.0.loaded, (c.target_of-t.ensures.1, omega (arith, c.if-k-declaring_count.true, c.declaring_count.ensures.0)))
 
-returns : tie.Need-returns
+returns-then-k-declaring_count : tie.Need-returns-then-k-declaring_count
 unfolding graph_in
-returns c = (declared_at _ _ _ _ _ c.before.before.before.before.target-of.ensures.0 (declared-one _ _ _ c.before.before.before.owner.ensures.0 _ _ _ c.before.before.declaring-count.ensures.0 _ c.before.if1.true c.declaring.ensures.0), gives_good (c.before.before.before.owner.ensures.1, of_owner _ _ _ _ c.before.before.before.owner.ensures.0 c.declaring.ensures.1))
+returns-then-k-declaring_count c = (declared_at _ _ _ _ _ c.target_of-t.ensures.0 (declared-one _ _ _ c.owner-o.ensures.0 _ _ _ c.declaring_count.ensures.0 _ c.if-k-declaring_count.true c.declaring-i.ensures.0), gives_good (c.owner-o.ensures.1, of_owner _ _ _ _ c.owner-o.ensures.0 c.declaring-i.ensures.1))
 
-is-namespace-requires : tie.Need-is-namespace-requires
-is-namespace-requires c κs = (c.before.before.before.before.before.before.requires.0.loaded, c.before.before.before.target-of.ensures.1)
+is_namespace-requires : tie.Need-is_namespace-requires
+is_namespace-requires c κs = (c.requires.0.loaded, c.target_of-t.ensures.1)
 
 flag-requires : tie.Need-flag-requires
 flag-requires c κs = (omega arith)
 
-returns-2 : tie.Need-returns-2
-returns-2 c = (declared_at _ _ _ _ _ c.before.before.before.before.before.before.before.target-of.ensures.0 (declared-namespace _ _ _ c.before.before.before.before.before.before.owner.ensures.0 _ _ _ c.before.before.before.before.before.declaring-count.ensures.0 c.before.before.before.before.if1.false (sym c.before.before.before.is-namespace.ensures ∙ c.before.before.if2.true) (sym c.before.flag.ensures ∙ c.if3.true)), nothing_good)
+returns-then-flag : tie.Need-returns-then-flag
+returns-then-flag c = (declared_at _ _ _ _ _ c.target_of-t.ensures.0 (declared-namespace _ _ _ c.owner-o.ensures.0 _ _ _ c.declaring_count.ensures.0 c.if-k-declaring_count.false (sym c.is_namespace.ensures ∙ c.if-is_namespace.true) (sym c.flag.ensures ∙ c.if-flag.true)), nothing_good)
 
-returns-3 : tie.Need-returns-3
+returns-else-flag : tie.Need-returns-else-flag
 unfolding graph_in
-returns-3 c = (declared_at _ _ _ _ _ c.before.before.before.before.before.before.before.target-of.ensures.0 (declared-owner _ _ _ c.before.before.before.before.before.before.owner.ensures.0 _ _ _ c.before.before.before.before.before.declaring-count.ensures.0 c.before.before.before.before.if1.false (sym c.before.flag.ensures ∙ c.if3.false)), gives_good (c.before.before.before.before.before.before.owner.ensures.1, usual c.before.before.before.before.before.before))
+returns-else-flag c = (declared_at _ _ _ _ _ c.target_of-t.ensures.0 (declared-owner _ _ _ c.owner-o.ensures.0 _ _ _ c.declaring_count.ensures.0 c.if-k-declaring_count.false (sym c.flag.ensures ∙ c.if-flag.false)), gives_good (c.owner-o.ensures.1, usual c.before.before.before.before.before.before))
 
-returns-4 : tie.Need-returns-4
+returns-else-is_namespace : tie.Need-returns-else-is_namespace
 unfolding graph_in
-returns-4 c = (declared_at _ _ _ _ _ c.before.before.before.before.before.target-of.ensures.0 (declared-plain _ _ _ c.before.before.before.before.owner.ensures.0 _ _ _ c.before.before.before.declaring-count.ensures.0 c.before.before.if1.false (sym c.before.is-namespace.ensures ∙ c.if2.false)), gives_good (c.before.before.before.before.owner.ensures.1, usual c.before.before.before.before))
+returns-else-is_namespace c = (declared_at _ _ _ _ _ c.target_of-t.ensures.0 (declared-plain _ _ _ c.owner-o.ensures.0 _ _ _ c.declaring_count.ensures.0 c.if-k-declaring_count.false (sym c.is_namespace.ensures ∙ c.if-is_namespace.false)), gives_good (c.owner-o.ensures.1, usual c.before.before.before.before))
 
-pub declaration-candidate-spec : {M : Type 1} → statement M
-declaration-candidate-spec = tie.close (tie.spec target-of-requires owner-requires declaring-count-requires declaring-requires returns is-namespace-requires flag-requires returns-2 returns-3 returns-4)
+pub declaration_candidate_spec : {M : Type 1} → statement M
+declaration_candidate_spec =
+    tie.close
+    (tie.spec
+    target_of-t-requires
+    owner-o-requires
+    declaring_count-requires
+    declaring-i-requires
+    returns-then-k-declaring_count
+    is_namespace-requires
+    flag-requires
+    returns-then-flag
+    returns-else-flag
+    returns-else-is_namespace)

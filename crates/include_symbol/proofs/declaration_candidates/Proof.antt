@@ -5,26 +5,35 @@ use native.Mathlib.Omega.{arith}
 use Rattle.include_symbol.proofs.declaration_candidates.Statement.{statement}
 use Rattle.include_symbol.proofs.declaration_candidates.Tie as tie
 
-target-of-requires : tie.Need-target-of-requires
-target-of-requires c κs = (c.before.before.requires.0.loaded, c.before.before.requires.1)
+target_of-t-requires : tie.Need-target_of-t-requires
+target_of-t-requires c κs = (c.requires.0.loaded, c.requires.1)
 
-owner-requires : tie.Need-owner-requires
-owner-requires c κs = (c.before.before.before.requires.0.loaded, c.target-of.ensures.1)
+owner-o-requires : tie.Need-owner-o-requires
+owner-o-requires c κs = (c.requires.0.loaded, c.target_of-t.ensures.1)
 
-is-normal-requires : tie.Need-is-normal-requires
-is-normal-requires c κs = (c.before.before.before.before.requires.0.loaded, c.owner.ensures.1)
+is_normal-requires : tie.Need-is_normal-requires
+is_normal-requires c κs = (c.requires.0.loaded, c.owner-o.ensures.1)
 
-declaring-count-requires : tie.Need-declaring-count-requires
-declaring-count-requires c κs = (c.before.before.before.before.before.before.requires.0.loaded, c.before.before.before.target-of.ensures.1)
+declaring_count-requires : tie.Need-declaring_count-requires
+declaring_count-requires c κs = (c.requires.0.loaded, c.target_of-t.ensures.1)
 
-add-result : tie.Need-overflow-add-result
-add-result c = omega (arith, c.declaring-count.ensures.1)
+overflow_add-result : tie.Need-overflow_add-result
+overflow_add-result c = omega (arith, c.declaring_count.ensures.1)
+
+returns-then-is_normal : tie.Need-returns-then-is_normal
+returns-then-is_normal c = declared_all _ _ _ c.owner-o.ensures.0 (sym c.is_normal.ensures ∙ c.if-is_normal.true) c.declaring_count.ensures.0 ∙ ap (declaration_candidates _) c.target_of-t.ensures.0
 
 returns : tie.Need-returns
-returns c = declared_all _ _ _ c.before.before.before.owner.ensures.0 (sym c.before.before.is_normal.ensures ∙ c.before.if1.true) c.declaring-count.ensures.0 ∙ ap (declaration_candidates _) c.before.before.before.before.target-of.ensures.0
+returns c = declared_none _ _ _ c.owner-o.ensures.0 (sym c.is_normal.ensures ∙ c.if-is_normal.false) ∙ ap (declaration_candidates _) c.target_of-t.ensures.0
 
-returns-2 : tie.Need-returns-2
-returns-2 c = declared_none _ _ _ c.before.before.owner.ensures.0 (sym c.before.is_normal.ensures ∙ c.if1.false) ∙ ap (declaration_candidates _) c.before.before.before.target-of.ensures.0
-
-pub declaration-candidates-spec : {M : Type 1} → statement M
-declaration-candidates-spec = tie.close (tie.spec target-of-requires owner-requires is-normal-requires declaring-count-requires add-result returns returns-2)
+pub declaration_candidates_spec : {M : Type 1} → statement M
+declaration_candidates_spec =
+    tie.close
+    (tie.spec
+    target_of-t-requires
+    owner-o-requires
+    is_normal-requires
+    declaring_count-requires
+    overflow_add-result
+    returns-then-is_normal
+    returns)

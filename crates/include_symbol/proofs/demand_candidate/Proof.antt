@@ -10,24 +10,31 @@ use Rattle.include_symbol.proofs.demand_candidate.Statement.{statement}
 use Rattle.include_symbol.proofs.demand_candidate.Tie as tie
 
 -- the place is a statement of the body
-its : (c : tie.After-demanded-body) → (0 < c.demanded-body.result) × (c.before.before.before.args.i.0 < length (statement_list (graph_in c.before.before.before.args.numbers.now) (c.demanded-body.result - 1)))
-its c = demand_in _ _ _ (rw (sym c.demanded-body.ensures.0) at c.before.before.before.requires.1.1)
+its : (c : tie.After-demanded_body-body) → (0 < c.demanded_body-body.result) × (c.args.i.0 < length (statement_list (graph_in c.args.numbers.now) (c.demanded_body-body.result - 1)))
+its c = demand_in _ _ _ (rw (sym c.demanded_body-body.ensures.0) at c.requires.1.1)
 
-demanded-body-requires : tie.Need-demanded-body-requires
-demanded-body-requires c κs = (c.before.before.requires.0, c.before.before.requires.1.0)
+demanded_body-body-requires : tie.Need-demanded_body-body-requires
+demanded_body-body-requires c κs = (c.requires.0, c.requires.1.0)
 
-sub-t8 : tie.Need-overflow-sub-t8
-sub-t8 c = omega (arith, (its c).0)
+overflow_sub-b : tie.Need-overflow_sub-b
+overflow_sub-b c = omega (arith, (its c).0)
 
-is-gated-side-effect-stmt-requires : tie.Need-is-gated-side-effect-stmt-requires
-is-gated-side-effect-stmt-requires c κs = (c.before.before.before.requires.0.loaded, (omega (arith, (its c).0, c.demanded-body.ensures.1), (its c).1))
+is_gated_side_effect_stmt-requires : tie.Need-is_gated_side_effect_stmt-requires
+is_gated_side_effect_stmt-requires c κs = (c.requires.0.loaded, (omega (arith, (its c).0, c.demanded_body-body.ensures.1), (its c).1))
+
+returns-then-is_gated_side_effect_stmt : tie.Need-returns-then-is_gated_side_effect_stmt
+unfolding graph_in
+returns-then-is_gated_side_effect_stmt c = (demand_gated _ _ _ _ c.demanded_body-body.ensures.0 (sym c.is_gated_side_effect_stmt.ensures ∙ c.if-is_gated_side_effect_stmt.true), gives_good (omega (arith, (its c.before.before).0, c.demanded_body-body.ensures.1), (its c.before.before).1))
 
 returns : tie.Need-returns
-unfolding graph_in
-returns c = (demand_gated _ _ _ _ c.before.before.demanded-body.ensures.0 (sym c.before.is-gated-side-effect-stmt.ensures ∙ c.if1.true), gives_good (omega (arith, (its c.before.before).0, c.before.before.demanded-body.ensures.1), (its c.before.before).1))
+returns c = (demand_free _ _ _ _ c.demanded_body-body.ensures.0 (sym c.is_gated_side_effect_stmt.ensures ∙ c.if-is_gated_side_effect_stmt.false), nothing_good)
 
-returns-2 : tie.Need-returns-2
-returns-2 c = (demand_free _ _ _ _ c.before.before.demanded-body.ensures.0 (sym c.before.is-gated-side-effect-stmt.ensures ∙ c.if1.false), nothing_good)
-
-pub demand-candidate-spec : {M : Type 1} → statement M
-demand-candidate-spec = tie.close (tie.spec demanded-body-requires sub-t8 is-gated-side-effect-stmt-requires returns returns-2)
+pub demand_candidate_spec : {M : Type 1} → statement M
+demand_candidate_spec =
+    tie.close
+    (tie.spec
+    demanded_body-body-requires
+    overflow_sub-b
+    is_gated_side_effect_stmt-requires
+    returns-then-is_gated_side_effect_stmt
+    returns)

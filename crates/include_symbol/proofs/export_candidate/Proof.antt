@@ -7,33 +7,44 @@ use Rattle.keep_rules.proofs.Picks.{gives_good, nothing_good}
 use Rattle.include_symbol.proofs.export_candidate.Statement.{statement}
 use Rattle.include_symbol.proofs.export_candidate.Tie as tie
 
+returns-then-n-eq0 : tie.Need-returns-then-n-eq0
+returns-then-n-eq0 c = (pick_none _ _ _ c.if-n-eq0.true, nothing_good)
+
+overflow_sub-m : tie.Need-overflow_sub-m
+overflow_sub-m c = omega (arith, c.if-n-eq0.false)
+
+is_normal-requires : tie.Need-is_normal-requires
+is_normal-requires c κs = (c.requires.0.loaded, omega (arith, c.if-n-eq0.false, c.requires.1))
+
+returns-then-not-is_normal : tie.Need-returns-then-not-is_normal
+returns-then-not-is_normal c = (pick_external _ _ _ c.if-n-eq0.false (sym c.is_normal.ensures ∙ not_true _ c.if-not-is_normal.true), nothing_good)
+
+returns-then-name-eq0 : tie.Need-returns-then-name-eq0
+returns-then-name-eq0 c = (pick_default _ _ _ c.if-n-eq0.false (sym c.is_normal.ensures ∙ not-false _ c.if-not-is_normal.false) c.if-name-eq0.true, nothing_good)
+
+export_of-export-requires : tie.Need-export_of-export-requires
+export_of-export-requires c κs = (c.requires.0, omega (arith, c.if-n-eq0.false, c.requires.1))
+
+returns-then-export-eq0 : tie.Need-returns-then-export-eq0
+returns-then-export-eq0 c = (pick_missing _ _ _ c.if-n-eq0.false (sym c.is_normal.ensures ∙ not-false _ c.if-not-is_normal.false) c.if-name-eq0.false (sym c.export_of-export.ensures.0 ∙ c.if-export-eq0.true), nothing_good)
+
+overflow_sub-result : tie.Need-overflow_sub-result
+overflow_sub-result c = omega (arith, c.if-export-eq0.false)
+
 returns : tie.Need-returns
-returns c = (pick_none _ _ _ c.if1.true, nothing_good)
-
-sub-t8 : tie.Need-overflow-sub-t8
-sub-t8 c = omega (arith, c.if1.false)
-
-is-normal-requires : tie.Need-is-normal-requires
-is-normal-requires c κs = (c.before.before.before.requires.0.loaded, omega (arith, c.if1.false, c.before.before.before.requires.1))
-
-returns-2 : tie.Need-returns-2
-returns-2 c = (pick_external _ _ _ c.before.before.if1.false (sym c.before.is_normal.ensures ∙ not_true _ c.if2.true), nothing_good)
-
-returns-3 : tie.Need-returns-3
-returns-3 c = (pick_default _ _ _ c.before.before.before.if1.false (sym c.before.before.is_normal.ensures ∙ not-false _ c.before.if2.false) c.if3.true, nothing_good)
-
-export-of-requires : tie.Need-export-of-requires
-export-of-requires c κs = (c.before.before.before.before.before.before.requires.0, omega (arith, c.before.before.before.if1.false, c.before.before.before.before.before.before.requires.1))
-
-returns-4 : tie.Need-returns-4
-returns-4 c = (pick_missing _ _ _ c.before.before.before.before.before.if1.false (sym c.before.before.before.before.is_normal.ensures ∙ not-false _ c.before.before.before.if2.false) c.before.before.if3.false (sym c.before.export-of.ensures.0 ∙ c.if4.true), nothing_good)
-
-sub-t8-2 : tie.Need-overflow-sub-t8-2
-sub-t8-2 c = omega (arith, c.if4.false)
-
-returns-5 : tie.Need-returns-5
 unfolding graph_in
-returns-5 c = (pick_found _ _ _ _ c.before.before.before.before.before.if1.false (sym c.before.before.before.before.is_normal.ensures ∙ not-false _ c.before.before.before.if2.false) c.before.before.if3.false c.before.export-of.ensures.0 c.if4.false, gives_good (omega (arith, c.if4.false, c.before.export-of.ensures.1), omega arith, omega arith))
+returns c = (pick_found _ _ _ _ c.if-n-eq0.false (sym c.is_normal.ensures ∙ not-false _ c.if-not-is_normal.false) c.if-name-eq0.false c.export_of-export.ensures.0 c.if-export-eq0.false, gives_good (omega (arith, c.if-export-eq0.false, c.export_of-export.ensures.1), omega arith, omega arith))
 
-pub export-candidate-spec : {M : Type 1} → statement M
-export-candidate-spec = tie.close (tie.spec returns sub-t8 is-normal-requires returns-2 returns-3 export-of-requires returns-4 sub-t8-2 returns-5)
+pub export_candidate_spec : {M : Type 1} → statement M
+export_candidate_spec =
+    tie.close
+    (tie.spec
+    returns-then-n-eq0
+    overflow_sub-m
+    is_normal-requires
+    returns-then-not-is_normal
+    returns-then-name-eq0
+    export_of-export-requires
+    returns-then-export-eq0
+    overflow_sub-result
+    returns)

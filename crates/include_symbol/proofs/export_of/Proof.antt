@@ -10,47 +10,60 @@ use native.Mathlib.Omega.{arith}
 use Rattle.include_symbol.proofs.export_of.Statement.{statement}
 use Rattle.include_symbol.proofs.export_of.Tie as tie
 
-abbrev invariant-loop : tie.invariant-loop
-invariant-loop numbers tables m name count k₀ k = export_of name (drop k (resolved_exports (module_of (graph_in numbers) m.0))) ≡ export_of name (resolved_exports (module_of (graph_in numbers) m.0))
+abbrev invariant-loop-k : tie.invariant-loop-k
+invariant-loop-k numbers tables m name count k₀ k = export_of name (drop k (resolved_exports (module_of (graph_in numbers) m.0))) ≡ export_of name (resolved_exports (module_of (graph_in numbers) m.0))
 
-abbrev decreases-loop : tie.decreases-loop
-decreases-loop numbers tables m name count k₀ k = count - k
+abbrev decreases-loop-k : tie.decreases-loop-k
+decreases-loop-k numbers tables m name count k₀ k = count - k
 
 -- row k is there
-its : (c : tie.In-loop invariant-loop decreases-loop) → c.before.loop.k < length (resolved_exports (module_of (graph_in c.before.before.before.before.before.args.numbers.now) c.before.before.before.before.before.args.m.0))
-its c = omega (arith, c.loop-test.true, c.before.before.resolved-export-count.ensures.0)
+its : (c : tie.In-loop-k invariant-loop-k decreases-loop-k) → c.loop-k.k < length (resolved_exports (module_of (graph_in c.args.numbers.now) c.args.m.0))
+its c = omega (arith, c.loop-k-test.true, c.resolved_export_count-count.ensures.0)
 
-resolved-export-count-requires : tie.Need-resolved-export-count-requires invariant-loop decreases-loop
-resolved-export-count-requires c κs = let s = c.before.before in (s.requires.0.loaded, s.requires.1)
+resolved_export_count-count-requires : tie.Need-resolved_export_count-count-requires invariant-loop-k decreases-loop-k
+resolved_export_count-count-requires c κs = (c.requires.0.loaded, c.requires.1)
 
-loop-holds : tie.Need-loop-init invariant-loop decreases-loop
-loop-holds c = refl
+loop-k-init : tie.Need-loop-k-init invariant-loop-k decreases-loop-k
+loop-k-init c = refl
 
-resolved-export-name-requires : tie.Need-resolved-export-name-requires invariant-loop decreases-loop
-resolved-export-name-requires c κs = let s = c.before.before.before.before.before in (s.requires.0.loaded, (s.requires.1, its c))
+resolved_export_name-requires : tie.Need-resolved_export_name-requires invariant-loop-k decreases-loop-k
+resolved_export_name-requires c κs = (c.requires.0.loaded, (c.requires.1, its c))
 
-resolved-export-symbol-requires : tie.Need-resolved-export-symbol-requires invariant-loop decreases-loop
-resolved-export-symbol-requires c κs = let s = c.before.before.before.before.before.before.before in (s.requires.0.loaded, (s.requires.1, its c.before.before))
+resolved_export_symbol-symbol-requires : tie.Need-resolved_export_symbol-symbol-requires invariant-loop-k decreases-loop-k
+resolved_export_symbol-symbol-requires c κs = (c.requires.0.loaded, (c.requires.1, its c.before.before))
 
-add-result : tie.Need-overflow-add-result invariant-loop decreases-loop
-add-result c = omega (arith, c.before.resolved-export-symbol.ensures.1, c.before.before.before.before.before.before.before.before.before.requires.0.loaded.few_symbols)
+overflow_add-result : tie.Need-overflow_add-result invariant-loop-k decreases-loop-k
+overflow_add-result c = omega (arith, c.resolved_export_symbol-symbol.ensures.1, c.requires.0.loaded.few_symbols)
 
-returns : tie.Need-returns invariant-loop decreases-loop
-returns c = (export_found _ _ _ c.before.before.before.before.before.loop.invariant _ _ (its c.before.before.before.before) c.before.before.before.resolved-export-name.ensures c.before.before.if1.true c.before.resolved-export-symbol.ensures.0, omega (arith, c.before.resolved-export-symbol.ensures.1))
+returns-then-resolved_export_name-name : tie.Need-returns-then-resolved_export_name-name invariant-loop-k decreases-loop-k
+returns-then-resolved_export_name-name c = (export_found _ _ _ c.loop-k.invariant _ _ (its c.before.before.before.before) c.resolved_export_name.ensures c.if-resolved_export_name-name.true c.resolved_export_symbol-symbol.ensures.0, omega (arith, c.resolved_export_symbol-symbol.ensures.1))
 
-add-k : tie.Need-overflow-add-k invariant-loop decreases-loop
-add-k c = omega (arith, c.before.before.loop-test.true)
+overflow_add-k : tie.Need-overflow_add-k invariant-loop-k decreases-loop-k
+overflow_add-k c = omega (arith, c.loop-k-test.true)
 
-loop-less : tie.Need-loop-smaller invariant-loop decreases-loop
-loop-less c = omega (arith, c.before.before.loop-test.true)
+loop-k-smaller : tie.Need-loop-k-smaller invariant-loop-k decreases-loop-k
+loop-k-smaller c = omega (arith, c.loop-k-test.true)
 
-loop-again : tie.Need-loop-preserved invariant-loop decreases-loop
-loop-again c = export_go _ _ _ c.before.before.before.loop.invariant _ (its c.before.before) c.before.resolved-export-name.ensures c.if1.false
+loop-k-preserved : tie.Need-loop-k-preserved invariant-loop-k decreases-loop-k
+loop-k-preserved c = export_go _ _ _ c.loop-k.invariant _ (its c.before.before) c.resolved_export_name.ensures c.if-resolved_export_name-name.false
 
-returns-2 : tie.Need-returns-2 invariant-loop decreases-loop
-returns-2 c = let s = c.before.before.before.before.before in
-    let l : length (resolved_exports (module_of (graph_in s.args.numbers.now) s.args.m.0)) ≤ c.before.loop.k = omega (arith, c.loop-test.false, c.before.before.resolved-export-count.ensures.0) in
-    (export_none _ _ _ c.before.loop.invariant l, omega arith)
+returns : tie.Need-returns invariant-loop-k decreases-loop-k
+returns c = let l : length (resolved_exports (module_of (graph_in c.args.numbers.now) c.args.m.0)) ≤ c.loop-k.k = omega (arith, c.loop-k-test.false, c.resolved_export_count-count.ensures.0) in
+    (export_none _ _ _ c.loop-k.invariant l, omega arith)
 
-pub export-of-spec : {M : Type 1} → statement M
-export-of-spec = tie.close (tie.spec invariant-loop decreases-loop resolved-export-count-requires loop-holds resolved-export-name-requires resolved-export-symbol-requires add-result returns add-k loop-less loop-again returns-2)
+pub export_of_spec : {M : Type 1} → statement M
+export_of_spec =
+    tie.close
+    (tie.spec
+    invariant-loop-k
+    decreases-loop-k
+    resolved_export_count-count-requires
+    loop-k-init
+    resolved_export_name-requires
+    resolved_export_symbol-symbol-requires
+    overflow_add-result
+    returns-then-resolved_export_name-name
+    overflow_add-k
+    loop-k-smaller
+    loop-k-preserved
+    returns)

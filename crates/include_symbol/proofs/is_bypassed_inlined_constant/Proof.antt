@@ -9,44 +9,58 @@ use Rattle.include_symbol.proofs.is_bypassed_inlined_constant.Statement.{stateme
 use Rattle.include_symbol.proofs.is_bypassed_inlined_constant.Tie as tie
 
 -- the bits of the root's constant
-bits : (c : tie.After-constant-bits) → c.constant-bits.result ≡ constant_bits (symbol_of (graph_in c.before.before.before.before.args.numbers.now) (root_of (graph_in c.before.before.before.before.args.numbers.now).symbols c.before.before.before.before.args.s.0))
-bits c = c.constant-bits.ensures ∙ ap (λ r. constant_bits (symbol_of (graph_in c.before.before.before.before.args.numbers.now) r)) c.before.root.ensures.0
+bits : (c : tie.After-constant_bits-bits) → c.constant_bits-bits.result ≡ constant_bits (symbol_of (graph_in c.args.numbers.now) (root_of (graph_in c.args.numbers.now).symbols c.args.s.0))
+bits c = c.constant_bits-bits.ensures ∙ ap (λ r. constant_bits (symbol_of (graph_in c.args.numbers.now) r)) c.root-root.ensures.0
 
-root-requires : tie.Need-root-requires
-root-requires c κs = let s = c.before.before in (s.requires.0.loaded, s.requires.1)
+root-root-requires : tie.Need-root-root-requires
+root-root-requires c κs = (c.requires.0.loaded, c.requires.1)
 
-constant-bits-requires : tie.Need-constant-bits-requires
-constant-bits-requires c κs = (c.before.before.before.requires.0.loaded, c.root.ensures.1)
+constant_bits-bits-requires : tie.Need-constant_bits-bits-requires
+constant_bits-bits-requires c κs = (c.requires.0.loaded, c.root-root.ensures.1)
 
 flag-requires : tie.Need-flag-requires
 flag-requires c κs = (omega arith)
 
-returns : tie.Need-returns
-returns c = unknown _ _ _ _ (bits c.before.before) (sym c.before.flag.ensures ∙ not_true _ c.if1.true)
+returns-then-not-flag : tie.Need-returns-then-not-flag
+returns-then-not-flag c = unknown _ _ _ _ (bits c.before.before) (sym c.flag.ensures ∙ not_true _ c.if-not-flag.true)
 
 flag-requires-2 : tie.Need-flag-requires-2
 flag-requires-2 c κs = (omega arith)
 
-returns-2 : tie.Need-returns-2
-returns-2 c = common _ _ _ _ (bits c.before.before.before.before) (sym c.before.before.before.flag.ensures ∙ not-false _ c.before.before.if1.false) (sym c.before.flag2.ensures ∙ c.if2.true)
+returns-then-flag : tie.Need-returns-then-flag
+returns-then-flag c = common _ _ _ _ (bits c.before.before.before.before) (sym c.flag.ensures ∙ not-false _ c.if-not-flag.false) (sym c.flag-2.ensures ∙ c.if-flag.true)
 
 flag-requires-3 : tie.Need-flag-requires-3
 flag-requires-3 c κs = (omega arith)
 
-returns-3 : tie.Need-returns-3
-returns-3 c = entry_export _ _ _ _ (bits c.before.before.before.before.before.before) (sym c.before.before.before.before.before.flag.ensures ∙ not-false _ c.before.before.before.before.if1.false) (sym c.before.before.before.flag2.ensures ∙ c.before.before.if2.false) (sym c.before.flag3.ensures ∙ c.if3.true)
+returns-then-flag-2 : tie.Need-returns-then-flag-2
+returns-then-flag-2 c = entry_export _ _ _ _ (bits c.before.before.before.before.before.before) (sym c.flag.ensures ∙ not-false _ c.if-not-flag.false) (sym c.flag-2.ensures ∙ c.if-flag.false) (sym c.flag-3.ensures ∙ c.if-flag-2.true)
 
 option-requires : tie.Need-option-requires
-option-requires c κs = (c.before.before.before.before.before.before.before.before.before.before.requires.0.loaded.long, omega arith)
+option-requires c κs = (c.requires.0.loaded.long, omega arith)
 
-returns-4 : tie.Need-returns-4
-returns-4 c = not_smart _ _ _ _ (bits c.before.before.before.before.before.before.before.before) (sym c.before.before.before.before.before.before.before.flag.ensures ∙ not-false _ c.before.before.before.before.before.before.if1.false) (sym c.before.before.before.before.before.flag2.ensures ∙ c.before.before.before.before.if2.false) (sym c.before.before.before.flag3.ensures ∙ c.before.before.if3.false) (sym c.before.option.ensures ∙ not_true _ c.if4.true)
+returns-then-not-option : tie.Need-returns-then-not-option
+returns-then-not-option c = not_smart _ _ _ _ (bits c.before.before.before.before.before.before.before.before) (sym c.flag.ensures ∙ not-false _ c.if-not-flag.false) (sym c.flag-2.ensures ∙ c.if-flag.false) (sym c.flag-3.ensures ∙ c.if-flag-2.false) (sym c.option.ensures ∙ not_true _ c.if-not-option.true)
 
 flag-requires-4 : tie.Need-flag-requires-4
 flag-requires-4 c κs = (omega arith)
 
-returns-5 : tie.Need-returns-5
-returns-5 c = c.flag4.ensures ∙ smart _ _ _ _ (bits c.before.before.before.before.before.before.before.before.before) (sym c.before.before.before.before.before.before.before.before.flag.ensures ∙ not-false _ c.before.before.before.before.before.before.before.if1.false) (sym c.before.before.before.before.before.before.flag2.ensures ∙ c.before.before.before.before.before.if2.false) (sym c.before.before.before.before.flag3.ensures ∙ c.before.before.before.if3.false) (sym c.before.before.option.ensures ∙ not-false _ c.before.if4.false)
+returns : tie.Need-returns
+returns c = c.flag-4.ensures ∙ smart _ _ _ _ (bits c.before.before.before.before.before.before.before.before.before) (sym c.flag.ensures ∙ not-false _ c.if-not-flag.false) (sym c.flag-2.ensures ∙ c.if-flag.false) (sym c.flag-3.ensures ∙ c.if-flag-2.false) (sym c.option.ensures ∙ not-false _ c.if-not-option.false)
 
-pub is-bypassed-inlined-constant-spec : {M : Type 1} → statement M
-is-bypassed-inlined-constant-spec = tie.close (tie.spec root-requires constant-bits-requires flag-requires returns flag-requires-2 returns-2 flag-requires-3 returns-3 option-requires returns-4 flag-requires-4 returns-5)
+pub is_bypassed_inlined_constant_spec : {M : Type 1} → statement M
+is_bypassed_inlined_constant_spec =
+    tie.close
+    (tie.spec
+    root-root-requires
+    constant_bits-bits-requires
+    flag-requires
+    returns-then-not-flag
+    flag-requires-2
+    returns-then-flag
+    flag-requires-3
+    returns-then-flag-2
+    option-requires
+    returns-then-not-option
+    flag-requires-4
+    returns)

@@ -5,32 +5,43 @@ use native.Mathlib.Omega.{arith}
 use Rattle.include_symbol.proofs.needs_wrapper.Statement.{statement}
 use Rattle.include_symbol.proofs.needs_wrapper.Tie as tie
 
-owner-requires : tie.Need-owner-requires
-owner-requires c κs = (c.before.before.requires.0.loaded, c.before.before.requires.1)
+owner-o-requires : tie.Need-owner-o-requires
+owner-o-requires c κs = (c.requires.0.loaded, c.requires.1)
 
-is-normal-requires : tie.Need-is-normal-requires
-is-normal-requires c κs = (c.before.before.before.requires.0.loaded, c.owner.ensures.1)
+is_normal-requires : tie.Need-is_normal-requires
+is_normal-requires c κs = (c.requires.0.loaded, c.owner-o.ensures.1)
 
-returns : tie.Need-returns
-returns c = of_external _ _ _ c.before.before.owner.ensures.0 (sym c.before.is_normal.ensures ∙ not_true _ c.if1.true)
+returns-then-not-is_normal : tie.Need-returns-then-not-is_normal
+returns-then-not-is_normal c = of_external _ _ _ c.owner-o.ensures.0 (sym c.is_normal.ensures ∙ not_true _ c.if-not-is_normal.true)
 
 wrap-requires : tie.Need-wrap-requires
-wrap-requires c κs = (c.before.before.before.before.before.requires.0.loaded, c.before.before.owner.ensures.1)
+wrap-requires c κs = (c.requires.0.loaded, c.owner-o.ensures.1)
 
-returns-2 : tie.Need-returns-2
-returns-2 c = other-wrap _ _ _ c.before.before.before.before.owner.ensures.0 _ c.before.wrap.ensures (sym c.before.before.before.is_normal.ensures ∙ not-false _ c.before.before.if1.false) c.if2.true
+returns-then-wrap-ne2 : tie.Need-returns-then-wrap-ne2
+returns-then-wrap-ne2 c = other-wrap _ _ _ c.owner-o.ensures.0 _ c.wrap.ensures (sym c.is_normal.ensures ∙ not-false _ c.if-not-is_normal.false) c.if-wrap-ne2.true
 
-wrapper-requires : tie.Need-wrapper-requires
-wrapper-requires c κs = (c.before.before.before.before.before.before.before.requires.0.loaded, c.before.before.before.before.owner.ensures.1)
+wrapper-wrapper-requires : tie.Need-wrapper-wrapper-requires
+wrapper-wrapper-requires c κs = (c.requires.0.loaded, c.owner-o.ensures.1)
 
-returns-3 : tie.Need-returns-3
-returns-3 c = no-wrapper _ _ _ c.before.before.before.before.before.before.owner.ensures.0 _ c.before.before.before.wrap.ensures (sym c.before.before.before.before.before.is_normal.ensures ∙ not-false _ c.before.before.before.before.if1.false) _ c.before.wrapper.ensures.0 c.before.before.if2.false c.if3.true
+returns-then-wrapper-eq0 : tie.Need-returns-then-wrapper-eq0
+returns-then-wrapper-eq0 c = no-wrapper _ _ _ c.owner-o.ensures.0 _ c.wrap.ensures (sym c.is_normal.ensures ∙ not-false _ c.if-not-is_normal.false) _ c.wrapper-wrapper.ensures.0 c.if-wrap-ne2.false c.if-wrapper-eq0.true
 
-add-result : tie.Need-overflow-add-result
-add-result c = omega (arith, c.before.before.before.before.before.before.before.before.before.before.requires.1, c.before.before.before.before.before.before.before.before.before.before.requires.0.loaded.few_symbols)
+overflow_add-result : tie.Need-overflow_add-result
+overflow_add-result c = omega (arith, c.requires.1, c.requires.0.loaded.few_symbols)
 
-returns-4 : tie.Need-returns-4
-returns-4 c = the-wrapper _ _ _ c.before.before.before.before.before.before.before.owner.ensures.0 _ c.before.before.before.before.wrap.ensures (sym c.before.before.before.before.before.before.is_normal.ensures ∙ not-false _ c.before.before.before.before.before.if1.false) _ c.before.before.wrapper.ensures.0 c.before.before.before.if2.false c.before.if3.false
+returns : tie.Need-returns
+returns c = the-wrapper _ _ _ c.owner-o.ensures.0 _ c.wrap.ensures (sym c.is_normal.ensures ∙ not-false _ c.if-not-is_normal.false) _ c.wrapper-wrapper.ensures.0 c.if-wrap-ne2.false c.if-wrapper-eq0.false
 
-pub needs-wrapper-spec : {M : Type 1} → statement M
-needs-wrapper-spec = tie.close (tie.spec owner-requires is-normal-requires returns wrap-requires returns-2 wrapper-requires returns-3 add-result returns-4)
+pub needs_wrapper_spec : {M : Type 1} → statement M
+needs_wrapper_spec =
+    tie.close
+    (tie.spec
+    owner-o-requires
+    is_normal-requires
+    returns-then-not-is_normal
+    wrap-requires
+    returns-then-wrap-ne2
+    wrapper-wrapper-requires
+    returns-then-wrapper-eq0
+    overflow_add-result
+    returns)

@@ -4,43 +4,43 @@ use mathlib.Core.Path.{◌∙◌}
 use Rattle.include_symbol.proofs.use_candidates.Statement.{statement}
 use Rattle.include_symbol.proofs.use_candidates.Tie as tie
 
-demand-candidates-requires : tie.Need-demand-candidates-requires
-demand-candidates-requires c κs = (c.before.before.before.requires.0, c.before.before.before.requires.1.0)
+demand_candidates-requires : tie.Need-demand_candidates-requires
+demand_candidates-requires c κs = (c.requires.0, c.requires.1.0)
+
+returns-then-j-eq0 : tie.Need-returns-then-j-eq0
+returns-then-j-eq0 c = c.demand_candidates.ensures ∙ counted (segment_0 _ _ _ _ _ c.if-j-eq0.true)
+
+returns-then-j-eq1 : tie.Need-returns-then-j-eq1
+returns-then-j-eq1 c = counted (segment_1 _ _ _ _ _ c.if-j-eq1.true)
+
+wrapper_candidates-requires : tie.Need-wrapper_candidates-requires
+wrapper_candidates-requires c κs = (c.requires.0, c.requires.1.0)
+
+returns-then-j-eq2 : tie.Need-returns-then-j-eq2
+returns-then-j-eq2 c = c.wrapper_candidates.ensures ∙ counted (segment_2 _ _ _ _ _ c.if-j-eq2.true)
+
+declaration_candidates-requires : tie.Need-declaration_candidates-requires
+declaration_candidates-requires c κs = (c.requires.0, c.requires.1.0)
+
+returns-then-j-eq3 : tie.Need-returns-then-j-eq3
+returns-then-j-eq3 c = c.declaration_candidates.ensures ∙ counted (segment_3 _ _ _ _ _ c.if-j-eq3.true)
+
+write_candidates-requires : tie.Need-write_candidates-requires
+write_candidates-requires c κs = (c.requires.0, c.requires.1.0)
 
 returns : tie.Need-returns
-returns c = c.demand-candidates.ensures ∙ counted (segment_0 _ _ _ _ _ c.before.if1.true)
+returns c = c.write_candidates.ensures ∙ counted (segment_4 _ _ _ _ _ c.requires.1.1 c.if-j-eq0.false c.if-j-eq1.false c.if-j-eq2.false c.if-j-eq3.false)
 
-returns-2 : tie.Need-returns-2
-returns-2 c = counted (segment_1 _ _ _ _ _ c.if2.true)
-
-wrapper-candidates-requires : tie.Need-wrapper-candidates-requires
-wrapper-candidates-requires c κs = (c.before.before.before.before.before.requires.0, c.before.before.before.before.before.requires.1.0)
-
-returns-3 : tie.Need-returns-3
-returns-3 c = c.wrapper-candidates.ensures ∙ counted (segment_2 _ _ _ _ _ c.before.if3.true)
-
-declaration-candidates-requires : tie.Need-declaration-candidates-requires
-declaration-candidates-requires c κs = (c.before.before.before.before.before.before.requires.0, c.before.before.before.before.before.before.requires.1.0)
-
-returns-4 : tie.Need-returns-4
-returns-4 c = c.declaration-candidates.ensures ∙ counted (segment_3 _ _ _ _ _ c.before.if4.true)
-
-write-candidates-requires : tie.Need-write-candidates-requires
-write-candidates-requires c κs = (c.before.before.before.before.before.before.requires.0, c.before.before.before.before.before.before.requires.1.0)
-
-returns-5 : tie.Need-returns-5
-returns-5 c = c.write-candidates.ensures ∙ counted (segment_4 _ _ _ _ _ c.before.before.before.before.before.before.before.requires.1.1 c.before.before.before.before.if1.false c.before.before.before.if2.false c.before.before.if3.false c.before.if4.false)
-
-pub use-candidates-spec : {M : Type 1} → statement M
-use-candidates-spec =
+pub use_candidates_spec : {M : Type 1} → statement M
+use_candidates_spec =
     tie.close
     (tie.spec
-    demand-candidates-requires
-    returns
-    returns-2
-    wrapper-candidates-requires
-    returns-3
-    declaration-candidates-requires
-    returns-4
-    write-candidates-requires
-    returns-5)
+    demand_candidates-requires
+    returns-then-j-eq0
+    returns-then-j-eq1
+    wrapper_candidates-requires
+    returns-then-j-eq2
+    declaration_candidates-requires
+    returns-then-j-eq3
+    write_candidates-requires
+    returns)

@@ -5,23 +5,31 @@ use native.Mathlib.Omega.{arith}
 use Rattle.include_symbol.proofs.wrapper_candidates.Statement.{statement}
 use Rattle.include_symbol.proofs.wrapper_candidates.Tie as tie
 
-target-of-requires : tie.Need-target-of-requires
-target-of-requires c κs = (c.before.before.requires.0.loaded, c.before.before.requires.1)
+target_of-t-requires : tie.Need-target_of-t-requires
+target_of-t-requires c κs = (c.requires.0.loaded, c.requires.1)
 
-needs-wrapper-requires : tie.Need-needs-wrapper-requires
-needs-wrapper-requires c κs = (c.before.before.before.requires.0, c.target-of.ensures.1)
+needs_wrapper-requires : tie.Need-needs_wrapper-requires
+needs_wrapper-requires c κs = (c.requires.0, c.target_of-t.ensures.1)
 
-forward-count-requires : tie.Need-forward-count-requires
-forward-count-requires c κs = (c.before.before.before.before.before.requires.0, c.before.before.before.before.before.requires.1)
+forward_count-requires : tie.Need-forward_count-requires
+forward_count-requires c κs = (c.requires.0, c.requires.1)
 
-add-result : tie.Need-overflow-add-result
-add-result c = omega (arith, c.forward-count.ensures.1)
+overflow_add-result : tie.Need-overflow_add-result
+overflow_add-result c = omega (arith, c.forward_count.ensures.1)
+
+returns-then-needs_wrapper : tie.Need-returns-then-needs_wrapper
+returns-then-needs_wrapper c = wrapper_some _ _ _ (sym c.needs_wrapper.ensures ∙ c.if-needs_wrapper.true) c.forward_count.ensures.0 ∙ ap (wrapper_candidates _ _) c.target_of-t.ensures.0
 
 returns : tie.Need-returns
-returns c = wrapper_some _ _ _ (sym c.before.before.needs-wrapper.ensures ∙ c.before.if1.true) c.forward-count.ensures.0 ∙ ap (wrapper_candidates _ _) c.before.before.before.target-of.ensures.0
+returns c = wrapper_none _ c.args.s.0 _ (sym c.needs_wrapper.ensures ∙ c.if-needs_wrapper.false) ∙ ap (wrapper_candidates _ _) c.target_of-t.ensures.0
 
-returns-2 : tie.Need-returns-2
-returns-2 c = wrapper_none _ c.before.before.before.before.before.args.s.0 _ (sym c.before.needs-wrapper.ensures ∙ c.if1.false) ∙ ap (wrapper_candidates _ _) c.before.before.target-of.ensures.0
-
-pub wrapper-candidates-spec : {M : Type 1} → statement M
-wrapper-candidates-spec = tie.close (tie.spec target-of-requires needs-wrapper-requires forward-count-requires add-result returns returns-2)
+pub wrapper_candidates_spec : {M : Type 1} → statement M
+wrapper_candidates_spec =
+    tie.close
+    (tie.spec
+    target_of-t-requires
+    needs_wrapper-requires
+    forward_count-requires
+    overflow_add-result
+    returns-then-needs_wrapper
+    returns)

@@ -6,25 +6,34 @@ use Rattle.include_symbol.proofs.write_candidates.Statement.{statement}
 use Rattle.include_symbol.proofs.write_candidates.Tie as tie
 
 option-requires : tie.Need-option-requires
-option-requires c κs = (c.before.before.requires.0.loaded.long, omega arith)
+option-requires c κs = (c.requires.0.loaded.long, omega arith)
+
+returns-then-not-option : tie.Need-returns-then-not-option
+returns-then-not-option c = no_writes _ _ (sym c.option.ensures ∙ not_true _ c.if-not-option.true)
+
+owner-o-requires : tie.Need-owner-o-requires
+owner-o-requires c κs = (c.requires.0.loaded, c.requires.1)
+
+is_normal-requires : tie.Need-is_normal-requires
+is_normal-requires c κs = (c.requires.0.loaded, c.owner-o.ensures.1)
+
+written_count-requires : tie.Need-written_count-requires
+written_count-requires c κs = (c.requires.0.loaded, c.requires.1)
+
+returns-then-is_normal : tie.Need-returns-then-is_normal
+returns-then-is_normal c = writes-all _ _ _ c.owner-o.ensures.0 (sym c.option.ensures ∙ not-false _ c.if-not-option.false) (sym c.is_normal.ensures ∙ c.if-is_normal.true) c.written_count.ensures.0
 
 returns : tie.Need-returns
-returns c = no_writes _ _ (sym c.before.option.ensures ∙ not_true _ c.if1.true)
+returns c = writes-none _ _ _ c.owner-o.ensures.0 (sym c.option.ensures ∙ not-false _ c.if-not-option.false) (sym c.is_normal.ensures ∙ c.if-is_normal.false)
 
-owner-requires : tie.Need-owner-requires
-owner-requires c κs = (c.before.before.before.before.requires.0.loaded, c.before.before.before.before.requires.1)
-
-is-normal-requires : tie.Need-is-normal-requires
-is-normal-requires c κs = (c.before.before.before.before.before.requires.0.loaded, c.owner.ensures.1)
-
-written-count-requires : tie.Need-written-count-requires
-written-count-requires c κs = (c.before.before.before.before.before.before.before.requires.0.loaded, c.before.before.before.before.before.before.before.requires.1)
-
-returns-2 : tie.Need-returns-2
-returns-2 c = writes-all _ _ _ c.before.before.before.owner.ensures.0 (sym c.before.before.before.before.before.option.ensures ∙ not-false _ c.before.before.before.before.if1.false) (sym c.before.before.is_normal.ensures ∙ c.before.if2.true) c.written_count.ensures.0
-
-returns-3 : tie.Need-returns-3
-returns-3 c = writes-none _ _ _ c.before.before.owner.ensures.0 (sym c.before.before.before.before.option.ensures ∙ not-false _ c.before.before.before.if1.false) (sym c.before.is_normal.ensures ∙ c.if2.false)
-
-pub write-candidates-spec : {M : Type 1} → statement M
-write-candidates-spec = tie.close (tie.spec option-requires returns owner-requires is-normal-requires written-count-requires returns-2 returns-3)
+pub write_candidates_spec : {M : Type 1} → statement M
+write_candidates_spec =
+    tie.close
+    (tie.spec
+    option-requires
+    returns-then-not-option
+    owner-o-requires
+    is_normal-requires
+    written_count-requires
+    returns-then-is_normal
+    returns)

@@ -58,8 +58,8 @@ judge-largest-requires t c κs = let h = c.before.before.before.before.before.be
 returns-4 : (t : ℕ) → lts.Need-returns-4 (claims t) (here t) larger.Post
 returns-4 t c = c.judge-largest.ensures
 
-pub +judge-larger-spec : {M : Type 1} → statement M
-+judge-larger-spec =
+pub +judge_larger_spec : {M : Type 1} → statement M
++judge_larger_spec =
     close μ λ t. lts.spec (claims t) (here t) larger.Post
     (sub-judge-larger t)
     (judge-larger-requires t)

@@ -7,54 +7,54 @@ use Rattle.judge.proofs.judge.Statement.{statement}
 use Rattle.judge.proofs.judge.Tie as tie
 
 -- the header that was read
-begun : (c : tie.After-header-of) → HeaderRead c.before.before.before.before.before.before.before.args.numbers.now c.header_of.result
-begun c = record { end = c.before.enum_told.given.0.0; read = sym c.before.before.before.header.ensures ∙ c.before.enum_told.given.1; is = c.header_of.ensures }
+begun : (c : tie.After-header_of-h) → HeaderRead c.args.numbers.now c.header_of-h.result
+begun c = record { end = c.in-At.field-0; read = sym c.header.ensures ∙ c.in-At.is; is = c.header_of-h.ensures }
 
 header-requires : tie.Need-header-requires
 header-requires c κs = _
 
-enum-known-n : tie.Need-enum-known-n
-enum-known-n c = c.match.keys1
+enum_known-n : tie.Need-enum_known-n
+enum_known-n c = c.in-Fault.keys1
 
-enum_told : tie.Need-enum-told
-enum_told c = c.match.keys2
+enum_told-1 : tie.Need-enum_told-1
+enum_told-1 c = c.in-At.keys2
 
-header-of-requires : tie.Need-header-of-requires
-header-of-requires c κs = seven _ (at_got _ _ (sym c.before.before.header.ensures ∙ c.enum_told.given.1)).1
+header_of-h-requires : tie.Need-header_of-h-requires
+header_of-h-requires c κs = seven _ (at_got _ _ (sym c.header.ensures ∙ c.in-At.is)).1
 
 fits-requires : tie.Need-fits-requires
 fits-requires c κs = _
 
-judge-small-requires : tie.Need-judge-small-requires
-judge-small-requires c κs = (begun c.before.before, c.before.fits2.ensures c.if1.true)
+judge_small-requires : tie.Need-judge_small-requires
+judge_small-requires c κs = (begun c.before.before, c.fits.ensures c.if-fits.true)
 
-returns : tie.Need-returns
-returns c = c.judge-small.ensures
+returns-then-fits : tie.Need-returns-then-fits
+returns-then-fits c = c.judge_small.ensures
 
 apart-requires : tie.Need-apart-requires
 apart-requires c κs = _
 
-judge-larger-requires : tie.Need-judge-larger-requires
-judge-larger-requires c κs = begun c.before.before.before
+judge_larger-requires : tie.Need-judge_larger-requires
+judge_larger-requires c κs = begun c.before.before.before
 
-returns-2 : tie.Need-returns-2
-returns-2 c = sym (judge_rejected _ _ _ (check_stop_header _ (sym c.before.before.before.header.ensures ∙ c.before.n.given.1)))
+returns-in-Fault : tie.Need-returns-in-Fault
+returns-in-Fault c = sym (judge_rejected _ _ _ (check_stop_header _ (sym c.header.ensures ∙ c.in-Fault.is)))
 
-returns-3 : tie.Need-returns-3
-returns-3 c = c.judge-larger.ensures
+returns-else-fits : tie.Need-returns-else-fits
+returns-else-fits c = c.judge_larger.ensures
 
-pub judge-spec : {M : Type 1} → statement M
-judge-spec =
+pub judge_spec : {M : Type 1} → statement M
+judge_spec =
     tie.close
     (tie.spec
     header-requires
-    enum-known-n
-    enum_told
-    header-of-requires
+    enum_known-n
+    enum_told-1
+    header_of-h-requires
     fits-requires
-    judge-small-requires
-    returns
+    judge_small-requires
+    returns-then-fits
     apart-requires
-    judge-larger-requires
-    returns-2
-    returns-3)
+    judge_larger-requires
+    returns-in-Fault
+    returns-else-fits)

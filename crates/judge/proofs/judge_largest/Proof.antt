@@ -8,27 +8,27 @@ use Prim.Native.Nat.{ℕ}
 use Rattle.judge.proofs.judge_largest.Statement.{statement}
 use Rattle.judge.proofs.judge_largest.Tie as tie
 
-slice-aggregate-judge-in : tie.Need-slice-aggregate-judge-in
-slice-aggregate-judge-in c = length-replicate {A = ℕ} 71691 0
+slice_bounds-judge_in-end : tie.Need-slice_bounds-judge_in-end
+slice_bounds-judge_in-end c = length-replicate {A = ℕ} 71691 0
 
-slice-aggregate-judge-in-2 : tie.Need-slice-aggregate-judge-in-2
-slice-aggregate-judge-in-2 c = length-replicate {A = ℕ} 131328 0
+slice_bounds-judge_in-end-2 : tie.Need-slice_bounds-judge_in-end-2
+slice_bounds-judge_in-end-2 c = length-replicate {A = ℕ} 131328 0
 
-slice-aggregate-judge-in-3 : tie.Need-slice-aggregate-judge-in-3
-slice-aggregate-judge-in-3 c = length-replicate {A = ℕ} 131328 0
+slice_bounds-judge_in-end-3 : tie.Need-slice_bounds-judge_in-end-3
+slice_bounds-judge_in-end-3 c = length-replicate {A = ℕ} 131328 0
 
-judge-in-requires : tie.Need-judge-in-requires
-judge-in-requires c κs = let s = c.before.before.before.before.before.before in (s.requires.0, (tables_long s.args.h Largest 71691 refl (omega arith) s.requires.1, marks_clear s.args.h 1024 16384 16384 131328 (omega arith) s.requires.1.0 s.requires.1.1 s.requires.1.2))
+judge_in-requires : tie.Need-judge_in-requires
+judge_in-requires c κs = (c.requires.0, (tables_long c.args.h Largest 71691 refl (omega arith) c.requires.1, marks_clear c.args.h 1024 16384 16384 131328 (omega arith) c.requires.1.0 c.requires.1.1 c.requires.1.2))
 
 returns : tie.Need-returns
-returns c = c.before.before.before.judge-in.ensures
+returns c = c.judge_in.ensures
 
-pub judge-largest-spec : {M : Type 1} → statement M
-judge-largest-spec =
+pub judge_largest_spec : {M : Type 1} → statement M
+judge_largest_spec =
     tie.close
     (tie.spec
-    slice-aggregate-judge-in
-    slice-aggregate-judge-in-2
-    slice-aggregate-judge-in-3
-    judge-in-requires
+    slice_bounds-judge_in-end
+    slice_bounds-judge_in-end-2
+    slice_bounds-judge_in-end-3
+    judge_in-requires
     returns)

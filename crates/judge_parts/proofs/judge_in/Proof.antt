@@ -3,47 +3,47 @@ use mathlib.Core.Path.{◌∙◌, sym}
 use Rattle.judge_parts.proofs.judge_in.Statement.{statement}
 use Rattle.judge_parts.proofs.judge_in.Tie as tie
 
-may-judge-requires : tie.Need-may-judge-requires
-may-judge-requires c κs = let s = c.before.before.before.before.before.before.before in (s.requires.0, s.requires.1.0)
+may_judge-requires : tie.Need-may_judge-requires
+may_judge-requires c κs = (c.requires.0, c.requires.1.0)
 
-enum-known-n : tie.Need-enum-known-n
-enum-known-n c = c.match.keys1
+enum_known-n : tie.Need-enum_known-n
+enum_known-n c = c.in-Refused.keys1
 
-enum_told : tie.Need-enum-told
-enum_told c = c.match.keys2
+enum_told-1 : tie.Need-enum_told-1
+enum_told-1 c = c.in-Accepted.keys2
 
-judge-all-requires : tie.Need-judge-all-requires
-judge-all-requires c κs = let s = c.before.before.before.before.before.before.before.before.before.before.before.before.before.before.before in (c.before.before.before.before.before.before.before.may-judge.ensures.good c.before.before.before.enum_told.given.1, (no_marks _ _ s.requires.0.is _ s.requires.1.1.0 s.requires.1.1.2, no_marks _ _ s.requires.0.is _ s.requires.1.1.1 s.requires.1.1.3))
+judge_all-requires : tie.Need-judge_all-requires
+judge_all-requires c κs = (c.may_judge.ensures.good c.in-Accepted.is, (no_marks _ _ c.requires.0.is _ c.requires.1.1.0 c.requires.1.1.2, no_marks _ _ c.requires.0.is _ c.requires.1.1.1 c.requires.1.1.3))
 
-same_length : tie.Need-same-length
-same_length c = c.before.before.before.before.before.may-judge.auto.1.1.1.1.0
+shape_of-tables-in-Refused : tie.Need-shape_of-tables-in-Refused
+shape_of-tables-in-Refused c = c.may_judge.auto.1.1.1.1.0
 
-returns : tie.Need-returns
-returns c = sym (c.before.before.before.before.before.may-judge.ensures.refused _ _ c.before.n.given.1)
+returns-in-Refused : tie.Need-returns-in-Refused
+returns-in-Refused c = sym (c.may_judge.ensures.refused _ _ c.in-Refused.is)
 
-same-length-2 : tie.Need-same-length-2
-same-length-2 c = c.before.before.before.before.before.before.before.before.before.before.before.before.may-judge.auto.1.1.1.1.0
+shape_of-tables-in-Accepted : tie.Need-shape_of-tables-in-Accepted
+shape_of-tables-in-Accepted c = c.may_judge.auto.1.1.1.1.0
 
-same-length-3 : tie.Need-same-length-3
-same-length-3 c = c.before.before.before.before.judge-all.auto.1.1.1.1.0
+shape_of-begun : tie.Need-shape_of-begun
+shape_of-begun c = c.judge_all.auto.1.1.1.1.0
 
-same-length-4 : tie.Need-same-length-4
-same-length-4 c = c.before.before.before.before.judge-all.auto.1.1.1.1.1.0
+shape_of-marks : tie.Need-shape_of-marks
+shape_of-marks c = c.judge_all.auto.1.1.1.1.1.0
 
-returns-2 : tie.Need-returns-2
-returns-2 c = c.before.before.before.before.judge-all.ensures ∙ sym (c.before.before.before.before.before.before.before.before.before.before.before.before.may-judge.ensures.goes c.before.before.before.before.before.before.before.before.enum_told.given.1)
+returns-in-Accepted : tie.Need-returns-in-Accepted
+returns-in-Accepted c = c.judge_all.ensures ∙ sym (c.may_judge.ensures.goes c.in-Accepted.is)
 
-pub judge-in-spec : {M : Type 1} → statement M
-judge-in-spec =
+pub judge_in_spec : {M : Type 1} → statement M
+judge_in_spec =
     tie.close
     (tie.spec
-    may-judge-requires
-    enum-known-n
-    enum_told
-    judge-all-requires
-    same_length
-    returns
-    same-length-2
-    same-length-3
-    same-length-4
-    returns-2)
+    may_judge-requires
+    enum_known-n
+    enum_told-1
+    judge_all-requires
+    shape_of-tables-in-Refused
+    returns-in-Refused
+    shape_of-tables-in-Accepted
+    shape_of-begun
+    shape_of-marks
+    returns-in-Accepted)

@@ -10,47 +10,47 @@ use native.Mathlib.Omega.{arith}
 use Rattle.judge_parts.proofs.mark_starts.Statement.{statement}
 use Rattle.judge_parts.proofs.mark_starts.Tie as tie
 
-abbrev invariant-loop : tie.invariant-loop
-invariant-loop numbers tables starts begun₀ count i₀ begun i = (length begun ≡ length begun₀) × (i ≤ count) × Marks (graph_in numbers) (take i (starts_of starts)) begun
+abbrev invariant-loop-i : tie.invariant-loop-i
+invariant-loop-i numbers tables starts begun₀ count i₀ begun i = (length begun ≡ length begun₀) × (i ≤ count) × Marks (graph_in numbers) (take i (starts_of starts)) begun
 
-abbrev decreases-loop : tie.decreases-loop
-decreases-loop numbers tables starts begun₀ count i₀ begun i = count - i
+abbrev decreases-loop-i : tie.decreases-loop-i
+decreases-loop-i numbers tables starts begun₀ count i₀ begun i = count - i
 
-loop-holds : tie.Need-loop-init invariant-loop decreases-loop
-loop-holds c = (refl, omega arith, c.before.before.before.before.requires.1.1)
+loop-i-init : tie.Need-loop-i-init invariant-loop-i decreases-loop-i
+loop-i-init c = (refl, omega arith, c.requires.1.1)
 
-start-at-requires : tie.Need-start-at-requires invariant-loop decreases-loop
-start-at-requires c κs = omega (arith, c.loop-test.true)
+start_at-fact-requires : tie.Need-start_at-fact-requires invariant-loop-i decreases-loop-i
+start_at-fact-requires c κs = omega (arith, c.loop-i-test.true)
 
-mark-requires : tie.Need-mark-requires invariant-loop decreases-loop
-mark-requires c κs = let s = c.before.before.before.before.before.before.before.before in (s.requires.0.loaded, (start_good _ _ c.before.before.loop-test.true _ c.before.start-at.ensures _ s.requires.1.0, c.before.before.before.loop.invariant.2.wide))
+mark-requires : tie.Need-mark-requires invariant-loop-i decreases-loop-i
+mark-requires c κs = (c.requires.0.loaded, (start_good _ _ c.loop-i-test.true _ c.start_at-fact.ensures _ c.requires.1.0, c.loop-i.invariant.2.wide))
 
-add-i : tie.Need-overflow-add-i invariant-loop decreases-loop
-add-i c = record { fits = omega (arith, c.before.before.before.before.before.loop-test.true) }
+overflow_add-i : tie.Need-overflow_add-i invariant-loop-i decreases-loop-i
+overflow_add-i c = record { fits = omega (arith, c.loop-i-test.true) }
 
-loop-less : tie.Need-loop-smaller invariant-loop decreases-loop
-loop-less c = omega (arith, c.before.before.before.before.before.loop-test.true)
+loop-i-smaller : tie.Need-loop-i-smaller invariant-loop-i decreases-loop-i
+loop-i-smaller c = omega (arith, c.loop-i-test.true)
 
-loop-again : tie.Need-loop-preserved invariant-loop decreases-loop
-loop-again c = (c.before.before.mark.auto.1.1.0 ∙ c.before.before.before.before.before.before.loop.invariant.0, omega (arith, c.before.before.before.before.before.loop-test.true), mark_turn _ _ _ _ c.before.before.before.before.before.before.loop.invariant.2 c.before.before.before.before.before.loop-test.true _ c.before.before.before.before.start-at.ensures _ c.before.before.mark.ensures)
+loop-i-preserved : tie.Need-loop-i-preserved invariant-loop-i decreases-loop-i
+loop-i-preserved c = (c.mark.auto.1.1.0 ∙ c.loop-i.invariant.0, omega (arith, c.loop-i-test.true), mark_turn _ _ _ _ c.loop-i.invariant.2 c.loop-i-test.true _ c.start_at-fact.ensures _ c.mark.ensures)
 
-same_length : tie.Need-same-length invariant-loop decreases-loop
-same_length c = c.before.loop.invariant.0
+shape_of-begun : tie.Need-shape_of-begun invariant-loop-i decreases-loop-i
+shape_of-begun c = c.loop-i.invariant.0
 
-returns : tie.Need-returns invariant-loop decreases-loop
-returns c = mark_end _ _ _ _ c.before.loop.invariant.2 c.loop-test.false
+returns : tie.Need-returns invariant-loop-i decreases-loop-i
+returns c = mark_end _ _ _ _ c.loop-i.invariant.2 c.loop-i-test.false
 
-pub mark-starts-spec : {M : Type 1} → statement M
-mark-starts-spec =
+pub mark_starts_spec : {M : Type 1} → statement M
+mark_starts_spec =
     tie.close
     (tie.spec
-    invariant-loop
-    decreases-loop
-    loop-holds
-    start-at-requires
+    invariant-loop-i
+    decreases-loop-i
+    loop-i-init
+    start_at-fact-requires
     mark-requires
-    add-i
-    loop-less
-    loop-again
-    same_length
+    overflow_add-i
+    loop-i-smaller
+    loop-i-preserved
+    shape_of-begun
     returns)

@@ -4,62 +4,62 @@ use Rattle.judge_parts.proofs.may_judge.Statement.{statement}
 use Rattle.judge_parts.proofs.may_judge.Tie as tie
 
 ready-requires : tie.Need-ready-requires
-ready-requires c κs = c.before.before.before.before.before.requires
+ready-requires c κs = c.requires
 
-enum-known-n : tie.Need-enum-known-n
-enum-known-n c = c.match.keys1
+enum_known-n : tie.Need-enum_known-n
+enum_known-n c = c.in-Refused.keys1
 
-enum_told : tie.Need-enum-told
-enum_told c = c.match.keys2
+enum_told-1 : tie.Need-enum_told-1
+enum_told-1 c = c.in-Accepted.keys2
 
 check-requires : tie.Need-check-requires
-check-requires c κs = (c.before.before.before.before.before.ready.ensures.1.known c.before.enum_told.given.1).0.loaded
+check-requires c κs = (c.ready.ensures.1.known c.in-Accepted.is).0.loaded
 
-enum-known-n-2 : tie.Need-enum-known-n-2
-enum-known-n-2 c = c.match2.keys1
+enum_known-n-in-Fault-1 : tie.Need-enum_known-n-in-Fault-1
+enum_known-n-in-Fault-1 c = c.in-Fault.keys1
 
-enum-told-2 : tie.Need-enum-told-2
-enum-told-2 c = c.match2.keys2
+enum_told-in-At : tie.Need-enum_told-in-At
+enum_told-in-At c = c.in-At.keys2
 
-same_length : tie.Need-same-length
-same_length c = c.before.before.before.before.before.before.before.before.before.ready.auto.1.1.0
+shape_of-tables-then-lines-ne0 : tie.Need-shape_of-tables-then-lines-ne0
+shape_of-tables-then-lines-ne0 c = c.ready.auto.1.1.0
 
-returns : tie.Need-returns
-returns c = by_length _ _ _ _ (sym c.before.before.before.before.before.before.before.before.before.ready.ensures.0 ∙ c.before.before.before.before.before.enum_told.given.1) (sym c.before.before.before.check.ensures.0 ∙ c.before.enum-told2.given.1) c.if1.true
+returns-then-lines-ne0 : tie.Need-returns-then-lines-ne0
+returns-then-lines-ne0 c = by_length _ _ _ _ (sym c.ready.ensures.0 ∙ c.in-Accepted.is) (sym c.check.ensures.0 ∙ c.in-At.is) c.if-lines-ne0.true
 
-same-length-2 : tie.Need-same-length-2
-same-length-2 c = c.before.before.before.before.before.ready.auto.1.1.0
+shape_of-tables-in-Refused : tie.Need-shape_of-tables-in-Refused
+shape_of-tables-in-Refused c = c.ready.auto.1.1.0
 
-returns-2 : tie.Need-returns-2
-returns-2 c = by_check _ _ _ _ (sym c.before.before.before.before.before.ready.ensures.0 ∙ c.before.n.given.1)
+returns-in-Refused : tie.Need-returns-in-Refused
+returns-in-Refused c = by_check _ _ _ _ (sym c.ready.ensures.0 ∙ c.in-Refused.is)
 
-same-length-3 : tie.Need-same-length-3
-same-length-3 c = c.before.before.before.before.before.before.before.before.before.ready.auto.1.1.0
+shape_of-tables-in-Fault : tie.Need-shape_of-tables-in-Fault
+shape_of-tables-in-Fault c = c.ready.auto.1.1.0
 
-returns-3 : tie.Need-returns-3
-returns-3 c = by-starts _ _ _ _ (sym c.before.before.before.before.before.before.before.before.before.ready.ensures.0 ∙ c.before.before.before.before.before.enum_told.given.1) (sym c.before.before.before.check.ensures.0 ∙ c.before.n2.given.1)
+returns-in-Fault : tie.Need-returns-in-Fault
+returns-in-Fault c = by-starts _ _ _ _ (sym c.ready.ensures.0 ∙ c.in-Accepted.is) (sym c.check.ensures.0 ∙ c.in-Fault.is)
 
-same-length-4 : tie.Need-same-length-4
-same-length-4 c = c.before.before.before.before.before.before.before.before.before.ready.auto.1.1.0
+shape_of-tables-else-lines-ne0 : tie.Need-shape_of-tables-else-lines-ne0
+shape_of-tables-else-lines-ne0 c = c.ready.auto.1.1.0
 
-returns-4 : tie.Need-returns-4
-returns-4 c = judges _ _ _ _ (sym c.before.before.before.before.before.before.before.before.before.ready.ensures.0 ∙ c.before.before.before.before.before.enum_told.given.1) (sym c.before.before.before.check.ensures.0 ∙ c.before.enum-told2.given.1) c.if1.false (c.before.before.before.before.before.before.before.before.before.ready.ensures.1.known c.before.before.before.before.before.enum_told.given.1).0 (c.before.before.before.check.ensures.1.known _ c.before.enum-told2.given.1)
+returns-else-lines-ne0 : tie.Need-returns-else-lines-ne0
+returns-else-lines-ne0 c = judges _ _ _ _ (sym c.ready.ensures.0 ∙ c.in-Accepted.is) (sym c.check.ensures.0 ∙ c.in-At.is) c.if-lines-ne0.false (c.ready.ensures.1.known c.in-Accepted.is).0 (c.check.ensures.1.known _ c.in-At.is)
 
-pub may-judge-spec : {M : Type 1} → statement M
-may-judge-spec =
+pub may_judge_spec : {M : Type 1} → statement M
+may_judge_spec =
     tie.close
     (tie.spec
     ready-requires
-    enum-known-n
-    enum_told
+    enum_known-n
+    enum_told-1
     check-requires
-    enum-known-n-2
-    enum-told-2
-    same_length
-    returns
-    same-length-2
-    returns-2
-    same-length-3
-    returns-3
-    same-length-4
-    returns-4)
+    enum_known-n-in-Fault-1
+    enum_told-in-At
+    shape_of-tables-then-lines-ne0
+    returns-then-lines-ne0
+    shape_of-tables-in-Refused
+    returns-in-Refused
+    shape_of-tables-in-Fault
+    returns-in-Fault
+    shape_of-tables-else-lines-ne0
+    returns-else-lines-ne0)

@@ -3,31 +3,31 @@ use borrow.Author.Rules.{rules}
 use Rattle.justification.proofs.find_declaring.Statement.{statement}
 use Rattle.justification.proofs.find_declaring.Tie as tie
 
-seek-declaring-requires : tie.Need-seek-declaring-requires
-seek-declaring-requires c κs = search rules
+seek_declaring-requires : tie.Need-seek_declaring-requires
+seek_declaring-requires c κs = search rules
 
-enum-known-i : tie.Need-enum-known-i
-enum-known-i c = search rules
+enum_known-i : tie.Need-enum_known-i
+enum_known-i c = search rules
 
-enum_told : tie.Need-enum-told
-enum_told c = search rules
+enum_told-1 : tie.Need-enum_told-1
+enum_told-1 c = search rules
 
-seek-declaring-requires-2 : tie.Need-seek-declaring-requires-2
-seek-declaring-requires-2 c κs = search rules
+seek_declaring-requires-in-Nowhere : tie.Need-seek_declaring-requires-in-Nowhere
+seek_declaring-requires-in-Nowhere c κs = search rules
 
-returns : tie.Need-returns
-returns c = declared_found _ _ _ _ _ _ c.before.before.before.seek-declaring.ensures c.before.i.given.1
+returns-in-At : tie.Need-returns-in-At
+returns-in-At c = declared_found _ _ _ _ _ _ c.seek_declaring.ensures c.in-At.is
 
-returns-2 : tie.Need-returns-2
-returns-2 c = declared_all _ _ _ _ c.seek-declaring2.ensures
+returns-in-Nowhere : tie.Need-returns-in-Nowhere
+returns-in-Nowhere c = declared_all _ _ _ _ c.seek_declaring-in-Nowhere.ensures
 
-pub find-declaring-spec : {M : Type 1} → statement M
-find-declaring-spec =
+pub find_declaring_spec : {M : Type 1} → statement M
+find_declaring_spec =
     tie.close
     (tie.spec
-    seek-declaring-requires
-    enum-known-i
-    enum_told
-    seek-declaring-requires-2
-    returns
-    returns-2)
+    seek_declaring-requires
+    enum_known-i
+    enum_told-1
+    seek_declaring-requires-in-Nowhere
+    returns-in-At
+    returns-in-Nowhere)

@@ -4,79 +4,79 @@ use borrow.Author.Rules.{rules}
 use Rattle.justification.proofs.joined_by.Statement.{statement}
 use Rattle.justification.proofs.joined_by.Tie as tie
 
-kind-of-requires : tie.Need-kind-of-requires
-kind-of-requires c κs = search rules
+kind_of-requires : tie.Need-kind_of-requires
+kind_of-requires c κs = search rules
 
-returns : tie.Need-returns
-returns c = joined_not_module _ _ _ _ _ c.before.kind-of.ensures c.if1.true
+returns-then-kind_of-ne1 : tie.Need-returns-then-kind_of-ne1
+returns-then-kind_of-ne1 c = joined_not_module _ _ _ _ _ c.kind_of.ensures c.if-kind_of-ne1.true
 
-enum_told : tie.Need-enum-told
-enum_told c = search rules
+enum_told-1 : tie.Need-enum_told-1
+enum_told-1 c = search rules
 
-enum-told-2 : tie.Need-enum-told-2
-enum-told-2 c = search rules
+enum_told-in-Statement : tie.Need-enum_told-in-Statement
+enum_told-in-Statement c = search rules
 
-enum-told-3 : tie.Need-enum-told-3
-enum-told-3 c = search rules
+enum_told-in-Use : tie.Need-enum_told-in-Use
+enum_told-in-Use c = search rules
 
-enum-told-4 : tie.Need-enum-told-4
-enum-told-4 c = search rules
+enum_told-in-CheckedUse : tie.Need-enum_told-in-CheckedUse
+enum_told-in-CheckedUse c = search rules
 
-enum-known-b : tie.Need-enum-known-b
-enum-known-b c = search rules
+enum_known-b : tie.Need-enum_known-b
+enum_known-b c = search rules
 
-owner-requires : tie.Need-owner-requires
-owner-requires c κs = let s = c.before.before.before.before.before.before.before in (s.requires.0.loaded, good_forward _ _ _ s.requires.1 c.before.b.given.1)
+owner-owner-requires : tie.Need-owner-owner-requires
+owner-owner-requires c κs = (c.requires.0.loaded, good_forward _ _ _ c.requires.1 c.in-Forward.is)
 
-first-part-requires : tie.Need-first-part-requires
-first-part-requires c κs = search rules
+first_part-requires : tie.Need-first_part-requires
+first_part-requires c κs = search rules
 
-returns-2 : tie.Need-returns-2
-returns-2 c = joined-other _ _ _ _ (sym c.before.before.before.before.before.before.before.before.kind-of.ensures ∙ c.before.before.before.before.before.before.before.if1.false) _ c.before.before.before.before.before.b.given.1 _ _ c.before.before.before.owner.ensures.0 c.before.before.first_part.ensures c.if2.true
+returns-then-owner-first_part : tie.Need-returns-then-owner-first_part
+returns-then-owner-first_part c = joined-other _ _ _ _ (sym c.kind_of.ensures ∙ c.if-kind_of-ne1.false) _ c.in-Forward.is _ _ c.owner-owner.ensures.0 c.first_part.ensures c.if-owner-first_part.true
 
-find-declaring-requires : tie.Need-find-declaring-requires
-find-declaring-requires c κs = let s = c.before.before.before.before.before.before.before.before.before.before.before in (s.requires.0, good_forward _ _ _ s.requires.1 c.before.before.before.before.before.b.given.1)
+find_declaring-requires : tie.Need-find_declaring-requires
+find_declaring-requires c κs = (c.requires.0, good_forward _ _ _ c.requires.1 c.in-Forward.is)
 
-enum-told-5 : tie.Need-enum-told-5
-enum-told-5 c = search rules
+enum_told-in-Bailout : tie.Need-enum_told-in-Bailout
+enum_told-in-Bailout c = search rules
 
-returns-3 : tie.Need-returns-3
-returns-3 c = joined-module _ _ _ _ (sym c.before.before.before.kind-of.ensures ∙ c.before.before.if1.false) _ c.enum_told.given.1
+returns-in-Module : tie.Need-returns-in-Module
+returns-in-Module c = joined-module _ _ _ _ (sym c.kind_of.ensures ∙ c.if-kind_of-ne1.false) _ c.in-Module.is
 
-returns-4 : tie.Need-returns-4
-returns-4 c = joined-statement _ _ _ _ (sym c.before.before.before.kind-of.ensures ∙ c.before.before.if1.false) _ _ c.enum-told2.given.1
+returns-in-Statement : tie.Need-returns-in-Statement
+returns-in-Statement c = joined-statement _ _ _ _ (sym c.kind_of.ensures ∙ c.if-kind_of-ne1.false) _ _ c.in-Statement.is
 
-returns-5 : tie.Need-returns-5
-returns-5 c = joined-use _ _ _ _ (sym c.before.before.before.kind-of.ensures ∙ c.before.before.if1.false) _ _ c.enum-told3.given.1
+returns-in-Use : tie.Need-returns-in-Use
+returns-in-Use c = joined-use _ _ _ _ (sym c.kind_of.ensures ∙ c.if-kind_of-ne1.false) _ _ c.in-Use.is
 
-returns-6 : tie.Need-returns-6
-returns-6 c = joined-checked _ _ _ _ (sym c.before.before.before.kind-of.ensures ∙ c.before.before.if1.false) _ _ c.enum-told4.given.1
+returns-in-CheckedUse : tie.Need-returns-in-CheckedUse
+returns-in-CheckedUse c = joined-checked _ _ _ _ (sym c.kind_of.ensures ∙ c.if-kind_of-ne1.false) _ _ c.in-CheckedUse.is
 
-returns-7 : tie.Need-returns-7
-returns-7 c = joined-declared _ _ _ _ (sym c.before.before.before.before.before.before.before.before.before.kind-of.ensures ∙ c.before.before.before.before.before.before.before.before.if1.false) _ c.before.before.before.before.before.before.b.given.1 _ _ c.before.before.before.before.owner.ensures.0 c.before.before.before.first_part.ensures _ c.before.if2.false c.find-declaring.ensures
+returns-else-owner-first_part : tie.Need-returns-else-owner-first_part
+returns-else-owner-first_part c = joined-declared _ _ _ _ (sym c.kind_of.ensures ∙ c.if-kind_of-ne1.false) _ c.in-Forward.is _ _ c.owner-owner.ensures.0 c.first_part.ensures _ c.if-owner-first_part.false c.find_declaring.ensures
 
-returns-8 : tie.Need-returns-8
-returns-8 c = joined-bailout _ _ _ _ (sym c.before.before.before.kind-of.ensures ∙ c.before.before.if1.false) _ c.enum-told5.given.1
+returns-in-Bailout : tie.Need-returns-in-Bailout
+returns-in-Bailout c = joined-bailout _ _ _ _ (sym c.kind_of.ensures ∙ c.if-kind_of-ne1.false) _ c.in-Bailout.is
 
-pub joined-by-spec : {M : Type 1} → statement M
-joined-by-spec =
+pub joined_by_spec : {M : Type 1} → statement M
+joined_by_spec =
     tie.close
     (tie.spec
-    kind-of-requires
-    returns
-    enum_told
-    enum-told-2
-    enum-told-3
-    enum-told-4
-    enum-known-b
-    owner-requires
-    first-part-requires
-    returns-2
-    find-declaring-requires
-    enum-told-5
-    returns-3
-    returns-4
-    returns-5
-    returns-6
-    returns-7
-    returns-8)
+    kind_of-requires
+    returns-then-kind_of-ne1
+    enum_told-1
+    enum_told-in-Statement
+    enum_told-in-Use
+    enum_told-in-CheckedUse
+    enum_known-b
+    owner-owner-requires
+    first_part-requires
+    returns-then-owner-first_part
+    find_declaring-requires
+    enum_told-in-Bailout
+    returns-in-Module
+    returns-in-Statement
+    returns-in-Use
+    returns-in-CheckedUse
+    returns-else-owner-first_part
+    returns-in-Bailout)

@@ -3,25 +3,31 @@ use borrow.Author.Rules.{rules}
 use Rattle.justification.proofs.joins.Statement.{statement}
 use Rattle.justification.proofs.joins.Tie as tie
 
-joined-by-requires : tie.Need-joined-by-requires
-joined-by-requires c κs = search rules
+joined_by-requires : tie.Need-joined_by-requires
+joined_by-requires c κs = search rules
 
-enum-known-i : tie.Need-enum-known-i
-enum-known-i c = search rules
+enum_known-i : tie.Need-enum_known-i
+enum_known-i c = search rules
 
-enum_told : tie.Need-enum-told
-enum_told c = search rules
+enum_told-1 : tie.Need-enum_told-1
+enum_told-1 c = search rules
 
-joined-by-requires-2 : tie.Need-joined-by-requires-2
-joined-by-requires-2 c κs = search rules
+joined_by-requires-in-Nowhere : tie.Need-joined_by-requires-in-Nowhere
+joined_by-requires-in-Nowhere c κs = search rules
 
-returns : tie.Need-returns
-returns c = joins_first _ _ _ _ _ _ c.before.before.before.Joined-by.ensures c.before.i.given.1
+returns-in-At : tie.Need-returns-in-At
+returns-in-At c = joins_first _ _ _ _ _ _ c.joined_by.ensures c.in-At.is
 
-returns-2 : tie.Need-returns-2
-returns-2 c = joins_second _ _ _ _ _ _ c.before.before.before.Joined-by.ensures c.before.enum_told.given.1 c.joined-by2.ensures
+returns-in-Nowhere : tie.Need-returns-in-Nowhere
+returns-in-Nowhere c = joins_second _ _ _ _ _ _ c.joined_by.ensures c.in-Nowhere.is c.joined_by-in-Nowhere.ensures
 
-pub joins-spec : {M : Type 1} → statement M
-joins-spec =
+pub joins_spec : {M : Type 1} → statement M
+joins_spec =
     tie.close
-    (tie.spec joined-by-requires enum-known-i enum_told joined-by-requires-2 returns returns-2)
+    (tie.spec
+    joined_by-requires
+    enum_known-i
+    enum_told-1
+    joined_by-requires-in-Nowhere
+    returns-in-At
+    returns-in-Nowhere)

@@ -4,91 +4,91 @@ use borrow.Author.Rules.{rules}
 use Rattle.justification.proofs.rule_span.Statement.{statement}
 use Rattle.justification.proofs.rule_span.Tie as tie
 
-segment-count-requires : tie.Need-segment-count-requires
-segment-count-requires c κs = search rules
+segment_count-count-requires : tie.Need-segment_count-count-requires
+segment_count-count-requires c κs = search rules
 
-enum_told : tie.Need-enum-told
-enum_told c = search rules
+enum_told-1 : tie.Need-enum_told-1
+enum_told-1 c = search rules
 
-span-at-requires : tie.Need-span-at-requires
-span-at-requires c κs = search rules
+span_at-requires : tie.Need-span_at-requires
+span_at-requires c κs = search rules
 
-enum-told-2 : tie.Need-enum-told-2
-enum-told-2 c = search rules
+enum_told-in-Statement : tie.Need-enum_told-in-Statement
+enum_told-in-Statement c = search rules
 
-place-behind-requires : tie.Need-place-behind-requires
-place-behind-requires c κs = let s = c.before.before.before.before.before.before in (s.requires.0, (s.requires.1, (first_inside _ _ _ _ c.before.enum-told2.given.1, placed_begin _ _ _ _ refl)))
+place_behind-place-requires : tie.Need-place_behind-place-requires
+place_behind-place-requires c κs = (c.requires.0, (c.requires.1, (first_inside _ _ _ _ c.in-Statement.is, placed_begin _ _ _ _ refl)))
 
-returns : tie.Need-returns
-returns c = span_references _ _ _ _ _ c.before.before.before.before.segment-count.ensures _ _ c.before.before.enum-told2.given.1 c.before.if1.true refl refl c.place-behind.ensures
+returns-then-rule-eq8 : tie.Need-returns-then-rule-eq8
+returns-then-rule-eq8 c = span_references _ _ _ _ _ c.segment_count-count.ensures _ _ c.in-Statement.is c.if-rule-eq8.true refl refl c.place_behind-place.ensures
 
-span-at-requires-2 : tie.Need-span-at-requires-2
-span-at-requires-2 c κs = search rules
+span_at-requires-in-Statement : tie.Need-span_at-requires-in-Statement
+span_at-requires-in-Statement c κs = search rules
 
-enum-told-3 : tie.Need-enum-told-3
-enum-told-3 c = search rules
+enum_told-in-CheckedUse : tie.Need-enum_told-in-CheckedUse
+enum_told-in-CheckedUse c = search rules
 
-span-at-requires-3 : tie.Need-span-at-requires-3
-span-at-requires-3 c κs = search rules
+span_at-requires-in-CheckedUse : tie.Need-span_at-requires-in-CheckedUse
+span_at-requires-in-CheckedUse c κs = search rules
 
-enum-told-4 : tie.Need-enum-told-4
-enum-told-4 c = search rules
+enum_told-in-Use : tie.Need-enum_told-in-Use
+enum_told-in-Use c = search rules
 
-span-at-requires-4 : tie.Need-span-at-requires-4
-span-at-requires-4 c κs = search rules
+span_at-requires-in-Use : tie.Need-span_at-requires-in-Use
+span_at-requires-in-Use c κs = search rules
 
-enum-told-5 : tie.Need-enum-told-5
-enum-told-5 c = search rules
+enum_told-in-Forward : tie.Need-enum_told-in-Forward
+enum_told-in-Forward c = search rules
 
-span-at-requires-5 : tie.Need-span-at-requires-5
-span-at-requires-5 c κs = search rules
+span_at-requires-in-Forward : tie.Need-span_at-requires-in-Forward
+span_at-requires-in-Forward c κs = search rules
 
-enum-told-6 : tie.Need-enum-told-6
-enum-told-6 c = search rules
+enum_told-in-Bailout : tie.Need-enum_told-in-Bailout
+enum_told-in-Bailout c = search rules
 
-span-at-requires-6 : tie.Need-span-at-requires-6
-span-at-requires-6 c κs = search rules
+span_at-requires-in-Bailout : tie.Need-span_at-requires-in-Bailout
+span_at-requires-in-Bailout c κs = search rules
 
-returns-2 : tie.Need-returns-2
-returns-2 c = span_module _ _ _ _ _ c.before.before.before.segment-count.ensures _ c.before.enum_told.given.1 c.span-at.ensures
+returns-in-Module : tie.Need-returns-in-Module
+returns-in-Module c = span_module _ _ _ _ _ c.segment_count-count.ensures _ c.in-Module.is c.span_at.ensures
 
-returns-3 : tie.Need-returns-3
-returns-3 c = span_record _ _ _ _ _ _ c.before.before.enum-told2.given.1 c.before.if1.false c.span-at2.ensures
+returns-else-rule-eq8 : tie.Need-returns-else-rule-eq8
+returns-else-rule-eq8 c = span_record _ _ _ _ _ _ c.in-Statement.is c.if-rule-eq8.false c.span_at-in-Statement.ensures
 
-returns-4 : tie.Need-returns-4
-returns-4 c = span_checked _ _ _ _ _ c.before.before.before.segment-count.ensures _ _ c.before.enum-told3.given.1 c.span-at3.ensures
+returns-in-CheckedUse : tie.Need-returns-in-CheckedUse
+returns-in-CheckedUse c = span_checked _ _ _ _ _ c.segment_count-count.ensures _ _ c.in-CheckedUse.is c.span_at-in-CheckedUse.ensures
 
-returns-5 : tie.Need-returns-5
-returns-5 c = span_use _ _ _ _ _ c.before.before.before.segment-count.ensures _ _ c.before.enum-told4.given.1 c.span-at4.ensures
+returns-in-Use : tie.Need-returns-in-Use
+returns-in-Use c = span_use _ _ _ _ _ c.segment_count-count.ensures _ _ c.in-Use.is c.span_at-in-Use.ensures
 
-returns-6 : tie.Need-returns-6
-returns-6 c = span_forward _ _ _ _ _ c.before.enum-told5.given.1 c.span-at5.ensures
+returns-in-Forward : tie.Need-returns-in-Forward
+returns-in-Forward c = span_forward _ _ _ _ _ c.in-Forward.is c.span_at-in-Forward.ensures
 
-returns-7 : tie.Need-returns-7
-returns-7 c = span_bailout _ _ _ _ _ c.before.enum-told6.given.1 c.span-at6.ensures
+returns-in-Bailout : tie.Need-returns-in-Bailout
+returns-in-Bailout c = span_bailout _ _ _ _ _ c.in-Bailout.is c.span_at-in-Bailout.ensures
 
-pub rule-span-spec : {M : Type 1} → statement M
-rule-span-spec =
+pub rule_span_spec : {M : Type 1} → statement M
+rule_span_spec =
     tie.close
     (tie.spec
-    segment-count-requires
-    enum_told
-    span-at-requires
-    enum-told-2
-    place-behind-requires
-    returns
-    span-at-requires-2
-    enum-told-3
-    span-at-requires-3
-    enum-told-4
-    span-at-requires-4
-    enum-told-5
-    span-at-requires-5
-    enum-told-6
-    span-at-requires-6
-    returns-2
-    returns-3
-    returns-4
-    returns-5
-    returns-6
-    returns-7)
+    segment_count-count-requires
+    enum_told-1
+    span_at-requires
+    enum_told-in-Statement
+    place_behind-place-requires
+    returns-then-rule-eq8
+    span_at-requires-in-Statement
+    enum_told-in-CheckedUse
+    span_at-requires-in-CheckedUse
+    enum_told-in-Use
+    span_at-requires-in-Use
+    enum_told-in-Forward
+    span_at-requires-in-Forward
+    enum_told-in-Bailout
+    span_at-requires-in-Bailout
+    returns-in-Module
+    returns-else-rule-eq8
+    returns-in-CheckedUse
+    returns-in-Use
+    returns-in-Forward
+    returns-in-Bailout)

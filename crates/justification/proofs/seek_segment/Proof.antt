@@ -5,51 +5,51 @@ use native.Mathlib.Omega.{arith}
 use Rattle.justification.proofs.seek_segment.Statement.{statement}
 use Rattle.justification.proofs.seek_segment.Tie as tie
 
-abbrev invariant-loop : tie.invariant-loop
-invariant-loop numbers tables premise fact j k place count i₀ i = Passing numbers premise fact j k i
+abbrev invariant-loop-i : tie.invariant-loop-i
+invariant-loop-i numbers tables premise fact j k place count i₀ i = Passing numbers premise fact j k i
 
-abbrev decreases-loop : tie.decreases-loop
-decreases-loop numbers tables premise fact j k place count i₀ i = count - i
+abbrev decreases-loop-i : tie.decreases-loop-i
+decreases-loop-i numbers tables premise fact j k place count i₀ i = count - i
 
-segment-candidates-requires : tie.Need-segment-candidates-requires invariant-loop decreases-loop
-segment-candidates-requires c κs = search rules
+segment_candidates-count-requires : tie.Need-segment_candidates-count-requires invariant-loop-i decreases-loop-i
+segment_candidates-count-requires c κs = search rules
 
-loop-holds : tie.Need-loop-init invariant-loop decreases-loop
-loop-holds c = passing_start _ _ _ _ _
+loop-i-init : tie.Need-loop-i-init invariant-loop-i decreases-loop-i
+loop-i-init c = passing_start _ _ _ _ _
 
-segment-candidate-requires : tie.Need-segment-candidate-requires invariant-loop decreases-loop
-segment-candidate-requires c κs = let s = c.before.before.before.before.before in (s.requires.0, (s.requires.1.0, (s.requires.1.1.0, s.requires.1.1.1, omega (arith, c.loop-test.true, c.before.before.segment-candidates.ensures))))
+segment_candidate-candidate-requires : tie.Need-segment_candidate-candidate-requires invariant-loop-i decreases-loop-i
+segment_candidate-candidate-requires c κs = (c.requires.0, (c.requires.1.0, (c.requires.1.1.0, c.requires.1.1.1, omega (arith, c.loop-i-test.true, c.segment_candidates-count.ensures))))
 
-is-candidate-requires : tie.Need-is-candidate-requires invariant-loop decreases-loop
-is-candidate-requires c κs = search rules
+is_candidate-requires : tie.Need-is_candidate-requires invariant-loop-i decreases-loop-i
+is_candidate-requires c κs = search rules
 
-returns : tie.Need-returns invariant-loop decreases-loop
-returns c = passing_found _ _ _ _ _ _ c.before.before.before.before.loop.invariant (omega (arith, c.before.before.before.loop-test.true, c.before.before.before.before.before.segment-candidates.ensures)) (gives_read _ _ _ _ _ _ _ _ c.before.before.segment-candidate.ensures.0 c.before.is-candidate.ensures c.if1.true) (omega (arith, c.before.before.before.loop-test.true))
+returns-then-is_candidate : tie.Need-returns-then-is_candidate invariant-loop-i decreases-loop-i
+returns-then-is_candidate c = passing_found _ _ _ _ _ _ c.loop-i.invariant (omega (arith, c.loop-i-test.true, c.segment_candidates-count.ensures)) (gives_read _ _ _ _ _ _ _ _ c.segment_candidate-candidate.ensures.0 c.is_candidate.ensures c.if-is_candidate.true) (omega (arith, c.loop-i-test.true))
 
-add-i : tie.Need-overflow-add-i invariant-loop decreases-loop
-add-i c = search rules
+overflow_add-i : tie.Need-overflow_add-i invariant-loop-i decreases-loop-i
+overflow_add-i c = search rules
 
-loop-less : tie.Need-loop-smaller invariant-loop decreases-loop
-loop-less c = omega (arith, c.before.before.before.loop-test.true)
+loop-i-smaller : tie.Need-loop-i-smaller invariant-loop-i decreases-loop-i
+loop-i-smaller c = omega (arith, c.loop-i-test.true)
 
-loop-again : tie.Need-loop-preserved invariant-loop decreases-loop
-loop-again c = passing_on _ _ _ _ _ _ c.before.before.before.before.loop.invariant (gives_read _ _ _ _ _ _ _ _ c.before.before.segment-candidate.ensures.0 c.before.is-candidate.ensures c.if1.false)
+loop-i-preserved : tie.Need-loop-i-preserved invariant-loop-i decreases-loop-i
+loop-i-preserved c = passing_on _ _ _ _ _ _ c.loop-i.invariant (gives_read _ _ _ _ _ _ _ _ c.segment_candidate-candidate.ensures.0 c.is_candidate.ensures c.if-is_candidate.false)
 
-returns-2 : tie.Need-returns-2 invariant-loop decreases-loop
-returns-2 c = passing_end _ _ _ _ _ _ c.before.loop.invariant (omega (arith, c.loop-test.false, c.before.before.segment-candidates.ensures))
+returns : tie.Need-returns invariant-loop-i decreases-loop-i
+returns c = passing_end _ _ _ _ _ _ c.loop-i.invariant (omega (arith, c.loop-i-test.false, c.segment_candidates-count.ensures))
 
-pub seek-segment-spec : {M : Type 1} → statement M
-seek-segment-spec =
+pub seek_segment_spec : {M : Type 1} → statement M
+seek_segment_spec =
     tie.close
     (tie.spec
-    invariant-loop
-    decreases-loop
-    segment-candidates-requires
-    loop-holds
-    segment-candidate-requires
-    is-candidate-requires
-    returns
-    add-i
-    loop-less
-    loop-again
-    returns-2)
+    invariant-loop-i
+    decreases-loop-i
+    segment_candidates-count-requires
+    loop-i-init
+    segment_candidate-candidate-requires
+    is_candidate-requires
+    returns-then-is_candidate
+    overflow_add-i
+    loop-i-smaller
+    loop-i-preserved
+    returns)

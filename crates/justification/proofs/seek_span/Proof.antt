@@ -5,59 +5,59 @@ use native.Mathlib.Omega.{arith}
 use Rattle.justification.proofs.seek_span.Statement.{statement}
 use Rattle.justification.proofs.seek_span.Tie as tie
 
-abbrev invariant-loop : tie.invariant-loop
-invariant-loop numbers tables premise fact to j₀ k₀ place₀ j k place = Crossing numbers premise fact (record { segment = j₀; index = k₀; place = place₀ }) j k place
+abbrev invariant-loop-j : tie.invariant-loop-j
+invariant-loop-j numbers tables premise fact to j₀ k₀ place₀ j k place = Crossing numbers premise fact (record { segment = j₀; index = k₀; place = place₀ }) j k place
 
-abbrev decreases-loop : tie.decreases-loop
-decreases-loop numbers tables premise fact to j₀ k₀ place₀ j k place = to - j
+abbrev decreases-loop-j : tie.decreases-loop-j
+decreases-loop-j numbers tables premise fact to j₀ k₀ place₀ j k place = to - j
 
-loop-holds : tie.Need-loop-init invariant-loop decreases-loop
-loop-holds c = crossing_start _ _ _ _ c.before.before.requires.1.1.1
+loop-j-init : tie.Need-loop-j-init invariant-loop-j decreases-loop-j
+loop-j-init c = crossing_start _ _ _ _ c.requires.1.1.1
 
-seek-segment-requires : tie.Need-seek-segment-requires invariant-loop decreases-loop
-seek-segment-requires c κs = let s = c.before.before.before.before in (s.requires.0, (s.requires.1.0, (omega (arith, c.loop-test.true, s.requires.1.1.0), c.before.loop.invariant.placed)))
+seek_segment-requires : tie.Need-seek_segment-requires invariant-loop-j decreases-loop-j
+seek_segment-requires c κs = (c.requires.0, (c.requires.1.0, (omega (arith, c.loop-j-test.true, c.requires.1.1.0), c.loop-j.invariant.placed)))
 
-enum-known-i : tie.Need-enum-known-i invariant-loop decreases-loop
-enum-known-i c = search rules
+enum_known-i : tie.Need-enum_known-i invariant-loop-j decreases-loop-j
+enum_known-i c = search rules
 
-add-t13 : tie.Need-overflow-add-t13 invariant-loop decreases-loop
-add-t13 c = omega (arith, c.before.before.before.seek-segment.ensures.fits _ c.before.i.given.1)
+overflow_add-result : tie.Need-overflow_add-result invariant-loop-j decreases-loop-j
+overflow_add-result c = omega (arith, c.seek_segment.ensures.fits _ c.in-At.is)
 
-returns : tie.Need-returns invariant-loop decreases-loop
-returns c = crossing-found _ _ _ _ _ _ _ c.before.before.before.before.before.loop.invariant _ _ _ c.before.before.before.seek-segment.ensures c.before.i.given.1 c.before.before.before.before.loop-test.true
+returns-in-At : tie.Need-returns-in-At invariant-loop-j decreases-loop-j
+returns-in-At c = crossing-found _ _ _ _ _ _ _ c.loop-j.invariant _ _ _ c.seek_segment.ensures c.in-At.is c.loop-j-test.true
 
-enum_told : tie.Need-enum-told invariant-loop decreases-loop
-enum_told c = search rules
+enum_told-1 : tie.Need-enum_told-1 invariant-loop-j decreases-loop-j
+enum_told-1 c = search rules
 
-place-behind-requires : tie.Need-place-behind-requires invariant-loop decreases-loop
-place-behind-requires c κs = let s = c.before.before.before.before.before.before.before in (s.requires.0, (s.requires.1.0, (omega (arith, c.before.before.before.loop-test.true, s.requires.1.1.0), c.before.before.before.before.loop.invariant.placed)))
+place_behind-place-requires : tie.Need-place_behind-place-requires invariant-loop-j decreases-loop-j
+place_behind-place-requires c κs = (c.requires.0, (c.requires.1.0, (omega (arith, c.loop-j-test.true, c.requires.1.1.0), c.loop-j.invariant.placed)))
 
-add-j : tie.Need-overflow-add-j invariant-loop decreases-loop
-add-j c = search rules
+overflow_add-j : tie.Need-overflow_add-j invariant-loop-j decreases-loop-j
+overflow_add-j c = search rules
 
-loop-less : tie.Need-loop-smaller invariant-loop decreases-loop
-loop-less c = omega (arith, c.before.before.before.before.loop-test.true)
+loop-j-smaller : tie.Need-loop-j-smaller invariant-loop-j decreases-loop-j
+loop-j-smaller c = omega (arith, c.loop-j-test.true)
 
-loop-again : tie.Need-loop-preserved invariant-loop decreases-loop
-loop-again c = crossing_on _ _ _ _ _ _ _ c.before.before.before.before.before.loop.invariant _ _ c.before.before.before.seek-segment.ensures c.before.enum_told.given.1 c.place-behind.ensures
+loop-j-preserved : tie.Need-loop-j-preserved invariant-loop-j decreases-loop-j
+loop-j-preserved c = crossing_on _ _ _ _ _ _ _ c.loop-j.invariant _ _ c.seek_segment.ensures c.in-Nowhere.is c.place_behind-place.ensures
 
-returns-2 : tie.Need-returns-2 invariant-loop decreases-loop
-returns-2 c = crossing-end _ _ _ _ _ _ _ c.before.loop.invariant _ c.loop-test.false
+returns : tie.Need-returns invariant-loop-j decreases-loop-j
+returns c = crossing-end _ _ _ _ _ _ _ c.loop-j.invariant _ c.loop-j-test.false
 
-pub seek-span-spec : {M : Type 1} → statement M
-seek-span-spec =
+pub seek_span_spec : {M : Type 1} → statement M
+seek_span_spec =
     tie.close
     (tie.spec
-    invariant-loop
-    decreases-loop
-    loop-holds
-    seek-segment-requires
-    enum-known-i
-    add-t13
-    returns
-    enum_told
-    place-behind-requires
-    add-j
-    loop-less
-    loop-again
-    returns-2)
+    invariant-loop-j
+    decreases-loop-j
+    loop-j-init
+    seek_segment-requires
+    enum_known-i
+    overflow_add-result
+    returns-in-At
+    enum_told-1
+    place_behind-place-requires
+    overflow_add-j
+    loop-j-smaller
+    loop-j-preserved
+    returns)

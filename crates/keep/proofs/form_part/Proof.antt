@@ -5,46 +5,46 @@ use borrow.Author.Rules.{rules}
 use Rattle.keep.proofs.form_part.Statement.{statement}
 use Rattle.keep.proofs.form_part.Tie as tie
 
-text-requires : tie.Need-text-requires
-text-requires c κs = search rules
+text-length-requires : tie.Need-text-length-requires
+text-length-requires c κs = search rules
 
-same_length : tie.Need-same-length
-same_length c = search rules
+shape_of-out-then-length-skip : tie.Need-shape_of-out-then-length-skip
+shape_of-out-then-length-skip c = search rules
+
+returns-then-length-skip : tie.Need-returns-then-length-skip
+returns-then-length-skip c =
+    part_last _ _ _ _ _ _ c.requires c.text-length.auto.1.1.1.0 c.text-length.ensures 0 (omega (arith, c.if-length-skip.true)) (omega arith)
+
+overflow_sub-left : tie.Need-overflow_sub-left
+overflow_sub-left c = search rules
+
+shape_of-out-then-left-out : tie.Need-shape_of-out-then-left-out
+shape_of-out-then-left-out c = search rules
+
+returns-then-left-out : tie.Need-returns-then-left-out
+returns-then-left-out c =
+    part_last _ _ _ _ _ _ c.requires c.text-length.auto.1.1.1.0 c.text-length.ensures _ refl c.if-left-out.true
+
+overflow_add-result : tie.Need-overflow_add-result
+overflow_add-result c = search rules
+
+shape_of-out : tie.Need-shape_of-out
+shape_of-out c = search rules
 
 returns : tie.Need-returns
 returns c =
-    part_last _ _ _ _ _ _ c.before.before.before.before.before.before.before.before.requires c.before.before.before.text.auto.1.1.1.0 c.before.before.before.text.ensures 0 (omega (arith, c.if1.true)) (omega arith)
+    part_next _ _ _ _ _ _ c.requires c.text-length.auto.1.1.1.0 c.text-length.ensures c.if-left-out.false
 
-sub-left : tie.Need-overflow-sub-left
-sub-left c = search rules
-
-same-length-2 : tie.Need-same-length-2
-same-length-2 c = search rules
-
-returns-2 : tie.Need-returns-2
-returns-2 c =
-    part_last _ _ _ _ _ _ c.before.before.before.before.before.before.before.before.before.requires c.before.before.before.before.text.auto.1.1.1.0 c.before.before.before.before.text.ensures _ refl c.if2.true
-
-add-t11 : tie.Need-overflow-add-t11
-add-t11 c = search rules
-
-same-length-3 : tie.Need-same-length-3
-same-length-3 c = search rules
-
-returns-3 : tie.Need-returns-3
-returns-3 c =
-    part_next _ _ _ _ _ _ c.before.before.before.before.before.before.before.before.before.requires c.before.before.before.before.text.auto.1.1.1.0 c.before.before.before.before.text.ensures c.if2.false
-
-pub form-part-spec : {M : Type 1} → statement M
-form-part-spec =
+pub form_part_spec : {M : Type 1} → statement M
+form_part_spec =
     tie.close
     (tie.spec
-    text-requires
-    same_length
-    returns
-    sub-left
-    same-length-2
-    returns-2
-    add-t11
-    same-length-3
-    returns-3)
+    text-length-requires
+    shape_of-out-then-length-skip
+    returns-then-length-skip
+    overflow_sub-left
+    shape_of-out-then-left-out
+    returns-then-left-out
+    overflow_add-result
+    shape_of-out
+    returns)

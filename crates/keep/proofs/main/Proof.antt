@@ -8,76 +8,68 @@ use borrow.Author.Rules.{rules}
 use Rattle.keep.proofs.main.Statement.{statement}
 use Rattle.keep.proofs.main.Tie as tie
 
-slice-aggregate-read-file : tie.Need-slice-aggregate-read-file
-slice-aggregate-read-file c = search rules
+slice_bounds-read_file-end : tie.Need-slice_bounds-read_file-end
+slice_bounds-read_file-end c = search rules
 
-slice-aggregate-read-file-2 : tie.Need-slice-aggregate-read-file-2
-slice-aggregate-read-file-2 c = search rules
+slice_bounds-read_file-end-2 : tie.Need-slice_bounds-read_file-end-2
+slice_bounds-read_file-end-2 c = search rules
 
-read-file-requires : tie.Need-read-file-requires
-read-file-requires c κs = search rules
+read_file-requires : tie.Need-read_file-requires
+read_file-requires c κs = search rules
 
-enum_told : tie.Need-enum-told
-enum_told c = search rules
-
-slice-aggregate-fail : tie.Need-slice-aggregate-fail
-slice-aggregate-fail c = search rules
+enum_told-1 : tie.Need-enum_told-1
+enum_told-1 c = search rules
 
 fail-requires : tie.Need-fail-requires
 fail-requires c κs = search rules
 
-enum-known-got : tie.Need-enum-known-got
-enum-known-got c = search rules
+enum_known-got : tie.Need-enum_known-got
+enum_known-got c = search rules
 
-array-share-prefix-front : tie.Need-array-share-prefix-front
-array-share-prefix-front c = (input_bytes _ _ _ _ c.before.got.given.1 c.before.before.before.before.before.read_file.ensures).fits
+slice_bounds-front-end : tie.Need-slice_bounds-front-end
+slice_bounds-front-end c = (input_bytes _ _ _ _ c.in-Read.is c.read_file.ensures).fits
 
-slice-aggregate-print : tie.Need-slice-aggregate-print
-slice-aggregate-print c = sym (length-take-le _ _ (input_bytes _ _ _ _ c.before.before.got.given.1 c.before.before.before.before.before.before.read_file.ensures).fits)
+slice_bounds-print-end : tie.Need-slice_bounds-print-end
+slice_bounds-print-end c = sym (length-take-le _ _ (input_bytes _ _ _ _ c.in-Read.is c.read_file.ensures).fits)
 
-array-share-prefix-behind : tie.Need-array-share-prefix-behind
-array-share-prefix-behind c = (input_bytes _ _ _ _ c.before.before.got.given.1 c.before.before.before.before.before.before.read_file.ensures).fits_behind
+slice_bounds-behind-end : tie.Need-slice_bounds-behind-end
+slice_bounds-behind-end c = (input_bytes _ _ _ _ c.in-Read.is c.read_file.ensures).fits_behind
 
-slice-aggregate-print-2 : tie.Need-slice-aggregate-print-2
-slice-aggregate-print-2 c = sym (length-take-le _ _ (input_bytes _ _ _ _ c.before.before.before.got.given.1 c.before.before.before.before.before.before.before.read_file.ensures).fits_behind)
+slice_bounds-print-end-in-Read : tie.Need-slice_bounds-print-end-in-Read
+slice_bounds-print-end-in-Read c = sym (length-take-le _ _ (input_bytes _ _ _ _ c.in-Read.is c.read_file.ensures).fits_behind)
 
 print-requires : tie.Need-print-requires
 print-requires c κs =
-    read_file _ _ _ _ (omega (arith, c.before.before.before.before.before.before.before.read_file.auto.0, length-replicate {A = ℕ} 8192 0)) (input_bytes _ _ _ _ c.before.before.before.got.given.1 c.before.before.before.before.before.before.before.read_file.ensures)
+    read_file _ _ _ _ (omega (arith, c.read_file.auto.0, length-replicate {A = ℕ} 8192 0)) (input_bytes _ _ _ _ c.in-Read.is c.read_file.ensures)
 
-slice-aggregate-fail-2 : tie.Need-slice-aggregate-fail-2
-slice-aggregate-fail-2 c = search rules
+fail-requires-then-not-print : tie.Need-fail-requires-then-not-print
+fail-requires-then-not-print c κs = search rules
 
-fail-requires-2 : tie.Need-fail-requires-2
-fail-requires-2 c κs = search rules
+returns-in-Unread : tie.Need-returns-in-Unread
+returns-in-Unread c = search rules
 
-returns : tie.Need-returns
-returns c = search rules
+returns-then-not-print : tie.Need-returns-then-not-print
+returns-then-not-print c = search rules
 
-returns-2 : tie.Need-returns-2
-returns-2 c = search rules
-
-returns-3 : tie.Need-returns-3
-returns-3 c = search rules
+returns-else-not-print : tie.Need-returns-else-not-print
+returns-else-not-print c = search rules
 
 pub main_spec : {M : Type 1} → statement M
 main_spec =
     tie.close
     (tie.spec
-    slice-aggregate-read-file
-    slice-aggregate-read-file-2
-    read-file-requires
-    enum_told
-    slice-aggregate-fail
+    slice_bounds-read_file-end
+    slice_bounds-read_file-end-2
+    read_file-requires
+    enum_told-1
     fail-requires
-    enum-known-got
-    array-share-prefix-front
-    slice-aggregate-print
-    array-share-prefix-behind
-    slice-aggregate-print-2
+    enum_known-got
+    slice_bounds-front-end
+    slice_bounds-print-end
+    slice_bounds-behind-end
+    slice_bounds-print-end-in-Read
     print-requires
-    slice-aggregate-fail-2
-    fail-requires-2
-    returns
-    returns-2
-    returns-3)
+    fail-requires-then-not-print
+    returns-in-Unread
+    returns-then-not-print
+    returns-else-not-print)

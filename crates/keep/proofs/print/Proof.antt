@@ -10,72 +10,72 @@ use borrow.Author.Rules.{rules}
 use Rattle.keep.proofs.print.Statement.{statement}
 use Rattle.keep.proofs.print.Tie as tie
 
-abbrev invariant-loop : tie.invariant-loop
-invariant-loop front behind skip₀ skip = Unit {0}
+abbrev invariant-loop-count : tie.invariant-loop-count
+invariant-loop-count front behind skip₀ skip = Unit {0}
 
-abbrev decreases-loop : tie.decreases-loop
-decreases-loop front behind skip₀ skip = length (file_text (front ++ behind)) - skip
+abbrev decreases-loop-count : tie.decreases-loop-count
+decreases-loop-count front behind skip₀ skip = length (file_text (front ++ behind)) - skip
 
-loop-holds : tie.Need-loop-init invariant-loop decreases-loop
-loop-holds c = search rules
+loop-count-init : tie.Need-loop-count-init invariant-loop-count decreases-loop-count
+loop-count-init c = search rules
 
-slice-aggregate-form-part : tie.Need-slice-aggregate-form-part invariant-loop decreases-loop
-slice-aggregate-form-part c = search rules
+slice_bounds-form_part-end : tie.Need-slice_bounds-form_part-end invariant-loop-count decreases-loop-count
+slice_bounds-form_part-end c = search rules
 
-form-part-requires : tie.Need-form-part-requires invariant-loop decreases-loop
-form-part-requires c κs = search rules
+form_part-requires : tie.Need-form_part-requires invariant-loop-count decreases-loop-count
+form_part-requires c κs = search rules
 
-enum-known-count : tie.Need-enum-known-count invariant-loop decreases-loop
-enum-known-count c = search rules
+enum_known-count : tie.Need-enum_known-count invariant-loop-count decreases-loop-count
+enum_known-count c = search rules
 
-array-share-prefix-out : tie.Need-array-share-prefix-out invariant-loop decreases-loop
-array-share-prefix-out c = last_fits _ _ _ _ c.before.count.given.1 c.before.before.before.before.form-part.ensures
+slice_bounds-out-end : tie.Need-slice_bounds-out-end invariant-loop-count decreases-loop-count
+slice_bounds-out-end c = last_fits _ _ _ _ c.in-Last.is c.form_part.ensures
 
-slice-aggregate-write-all : tie.Need-slice-aggregate-write-all invariant-loop decreases-loop
-slice-aggregate-write-all c = sym (length-take-le _ _ (last_fits _ _ _ _ c.before.before.count.given.1 c.before.before.before.before.before.form-part.ensures))
+slice_bounds-write_all-end : tie.Need-slice_bounds-write_all-end invariant-loop-count decreases-loop-count
+slice_bounds-write_all-end c = sym (length-take-le _ _ (last_fits _ _ _ _ c.in-Last.is c.form_part.ensures))
 
-write-all-requires : tie.Need-write-all-requires invariant-loop decreases-loop
-write-all-requires c κs = search rules
+write_all-requires : tie.Need-write_all-requires invariant-loop-count decreases-loop-count
+write_all-requires c κs = search rules
 
-returns : tie.Need-returns invariant-loop decreases-loop
-returns c = search rules
+returns-in-Last : tie.Need-returns-in-Last invariant-loop-count decreases-loop-count
+returns-in-Last c = search rules
 
-enum-known-next : tie.Need-enum-known-next invariant-loop decreases-loop
-enum-known-next c = search rules
+enum_known-next : tie.Need-enum_known-next invariant-loop-count decreases-loop-count
+enum_known-next c = search rules
 
-slice-aggregate-write-all-2 : tie.Need-slice-aggregate-write-all-2 invariant-loop decreases-loop
-slice-aggregate-write-all-2 c = omega (arith, c.before.before.before.before.before.form-part.auto.1.1.1.0, length-replicate {A = ℕ} 8192 0)
+slice_bounds-write_all-end-in-Next : tie.Need-slice_bounds-write_all-end-in-Next invariant-loop-count decreases-loop-count
+slice_bounds-write_all-end-in-Next c = omega (arith, c.form_part.auto.1.1.1.0, length-replicate {A = ℕ} 8192 0)
 
-write-all-requires-2 : tie.Need-write-all-requires-2 invariant-loop decreases-loop
-write-all-requires-2 c κs = search rules
+write_all-requires-in-Next : tie.Need-write_all-requires-in-Next invariant-loop-count decreases-loop-count
+write_all-requires-in-Next c κs = search rules
 
-returns-2 : tie.Need-returns-2 invariant-loop decreases-loop
-returns-2 c = search rules
+returns-then-not-write_all : tie.Need-returns-then-not-write_all invariant-loop-count decreases-loop-count
+returns-then-not-write_all c = search rules
 
-loop-less : tie.Need-loop-smaller invariant-loop decreases-loop
-loop-less c =
-    omega (arith, next_behind _ _ _ _ c.before.before.before.before.next.given.1 c.before.before.before.before.before.before.before.form-part.ensures, c.before.before.before.before.before.before.before.form-part.auto.1.1.1.0, length-replicate {A = ℕ} 8192 0)
+loop-count-smaller : tie.Need-loop-count-smaller invariant-loop-count decreases-loop-count
+loop-count-smaller c =
+    omega (arith, next_behind _ _ _ _ c.in-Next.is c.form_part.ensures, c.form_part.auto.1.1.1.0, length-replicate {A = ℕ} 8192 0)
 
-loop-again : tie.Need-loop-preserved invariant-loop decreases-loop
-loop-again c = search rules
+loop-count-preserved : tie.Need-loop-count-preserved invariant-loop-count decreases-loop-count
+loop-count-preserved c = search rules
 
-pub print-spec : {M : Type 1} → statement M
-print-spec =
+pub print_spec : {M : Type 1} → statement M
+print_spec =
     tie.close
     (tie.spec
-    invariant-loop
-    decreases-loop
-    loop-holds
-    slice-aggregate-form-part
-    form-part-requires
-    enum-known-count
-    array-share-prefix-out
-    slice-aggregate-write-all
-    write-all-requires
-    returns
-    enum-known-next
-    slice-aggregate-write-all-2
-    write-all-requires-2
-    returns-2
-    loop-less
-    loop-again)
+    invariant-loop-count
+    decreases-loop-count
+    loop-count-init
+    slice_bounds-form_part-end
+    form_part-requires
+    enum_known-count
+    slice_bounds-out-end
+    slice_bounds-write_all-end
+    write_all-requires
+    returns-in-Last
+    enum_known-next
+    slice_bounds-write_all-end-in-Next
+    write_all-requires-in-Next
+    returns-then-not-write_all
+    loop-count-smaller
+    loop-count-preserved)

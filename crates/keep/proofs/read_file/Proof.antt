@@ -7,25 +7,25 @@ use Rattle.keep.proofs.read_file.Tie as tie
 fill-requires : tie.Need-fill-requires
 fill-requires c κs = search rules
 
-enum-known-got : tie.Need-enum-known-got
-enum-known-got c = search rules
+enum_known-got : tie.Need-enum_known-got
+enum_known-got c = search rules
 
-enum_told : tie.Need-enum-told
-enum_told c = search rules
+enum_told-1 : tie.Need-enum_told-1
+enum_told-1 c = search rules
 
-same_length : tie.Need-same-length
-same_length c = search rules
+shape_of-front-in_default : tie.Need-shape_of-front-in_default
+shape_of-front-in_default c = search rules
 
-returns : tie.Need-returns
-returns c = search rules
+returns-in_default : tie.Need-returns-in_default
+returns-in_default c = search rules
 
-same-length-2 : tie.Need-same-length-2
-same-length-2 c = search rules
+shape_of-front-then-got-front : tie.Need-shape_of-front-then-got-front
+shape_of-front-then-got-front c = search rules
 
-returns-2 : tie.Need-returns-2
-returns-2 c =
+returns-then-got-front : tie.Need-returns-then-got-front
+returns-then-got-front c =
     record {
-      fits = filled_bytes _ _ c.before.before.got.given.1 c.before.before.before.before.before.before.fill.ensures;
+      fits = filled_bytes _ _ c.in-Bytes.is c.fill.ensures;
       fits_behind = omega arith;
       in_order = λ l. omega (arith, l);
     }
@@ -33,54 +33,53 @@ returns-2 c =
 fill-requires-2 : tie.Need-fill-requires-2
 fill-requires-2 c κs = search rules
 
-enum-known-more : tie.Need-enum-known-more
-enum-known-more c = search rules
+enum_known-more : tie.Need-enum_known-more
+enum_known-more c = search rules
 
-enum-told-2 : tie.Need-enum-told-2
-enum-told-2 c = search rules
+enum_told-in_default-fill : tie.Need-enum_told-in_default-fill
+enum_told-in_default-fill c = search rules
 
-same-length-3 : tie.Need-same-length-3
-same-length-3 c = search rules
+shape_of-front-in_default-fill : tie.Need-shape_of-front-in_default-fill
+shape_of-front-in_default-fill c = search rules
 
-same-length-4 : tie.Need-same-length-4
-same-length-4 c = search rules
+shape_of-behind-in_default-fill : tie.Need-shape_of-behind-in_default-fill
+shape_of-behind-in_default-fill c = search rules
 
-returns-3 : tie.Need-returns-3
-returns-3 c = search rules
+returns-in_default-fill : tie.Need-returns-in_default-fill
+returns-in_default-fill c = search rules
 
-same-length-5 : tie.Need-same-length-5
-same-length-5 c = search rules
+shape_of-front : tie.Need-shape_of-front
+shape_of-front c = search rules
 
-same-length-6 : tie.Need-same-length-6
-same-length-6 c = search rules
+shape_of-behind : tie.Need-shape_of-behind
+shape_of-behind c = search rules
 
-returns-4 : tie.Need-returns-4
-returns-4 c =
-    let here = c.before.before.before.before.before.before.before.before.before in
-    let got = filled_bytes _ _ here.got.given.1 here.before.before.before.before.fill.ensures in
+returns : tie.Need-returns
+returns c =
+    let got = filled_bytes _ _ c.in-Bytes.is c.fill.ensures in
     record {
       fits = got;
-      fits_behind = filled_bytes _ _ c.before.more.given.1 c.before.before.before.before.before.fill2.ensures;
-      in_order = λ _. omega (arith, got, c.before.before.before.before.before.before.before.if1.false);
+      fits_behind = filled_bytes _ _ c.in-Bytes-fill.is c.fill-2.ensures;
+      in_order = λ _. omega (arith, got, c.if-got-front.false);
     }
 
-pub read-file-spec : {M : Type 1} → statement M
-read-file-spec =
+pub read_file_spec : {M : Type 1} → statement M
+read_file_spec =
     tie.close
     (tie.spec
     fill-requires
-    enum-known-got
-    enum_told
-    same_length
-    returns
-    same-length-2
-    returns-2
+    enum_known-got
+    enum_told-1
+    shape_of-front-in_default
+    returns-in_default
+    shape_of-front-then-got-front
+    returns-then-got-front
     fill-requires-2
-    enum-known-more
-    enum-told-2
-    same-length-3
-    same-length-4
-    returns-3
-    same-length-5
-    same-length-6
-    returns-4)
+    enum_known-more
+    enum_told-in_default-fill
+    shape_of-front-in_default-fill
+    shape_of-behind-in_default-fill
+    returns-in_default-fill
+    shape_of-front
+    shape_of-behind
+    returns)

@@ -5,63 +5,63 @@ use borrow.Author.Rules.{rules}
 use Rattle.keep_record.proofs.add.Statement.{statement}
 use Rattle.keep_record.proofs.add.Tie as tie
 
-mark-of-requires : tie.Need-mark-of-requires
-mark-of-requires c κs = search rules
+mark_of-mark-requires : tie.Need-mark_of-mark-requires
+mark_of-mark-requires c κs = search rules
 
 test-requires : tie.Need-test-requires
 test-requires c κs = search rules
 
-same_length : tie.Need-same-length
-same_length c = search rules
+shape_of-marks-then-test : tie.Need-shape_of-marks-then-test
+shape_of-marks-then-test c = search rules
 
-returns : tie.Need-returns
-returns c = grown_same _ _ _ _ _ _ _ c.before.before.before.before.before.before.before.before.requires.1.0 c.before.before.before.mark_of.ensures.0 (sym c.before.test.ensures ∙ c.if1.true)
+returns-then-test : tie.Need-returns-then-test
+returns-then-test c = grown_same _ _ _ _ _ _ _ c.requires.1.0 c.mark_of-mark.ensures.0 (sym c.test.ensures ∙ c.if-test.true)
 
-mul-if2 : tie.Need-overflow-mul-if2
-mul-if2 c = search rules
+overflow_mul-count : tie.Need-overflow_mul-count
+overflow_mul-count c = search rules
 
-add-if2 : tie.Need-overflow-add-if2
-add-if2 c = search rules
+overflow_add-count : tie.Need-overflow_add-count
+overflow_add-count c = search rules
 
-same-length-2 : tie.Need-same-length-2
-same-length-2 c = search rules
+shape_of-marks-then-lines-count : tie.Need-shape_of-marks-then-lines-count
+shape_of-marks-then-lines-count c = search rules
 
-returns-2 : tie.Need-returns-2
-returns-2 c = grown_full _ _ _ _ _ _ _ c.before.before.before.before.before.before.before.before.before.requires.1.0 c.before.before.before.before.mark_of.ensures.0 (sym c.before.before.test.ensures ∙ c.before.if1.false) c.if2.true
+returns-then-lines-count : tie.Need-returns-then-lines-count
+returns-then-lines-count c = grown_full _ _ _ _ _ _ _ c.requires.1.0 c.mark_of-mark.ensures.0 (sym c.test.ensures ∙ c.if-test.false) c.if-lines-count.true
 
 set-requires : tie.Need-set-requires
 set-requires c κs = search rules
 
-write-line-requires : tie.Need-write-line-requires
-write-line-requires c κs = let s = c.before.before.before.before.before.before.before.before.before.before.before.before.before.before in (omega (arith, c.before.before.before.before.before.if2.false), line_small s.requires.0 _ _ _ _ _ s.requires.1.0 s.requires.1.1)
+write_line-requires : tie.Need-write_line-requires
+write_line-requires c κs = (omega (arith, c.if-lines-count.false), line_small c.requires.0 _ _ _ _ _ c.requires.1.0 c.requires.1.1)
 
-add-t13 : tie.Need-overflow-add-t13
-add-t13 c = search rules
+overflow_add-result : tie.Need-overflow_add-result
+overflow_add-result c = search rules
 
-same-length-3 : tie.Need-same-length-3
-same-length-3 c = search rules
+shape_of-marks : tie.Need-shape_of-marks
+shape_of-marks c = search rules
 
-same-length-4 : tie.Need-same-length-4
-same-length-4 c = search rules
+shape_of-lines : tie.Need-shape_of-lines
+shape_of-lines c = search rules
 
-returns-3 : tie.Need-returns-3
-returns-3 c = let s = c.before.before.before.before.before.before.before.before.before.before.before.before.before.before.before.before.before in grown-more _ _ _ _ _ _ _ s.requires.1.0 c.before.before.before.before.before.before.before.before.before.before.before.before.mark_of.ensures.0 _ _ (omega (arith, c.before.before.before.before.before.before.before.before.if2.false)) c.before.before.write-line.ensures s.requires.1.1.good_fact (sym c.before.before.before.before.before.before.before.before.before.before.test.ensures ∙ c.before.before.before.before.before.before.before.before.before.if1.false) c.before.before.before.before.before.before.set.ensures c.before.before.before.before.before.before.set.auto.0 c.before.before.write-line.auto.0
+returns : tie.Need-returns
+returns c = grown-more _ _ _ _ _ _ _ c.requires.1.0 c.mark_of-mark.ensures.0 _ _ (omega (arith, c.if-lines-count.false)) c.write_line.ensures c.requires.1.1.good_fact (sym c.test.ensures ∙ c.if-test.false) c.set.ensures c.set.auto.0 c.write_line.auto.0
 
 pub add_spec : {M : Type 1} → statement M
 add_spec =
     tie.close
     (tie.spec
-    mark-of-requires
+    mark_of-mark-requires
     test-requires
-    same_length
-    returns
-    mul-if2
-    add-if2
-    same-length-2
-    returns-2
+    shape_of-marks-then-test
+    returns-then-test
+    overflow_mul-count
+    overflow_add-count
+    shape_of-marks-then-lines-count
+    returns-then-lines-count
     set-requires
-    write-line-requires
-    add-t13
-    same-length-3
-    same-length-4
-    returns-3)
+    write_line-requires
+    overflow_add-result
+    shape_of-marks
+    shape_of-lines
+    returns)

@@ -8,18 +8,24 @@ use Rattle.keep_record.proofs.clear.Tie as tie
 clear-requires : tie.Need-clear-requires
 clear-requires c κs = search rules
 
-clear-lines-requires : tie.Need-clear-lines-requires
-clear-lines-requires c κs = search rules
+clear_lines-requires : tie.Need-clear_lines-requires
+clear_lines-requires c κs = search rules
 
-same_length : tie.Need-same-length
-same_length c = c.before.before.before.before.before.before.clear.auto.0
+shape_of-marks : tie.Need-shape_of-marks
+shape_of-marks c = c.clear.auto.0
 
-same-length-2 : tie.Need-same-length-2
-same-length-2 c = c.before.before.clear_lines.auto.0
+shape_of-lines : tie.Need-shape_of-lines
+shape_of-lines c = c.clear_lines.auto.0
 
 returns : tie.Need-returns
-returns c = (c.before.before.before.before.before.before.clear.ensures ∙ cleared_whole _ _ (omega arith), c.before.before.clear_lines.ensures)
+returns c = (c.clear.ensures ∙ cleared_whole _ _ (omega arith), c.clear_lines.ensures)
 
 pub clear_spec : {M : Type 1} → statement M
 clear_spec =
-    tie.close (tie.spec clear-requires clear-lines-requires same_length same-length-2 returns)
+    tie.close
+    (tie.spec
+    clear-requires
+    clear_lines-requires
+    shape_of-marks
+    shape_of-lines
+    returns)

@@ -9,64 +9,60 @@ use native.Mathlib.Omega.{arith}
 use Rattle.leb128.proofs.count.Statement.{statement}
 use Rattle.leb128.proofs.count.Tie as tie
 
-abbrev invariant-loop : tie.invariant-loop
-invariant-loop file room n₀ at₀ n at = Counting file room n at
+abbrev invariant-loop-at : tie.invariant-loop-at
+invariant-loop-at file room n₀ at₀ n at = Counting file room n at
 
-abbrev decreases-loop : tie.decreases-loop
-decreases-loop file room n₀ at₀ n at = length file - at
+abbrev decreases-loop-at : tie.decreases-loop-at
+decreases-loop-at file room n₀ at₀ n at = length file - at
 
-loop-holds : tie.Need-loop-init invariant-loop decreases-loop
-loop-holds c = count_start _ _
+loop-at-init : tie.Need-loop-at-init invariant-loop-at decreases-loop-at
+loop-at-init c = count_start _ _
 
-number-at-requires : tie.Need-number-at-requires invariant-loop decreases-loop
-number-at-requires c κs = search rules
+number_at-requires : tie.Need-number_at-requires invariant-loop-at decreases-loop-at
+number_at-requires c κs = search rules
 
-enum-known-next : tie.Need-enum-known-next invariant-loop decreases-loop
-enum-known-next c = search rules
+enum_known-next : tie.Need-enum_known-next invariant-loop-at decreases-loop-at
+enum_known-next c = search rules
 
-returns : tie.Need-returns invariant-loop decreases-loop
-returns c =
-    let l = c.before.before.before.before.before in
-    count_full _ _ _ _ l.before.loop.invariant l.loop-test.true _ _ (sym c.before.before.before.before.number_at.ensures ∙ c.before.before.next.given.1) (omega (arith, c.if1.true))
+returns-then-n-room : tie.Need-returns-then-n-room invariant-loop-at decreases-loop-at
+returns-then-n-room c =
+    count_full _ _ _ _ c.loop-at.invariant c.loop-at-test.true _ _ (sym c.number_at.ensures ∙ c.in-Is.is) (omega (arith, c.if-n-room.true))
 
-add-n : tie.Need-overflow-add-n invariant-loop decreases-loop
-add-n c = search rules
+overflow_add-n : tie.Need-overflow_add-n invariant-loop-at decreases-loop-at
+overflow_add-n c = search rules
 
-loop-less : tie.Need-loop-smaller invariant-loop decreases-loop
-loop-less c =
-    let l = c.before.before.before.before.before in
-    let e = sym c.before.before.before.before.number_at.ensures ∙ c.before.before.next.given.1 in
-    let o = onward _ 0 _ _ l.before.loop.invariant.few l.loop-test.true _ _ e in omega (arith, o.0, o.1, l.loop-test.true)
+loop-at-smaller : tie.Need-loop-at-smaller invariant-loop-at decreases-loop-at
+loop-at-smaller c =
+    let e = sym c.number_at.ensures ∙ c.in-Is.is in
+    let o = onward _ 0 _ _ c.loop-at.invariant.few c.loop-at-test.true _ _ e in omega (arith, o.0, o.1, c.loop-at-test.true)
 
-loop-again : tie.Need-loop-preserved invariant-loop decreases-loop
-loop-again c =
-    let l = c.before.before.before.before.before in
-    count_more _ _ _ _ l.before.loop.invariant l.loop-test.true _ _ (sym c.before.before.before.before.number_at.ensures ∙ c.before.before.next.given.1) (omega (arith, c.if1.false))
+loop-at-preserved : tie.Need-loop-at-preserved invariant-loop-at decreases-loop-at
+loop-at-preserved c =
+    count_more _ _ _ _ c.loop-at.invariant c.loop-at-test.true _ _ (sym c.number_at.ensures ∙ c.in-Is.is) (omega (arith, c.if-n-room.false))
 
-enum_told : tie.Need-enum-told invariant-loop decreases-loop
-enum_told c = search rules
+enum_told-1 : tie.Need-enum_told-1 invariant-loop-at decreases-loop-at
+enum_told-1 c = search rules
 
-returns-2 : tie.Need-returns-2 invariant-loop decreases-loop
-returns-2 c =
-    let l = c.before.before.before in
-    count_bad _ _ _ _ l.before.loop.invariant l.loop-test.true (sym c.before.before.number_at.ensures ∙ c.enum_told.given.1)
+returns-in-Bad : tie.Need-returns-in-Bad invariant-loop-at decreases-loop-at
+returns-in-Bad c =
+    count_bad _ _ _ _ c.loop-at.invariant c.loop-at-test.true (sym c.number_at.ensures ∙ c.in-Bad.is)
 
-returns-3 : tie.Need-returns-3 invariant-loop decreases-loop
-returns-3 c = count_done _ _ _ _ c.before.loop.invariant c.loop-test.false
+returns : tie.Need-returns invariant-loop-at decreases-loop-at
+returns c = count_done _ _ _ _ c.loop-at.invariant c.loop-at-test.false
 
 pub count_spec : {M : Type 1} → statement M
 count_spec =
     tie.close
     (tie.spec
-    invariant-loop
-    decreases-loop
-    loop-holds
-    number-at-requires
-    enum-known-next
-    returns
-    add-n
-    loop-less
-    loop-again
-    enum_told
-    returns-2
-    returns-3)
+    invariant-loop-at
+    decreases-loop-at
+    loop-at-init
+    number_at-requires
+    enum_known-next
+    returns-then-n-room
+    overflow_add-n
+    loop-at-smaller
+    loop-at-preserved
+    enum_told-1
+    returns-in-Bad
+    returns)

@@ -9,77 +9,72 @@ use native.Mathlib.Omega.{arith}
 use Rattle.leb128.proofs.fill.Statement.{statement}
 use Rattle.leb128.proofs.fill.Tie as tie
 
-abbrev invariant-loop : tie.invariant-loop
-invariant-loop file numbers₀ n₀ at₀ numbers n at = Filling file numbers₀ numbers n at
+abbrev invariant-loop-at : tie.invariant-loop-at
+invariant-loop-at file numbers₀ n₀ at₀ numbers n at = Filling file numbers₀ numbers n at
 
-abbrev decreases-loop : tie.decreases-loop
-decreases-loop file numbers₀ n₀ at₀ numbers n at = length file - at
+abbrev decreases-loop-at : tie.decreases-loop-at
+decreases-loop-at file numbers₀ n₀ at₀ numbers n at = length file - at
 
-loop-holds : tie.Need-loop-init invariant-loop decreases-loop
-loop-holds c = fill_start _ _ c.before.before.requires
+loop-at-init : tie.Need-loop-at-init invariant-loop-at decreases-loop-at
+loop-at-init c = fill_start _ _ c.requires
 
-number-at-requires : tie.Need-number-at-requires invariant-loop decreases-loop
-number-at-requires c κs = search rules
+number_at-requires : tie.Need-number_at-requires invariant-loop-at decreases-loop-at
+number_at-requires c κs = search rules
 
-enum-known-x : tie.Need-enum-known-x invariant-loop decreases-loop
-enum-known-x c = search rules
+enum_known-x : tie.Need-enum_known-x invariant-loop-at decreases-loop-at
+enum_known-x c = search rules
 
-mul-numbers : tie.Need-overflow-mul-numbers invariant-loop decreases-loop
-mul-numbers c =
-    let l = c.before.before.before.before in
-    let r = fill-room _ _ _ _ _ l.before.loop.invariant l.loop-test.true _ _ (sym c.before.before.before.number_at.ensures ∙ c.before.x.given.1) in omega (arith, r, l.before.loop.invariant.long)
+offset_bounds-numbers-n : tie.Need-offset_bounds-numbers-n invariant-loop-at decreases-loop-at
+offset_bounds-numbers-n c =
+    let r = fill-room _ _ _ _ _ c.loop-at.invariant c.loop-at-test.true _ _ (sym c.number_at.ensures ∙ c.in-Is.is) in omega (arith, r, c.loop-at.invariant.long)
 
-slice-write-numbers : tie.Need-slice-write-numbers invariant-loop decreases-loop
-slice-write-numbers c =
-    let l = c.before.before.before.before in
-    fill-room _ _ _ _ _ l.before.loop.invariant l.loop-test.true _ _ (sym c.before.before.before.number_at.ensures ∙ c.before.x.given.1)
+bounds-numbers-n : tie.Need-bounds-numbers-n invariant-loop-at decreases-loop-at
+bounds-numbers-n c =
+    fill-room _ _ _ _ _ c.loop-at.invariant c.loop-at-test.true _ _ (sym c.number_at.ensures ∙ c.in-Is.is)
 
-add-n : tie.Need-overflow-add-n invariant-loop decreases-loop
-add-n c = search rules
+overflow_add-n : tie.Need-overflow_add-n invariant-loop-at decreases-loop-at
+overflow_add-n c = search rules
 
-loop-less : tie.Need-loop-smaller invariant-loop decreases-loop
-loop-less c =
-    let l = c.before.before.before.before in
-    let o = onward _ 0 _ _ l.before.loop.invariant.few l.loop-test.true _ _ (sym c.before.before.before.number_at.ensures ∙ c.before.x.given.1) in omega (arith, o.0, o.1, l.loop-test.true)
+loop-at-smaller : tie.Need-loop-at-smaller invariant-loop-at decreases-loop-at
+loop-at-smaller c =
+    let o = onward _ 0 _ _ c.loop-at.invariant.few c.loop-at-test.true _ _ (sym c.number_at.ensures ∙ c.in-Is.is) in omega (arith, o.0, o.1, c.loop-at-test.true)
 
-loop-again : tie.Need-loop-preserved invariant-loop decreases-loop
-loop-again c =
-    let l = c.before.before.before.before in
-    fill_more _ _ _ _ _ l.before.loop.invariant l.loop-test.true _ _ (sym c.before.before.before.number_at.ensures ∙ c.before.x.given.1)
+loop-at-preserved : tie.Need-loop-at-preserved invariant-loop-at decreases-loop-at
+loop-at-preserved c =
+    fill_more _ _ _ _ _ c.loop-at.invariant c.loop-at-test.true _ _ (sym c.number_at.ensures ∙ c.in-Is.is)
 
-enum_told : tie.Need-enum-told invariant-loop decreases-loop
-enum_told c = search rules
+enum_told-1 : tie.Need-enum_told-1 invariant-loop-at decreases-loop-at
+enum_told-1 c = search rules
 
-same_length : tie.Need-same-length invariant-loop decreases-loop
-same_length c = search rules
+shape_of-numbers-in-Bad : tie.Need-shape_of-numbers-in-Bad invariant-loop-at decreases-loop-at
+shape_of-numbers-in-Bad c = search rules
 
-returns : tie.Need-returns invariant-loop decreases-loop
-returns c =
-    let l = c.before.before.before in
-    absurd (never_bad _ _ _ _ _ l.before.loop.invariant l.loop-test.true (sym c.before.before.number_at.ensures ∙ c.enum_told.given.1))
+returns-in-Bad : tie.Need-returns-in-Bad invariant-loop-at decreases-loop-at
+returns-in-Bad c =
+    absurd (never_bad _ _ _ _ _ c.loop-at.invariant c.loop-at-test.true (sym c.number_at.ensures ∙ c.in-Bad.is))
 
-same-length-2 : tie.Need-same-length-2 invariant-loop decreases-loop
-same-length-2 c = search rules
+shape_of-numbers : tie.Need-shape_of-numbers invariant-loop-at decreases-loop-at
+shape_of-numbers c = search rules
 
-returns-2 : tie.Need-returns-2 invariant-loop decreases-loop
-returns-2 c = fill_done _ _ _ _ _ c.before.loop.invariant c.loop-test.false
+returns : tie.Need-returns invariant-loop-at decreases-loop-at
+returns c = fill_done _ _ _ _ _ c.loop-at.invariant c.loop-at-test.false
 
 pub fill_spec : {M : Type 1} → statement M
 fill_spec =
     tie.close
     (tie.spec
-    invariant-loop
-    decreases-loop
-    loop-holds
-    number-at-requires
-    enum-known-x
-    mul-numbers
-    slice-write-numbers
-    add-n
-    loop-less
-    loop-again
-    enum_told
-    same_length
-    returns
-    same-length-2
-    returns-2)
+    invariant-loop-at
+    decreases-loop-at
+    loop-at-init
+    number_at-requires
+    enum_known-x
+    offset_bounds-numbers-n
+    bounds-numbers-n
+    overflow_add-n
+    loop-at-smaller
+    loop-at-preserved
+    enum_told-1
+    shape_of-numbers-in-Bad
+    returns-in-Bad
+    shape_of-numbers
+    returns)

@@ -4,25 +4,31 @@ use borrow.Author.Rules.{rules}
 use Rattle.leb128.proofs.number_at.Statement.{statement}
 use Rattle.leb128.proofs.number_at.Tie as tie
 
-shared-slice-read-first : tie.Need-shared-slice-read-first
-shared-slice-read-first c = search rules
+bounds-file-at : tie.Need-bounds-file-at
+bounds-file-at c = search rules
 
-cast-t7 : tie.Need-overflow-cast-t7
-cast-t7 c = search rules
+overflow_cast-result : tie.Need-overflow_cast-result
+overflow_cast-result c = search rules
 
-add-t8 : tie.Need-overflow-add-t8
-add-t8 c = search rules
+overflow_add-result : tie.Need-overflow_add-result
+overflow_add-result c = search rules
+
+returns-then-first-lt128 : tie.Need-returns-then-first-lt128
+returns-then-first-lt128 c = number_short _ _ c.requires c.if-first-lt128.true
+
+longer_at-requires : tie.Need-longer_at-requires
+longer_at-requires c κs = search rules
 
 returns : tie.Need-returns
-returns c = number_short _ _ c.before.before.before.requires c.if1.true
+returns c = search rules
 
-longer-at-requires : tie.Need-longer-at-requires
-longer-at-requires c κs = search rules
-
-returns-2 : tie.Need-returns-2
-returns-2 c = search rules
-
-pub number-at-spec : {M : Type 1} → statement M
-number-at-spec =
+pub number_at_spec : {M : Type 1} → statement M
+number_at_spec =
     tie.close
-    (tie.spec shared-slice-read-first cast-t7 add-t8 returns longer-at-requires returns-2)
+    (tie.spec
+    bounds-file-at
+    overflow_cast-result
+    overflow_add-result
+    returns-then-first-lt128
+    longer_at-requires
+    returns)

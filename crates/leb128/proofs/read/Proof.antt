@@ -5,28 +5,35 @@ use borrow.Author.Rules.{rules}
 use Rattle.leb128.proofs.read.Statement.{statement}
 use Rattle.leb128.proofs.read.Tie as tie
 
-count-requires : tie.Need-count-requires
-count-requires c κs = search rules
+count-answer-requires : tie.Need-count-answer-requires
+count-answer-requires c κs = search rules
 
-enum_told : tie.Need-enum-told
-enum_told c = search rules
+enum_told-1 : tie.Need-enum_told-1
+enum_told-1 c = search rules
 
 fill-requires : tie.Need-fill-requires
-fill-requires c κs = counted _ _ (sym c.before.before.before.count.ensures ∙ c.before.enum_told.given.1)
+fill-requires c κs = counted _ _ (sym c.count-answer.ensures ∙ c.in-Numbers.is)
 
-enum-told-2 : tie.Need-enum-told-2
-enum-told-2 c = search rules
+enum_told-in-Refused : tie.Need-enum_told-in-Refused
+enum_told-in-Refused c = search rules
 
-same_length : tie.Need-same-length
-same_length c = search rules
+shape_of-numbers : tie.Need-shape_of-numbers
+shape_of-numbers c = search rules
 
-returns : tie.Need-returns
-returns c = search rules
+returns-in-Numbers : tie.Need-returns-in-Numbers
+returns-in-Numbers c = search rules
 
-returns-2 : tie.Need-returns-2
-returns-2 c = record { answers = c.before.before.count.ensures; leaves = kept _ _ _ _ (sym c.before.before.count.ensures ∙ c.enum-told2.given.1) }
+returns-in-Refused : tie.Need-returns-in-Refused
+returns-in-Refused c = record { answers = c.count-answer.ensures; leaves = kept _ _ _ _ (sym c.count-answer.ensures ∙ c.in-Refused.is) }
 
 pub read_spec : {M : Type 1} → statement M
 read_spec =
     tie.close
-    (tie.spec count-requires enum_told fill-requires enum-told-2 same_length returns returns-2)
+    (tie.spec
+    count-answer-requires
+    enum_told-1
+    fill-requires
+    enum_told-in-Refused
+    shape_of-numbers
+    returns-in-Numbers
+    returns-in-Refused)

@@ -6,135 +6,135 @@ use borrow.Author.Rules.{rules}
 use Rattle.line_judgement.proofs.justify.Statement.{statement}
 use Rattle.line_judgement.proofs.justify.Tie as tie
 
-mul-p : tie.Need-overflow-mul-p
-mul-p c = search rules
+overflow_mul-p : tie.Need-overflow_mul-p
+overflow_mul-p c = search rules
 
-fact-at-requires : tie.Need-fact-at-requires
-fact-at-requires c κs = search rules
+fact_at-fact-requires : tie.Need-fact_at-fact-requires
+fact_at-fact-requires c κs = search rules
 
-add_wide : tie.Need-overflow-add-wide
-add_wide c = search rules
+overflow_add-p : tie.Need-overflow_add-p
+overflow_add-p c = search rules
 
-mul_wide : tie.Need-overflow-mul-wide
-mul_wide c = search rules
+offset_bounds-lines-p : tie.Need-offset_bounds-lines-p
+offset_bounds-lines-p c = search rules
 
-shared-slice-read-wide : tie.Need-shared-slice-read-wide
-shared-slice-read-wide c = search rules
+bounds-lines-p : tie.Need-bounds-lines-p
+bounds-lines-p c = search rules
 
-wide-requires : tie.Need-wide-requires
-wide-requires c κs = search rules
+wide-rule-requires : tie.Need-wide-rule-requires
+wide-rule-requires c κs = search rules
 
-is-marked-requires : tie.Need-is-marked-requires
-is-marked-requires c κs = let s = c.before.before.before.before.before.before.before.before.before in (s.requires.0.loaded, (line_good _ _ _ s.requires.1.1.2 _ c.before.before.before.fact_at.ensures, s.requires.1.0.wide))
+is_marked-requires : tie.Need-is_marked-requires
+is_marked-requires c κs = (c.requires.0.loaded, (line_good _ _ _ c.requires.1.1.2 _ c.fact_at-fact.ensures, c.requires.1.0.wide))
 
-returns : tie.Need-returns
-returns c = let s = c.before.before.before.before.before.before.before.before.before.before.before in start_good _ _ _ _ _ c.before.before.before.before.before.fact_at.ensures _ c.before.before.before.wide.ensures c.before.before.if1.true _ s.requires.1.0 _ c.before.is-marked.ensures _ s.requires.1.1.3 c.if2.true
+returns-then-is_marked : tie.Need-returns-then-is_marked
+returns-then-is_marked c = start_good _ _ _ _ _ c.fact_at-fact.ensures _ c.wide-rule.ensures c.if-rule-eq0.true _ c.requires.1.0 _ c.is_marked.ensures _ c.requires.1.1.3 c.if-is_marked.true
 
-returns-2 : tie.Need-returns-2
-returns-2 c = let s = c.before.before.before.before.before.before.before.before.before.before.before in start-bad _ _ _ _ _ c.before.before.before.before.before.fact_at.ensures _ c.before.before.before.wide.ensures c.before.before.if1.true _ s.requires.1.0 _ c.before.is-marked.ensures c.if2.false
+returns-then-rule-eq0 : tie.Need-returns-then-rule-eq0
+returns-then-rule-eq0 c = start-bad _ _ _ _ _ c.fact_at-fact.ensures _ c.wide-rule.ensures c.if-rule-eq0.true _ c.requires.1.0 _ c.is_marked.ensures c.if-is_marked.false
 
-add-wide-2 : tie.Need-overflow-add-wide-2
-add-wide-2 c = search rules
+overflow_add-p-2 : tie.Need-overflow_add-p-2
+overflow_add-p-2 c = search rules
 
-mul-wide-2 : tie.Need-overflow-mul-wide-2
-mul-wide-2 c = search rules
+offset_bounds-lines-p-2 : tie.Need-offset_bounds-lines-p-2
+offset_bounds-lines-p-2 c = search rules
 
-shared-slice-read-wide-2 : tie.Need-shared-slice-read-wide-2
-shared-slice-read-wide-2 c = search rules
+bounds-lines-p-2 : tie.Need-bounds-lines-p-2
+bounds-lines-p-2 c = search rules
 
-wide-requires-2 : tie.Need-wide-requires-2
-wide-requires-2 c κs = search rules
+wide-because-requires : tie.Need-wide-because-requires
+wide-because-requires c κs = search rules
 
-add-wide-3 : tie.Need-overflow-add-wide-3
-add-wide-3 c = search rules
+overflow_add-p-3 : tie.Need-overflow_add-p-3
+overflow_add-p-3 c = search rules
 
-mul-wide-3 : tie.Need-overflow-mul-wide-3
-mul-wide-3 c = search rules
+offset_bounds-lines-p-3 : tie.Need-offset_bounds-lines-p-3
+offset_bounds-lines-p-3 c = search rules
 
-shared-slice-read-wide-3 : tie.Need-shared-slice-read-wide-3
-shared-slice-read-wide-3 c = search rules
+bounds-lines-p-3 : tie.Need-bounds-lines-p-3
+bounds-lines-p-3 c = search rules
 
-wide-requires-3 : tie.Need-wide-requires-3
-wide-requires-3 c κs = search rules
+wide-and-requires : tie.Need-wide-and-requires
+wide-and-requires c κs = search rules
 
-begin-requires : tie.Need-begin-requires
-begin-requires c κs = search rules
+begin-cursor-requires : tie.Need-begin-cursor-requires
+begin-cursor-requires c κs = search rules
 
-sub-fact-at : tie.Need-overflow-sub-fact-at
-sub-fact-at c = omega (arith, (because_earlier _ _ _ c.before.before.before.before.before.before.before.before.before.before.before.before.before.before.requires.1.1.2 _ _ c.before.before.before.before.before.before.wide.ensures c.before.before.before.wide2.ensures c.before.before.before.before.before.if1.false).0)
+overflow_sub-because : tie.Need-overflow_sub-because
+overflow_sub-because c = omega (arith, (because_earlier _ _ _ c.requires.1.1.2 _ _ c.wide-rule.ensures c.wide-because.ensures c.if-rule-eq0.false).0)
 
-fact-at-requires-2 : tie.Need-fact-at-requires-2
-fact-at-requires-2 c κs = earlier_inside c.before.before.before.before.before.before.before.before.before.before.before.before.before.before.args.lines.now _ _ (because_earlier _ _ _ c.before.before.before.before.before.before.before.before.before.before.before.before.before.before.requires.1.1.2 _ _ c.before.before.before.before.before.before.wide.ensures c.before.before.before.wide2.ensures c.before.before.before.before.before.if1.false) c.before.before.before.before.before.before.before.before.before.before.before.before.before.before.requires.1.1.0
+fact_at-premise-requires : tie.Need-fact_at-premise-requires
+fact_at-premise-requires c κs = earlier_inside c.args.lines.now _ _ (because_earlier _ _ _ c.requires.1.1.2 _ _ c.wide-rule.ensures c.wide-because.ensures c.if-rule-eq0.false) c.requires.1.1.0
 
-sub-fact-at-2 : tie.Need-overflow-sub-fact-at-2
-sub-fact-at-2 c = omega (arith, (and_earlier _ _ _ c.before.before.before.before.before.before.before.before.before.before.before.before.before.before.before.before.requires.1.1.2 _ _ c.before.before.before.before.before.before.before.before.wide.ensures c.before.before.before.before.before.wide2.ensures c.before.before.before.before.before.before.before.if1.false _ c.before.before.before.wide3.ensures c.if3.true).0)
+overflow_sub-and : tie.Need-overflow_sub-and
+overflow_sub-and c = omega (arith, (and_earlier _ _ _ c.requires.1.1.2 _ _ c.wide-rule.ensures c.wide-because.ensures c.if-rule-eq0.false _ c.wide-and.ensures c.if-rule-eq1.true).0)
 
-fact-at-requires-3 : tie.Need-fact-at-requires-3
-fact-at-requires-3 c κs = earlier_inside c.before.before.before.before.before.before.before.before.before.before.before.before.before.before.before.before.args.lines.now _ _ (and_earlier _ _ _ c.before.before.before.before.before.before.before.before.before.before.before.before.before.before.before.before.requires.1.1.2 _ _ c.before.before.before.before.before.before.before.before.wide.ensures c.before.before.before.before.before.wide2.ensures c.before.before.before.before.before.before.before.if1.false _ c.before.before.before.wide3.ensures c.if3.true) c.before.before.before.before.before.before.before.before.before.before.before.before.before.before.before.before.requires.1.1.0
+fact_at-other-requires : tie.Need-fact_at-other-requires
+fact_at-other-requires c κs = earlier_inside c.args.lines.now _ _ (and_earlier _ _ _ c.requires.1.1.2 _ _ c.wide-rule.ensures c.wide-because.ensures c.if-rule-eq0.false _ c.wide-and.ensures c.if-rule-eq1.true) c.requires.1.1.0
 
 joins-requires : tie.Need-joins-requires
-joins-requires c κs = let s = c.before.before.before.before.before.before.before.before.before.before.before.before.before.before.before.before.before in (s.requires.0, (named_good _ _ _ _ _ s.requires.1.1.1 (because_earlier _ _ _ c.before.before.before.before.before.before.before.before.before.before.before.before.before.before.before.before.before.requires.1.1.2 _ _ c.before.before.before.before.before.before.before.before.before.wide.ensures c.before.before.before.before.before.before.wide2.ensures c.before.before.before.before.before.before.before.before.if1.false) _ c.before.before.fact-at2.ensures, named_good _ _ _ _ _ s.requires.1.1.1 (and_earlier _ _ _ c.before.before.before.before.before.before.before.before.before.before.before.before.before.before.before.before.before.requires.1.1.2 _ _ c.before.before.before.before.before.before.before.before.before.wide.ensures c.before.before.before.before.before.before.wide2.ensures c.before.before.before.before.before.before.before.before.if1.false _ c.before.before.before.before.wide3.ensures c.before.if3.true) _ c.fact-at3.ensures))
+joins-requires c κs = (c.requires.0, (named_good _ _ _ _ _ c.requires.1.1.1 (because_earlier _ _ _ c.requires.1.1.2 _ _ c.wide-rule.ensures c.wide-because.ensures c.if-rule-eq0.false) _ c.fact_at-premise.ensures, named_good _ _ _ _ _ c.requires.1.1.1 (and_earlier _ _ _ c.requires.1.1.2 _ _ c.wide-rule.ensures c.wide-because.ensures c.if-rule-eq0.false _ c.wide-and.ensures c.if-rule-eq1.true) _ c.fact_at-other.ensures))
 
-enum_told : tie.Need-enum-told
-enum_told c = search rules
+enum_told-1 : tie.Need-enum_told-1
+enum_told-1 c = search rules
 
-enum-known-i : tie.Need-enum-known-i
-enum-known-i c = search rules
+enum_known-i : tie.Need-enum_known-i
+enum_known-i c = search rules
 
 follows-requires : tie.Need-follows-requires
-follows-requires c κs = let s = c.before.before.before.before.before.before.before.before.before.before.before.before.before.before.before.before in (s.requires.0, (named_good _ _ _ _ _ s.requires.1.1.1 (because_earlier _ _ _ c.before.before.before.before.before.before.before.before.before.before.before.before.before.before.before.before.requires.1.1.2 _ _ c.before.before.before.before.before.before.before.before.wide.ensures c.before.before.before.before.before.wide2.ensures c.before.before.before.before.before.before.before.if1.false) _ c.before.fact-at2.ensures, begins_placed _ _ _ _ _ _ _ _ (c.before.before.begin.ensures _) s.requires.1.1.3 c.before.before.before.before.before.before.before.if1.false c.before.fact-at2.ensures))
+follows-requires c κs = (c.requires.0, (named_good _ _ _ _ _ c.requires.1.1.1 (because_earlier _ _ _ c.requires.1.1.2 _ _ c.wide-rule.ensures c.wide-because.ensures c.if-rule-eq0.false) _ c.fact_at-premise.ensures, begins_placed _ _ _ _ _ _ _ _ (c.begin-cursor.ensures _) c.requires.1.1.3 c.if-rule-eq0.false c.fact_at-premise.ensures))
 
-enum-told-2 : tie.Need-enum-told-2
-enum-told-2 c = search rules
+enum_told-in-Unjustified : tie.Need-enum_told-in-Unjustified
+enum_told-in-Unjustified c = search rules
 
-enum-known-next : tie.Need-enum-known-next
-enum-known-next c = search rules
+enum_known-next : tie.Need-enum_known-next
+enum_known-next c = search rules
 
-returns-3 : tie.Need-returns-3
-returns-3 c = two-bad _ _ _ _ _ c.before.before.before.before.before.before.before.before.before.before.before.before.before.before.fact_at.ensures _ c.before.before.before.before.before.before.before.before.before.before.before.before.wide.ensures c.before.before.before.before.before.before.before.before.before.before.before.if1.false _ c.before.before.before.before.before.before.before.before.before.wide2.ensures _ c.before.before.before.before.before.fact-at2.ensures c.before.before.before.before.if3.true _ c.before.before.before.before.before.before.before.wide3.ensures _ c.before.before.before.fact-at3.ensures _ c.before.before.joins.ensures c.enum_told.given.1
+returns-in-Nowhere : tie.Need-returns-in-Nowhere
+returns-in-Nowhere c = two-bad _ _ _ _ _ c.fact_at-fact.ensures _ c.wide-rule.ensures c.if-rule-eq0.false _ c.wide-because.ensures _ c.fact_at-premise.ensures c.if-rule-eq1.true _ c.wide-and.ensures _ c.fact_at-other.ensures _ c.joins.ensures c.in-Nowhere.is
 
-returns-4 : tie.Need-returns-4
-returns-4 c = two_good _ _ _ _ _ c.before.before.before.before.before.before.before.before.before.before.before.before.before.before.before.fact_at.ensures _ c.before.before.before.before.before.before.before.before.before.before.before.before.before.wide.ensures c.before.before.before.before.before.before.before.before.before.before.before.before.if1.false _ c.before.before.before.before.before.before.before.before.before.before.wide2.ensures _ c.before.before.before.before.before.before.fact-at2.ensures c.before.before.before.before.before.if3.true _ c.before.before.before.before.before.before.before.before.wide3.ensures _ c.before.before.before.before.fact-at3.ensures _ _ c.before.before.before.joins.ensures c.before.i.given.1 _ refl
+returns-in-At : tie.Need-returns-in-At
+returns-in-At c = two_good _ _ _ _ _ c.fact_at-fact.ensures _ c.wide-rule.ensures c.if-rule-eq0.false _ c.wide-because.ensures _ c.fact_at-premise.ensures c.if-rule-eq1.true _ c.wide-and.ensures _ c.fact_at-other.ensures _ _ c.joins.ensures c.in-At.is _ refl
 
-returns-5 : tie.Need-returns-5
-returns-5 c = one-bad _ _ _ _ _ c.before.before.before.before.before.before.before.before.before.before.before.before.before.fact_at.ensures _ c.before.before.before.before.before.before.before.before.before.before.before.wide.ensures c.before.before.before.before.before.before.before.before.before.before.if1.false _ c.before.before.before.before.before.before.before.before.wide2.ensures _ c.before.before.before.before.fact-at2.ensures c.before.before.before.if3.false _ c.before.before.follows.ensures c.enum-told2.given.1
+returns-in-Unjustified : tie.Need-returns-in-Unjustified
+returns-in-Unjustified c = one-bad _ _ _ _ _ c.fact_at-fact.ensures _ c.wide-rule.ensures c.if-rule-eq0.false _ c.wide-because.ensures _ c.fact_at-premise.ensures c.if-rule-eq1.false _ c.follows.ensures c.in-Unjustified.is
 
-returns-6 : tie.Need-returns-6
-returns-6 c = one-good _ _ _ _ _ c.before.before.before.before.before.before.before.before.before.before.before.before.before.before.fact_at.ensures _ c.before.before.before.before.before.before.before.before.before.before.before.before.wide.ensures c.before.before.before.before.before.before.before.before.before.before.before.if1.false _ c.before.before.before.before.before.before.before.before.before.wide2.ensures _ c.before.before.before.before.before.fact-at2.ensures c.before.before.before.before.if3.false _ _ c.before.before.before.follows.ensures c.before.next.given.1 _ refl refl refl
+returns-in-Justified : tie.Need-returns-in-Justified
+returns-in-Justified c = one-good _ _ _ _ _ c.fact_at-fact.ensures _ c.wide-rule.ensures c.if-rule-eq0.false _ c.wide-because.ensures _ c.fact_at-premise.ensures c.if-rule-eq1.false _ _ c.follows.ensures c.in-Justified.is _ refl refl refl
 
-pub justify-spec : {M : Type 1} → statement M
-justify-spec =
+pub justify_spec : {M : Type 1} → statement M
+justify_spec =
     tie.close
     (tie.spec
-    mul-p
-    fact-at-requires
-    add_wide
-    mul_wide
-    shared-slice-read-wide
-    wide-requires
-    is-marked-requires
-    returns
-    returns-2
-    add-wide-2
-    mul-wide-2
-    shared-slice-read-wide-2
-    wide-requires-2
-    add-wide-3
-    mul-wide-3
-    shared-slice-read-wide-3
-    wide-requires-3
-    begin-requires
-    sub-fact-at
-    fact-at-requires-2
-    sub-fact-at-2
-    fact-at-requires-3
+    overflow_mul-p
+    fact_at-fact-requires
+    overflow_add-p
+    offset_bounds-lines-p
+    bounds-lines-p
+    wide-rule-requires
+    is_marked-requires
+    returns-then-is_marked
+    returns-then-rule-eq0
+    overflow_add-p-2
+    offset_bounds-lines-p-2
+    bounds-lines-p-2
+    wide-because-requires
+    overflow_add-p-3
+    offset_bounds-lines-p-3
+    bounds-lines-p-3
+    wide-and-requires
+    begin-cursor-requires
+    overflow_sub-because
+    fact_at-premise-requires
+    overflow_sub-and
+    fact_at-other-requires
     joins-requires
-    enum_told
-    enum-known-i
+    enum_told-1
+    enum_known-i
     follows-requires
-    enum-told-2
-    enum-known-next
-    returns-3
-    returns-4
-    returns-5
-    returns-6)
+    enum_told-in-Unjustified
+    enum_known-next
+    returns-in-Nowhere
+    returns-in-At
+    returns-in-Unjustified
+    returns-in-Justified)

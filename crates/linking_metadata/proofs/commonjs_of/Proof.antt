@@ -7,23 +7,27 @@ use Rattle.linking_metadata.proofs.FillingUp.{namespaces_fit}
 use Rattle.linking_metadata.proofs.commonjs_of.Statement.{statement}
 use Rattle.linking_metadata.proofs.commonjs_of.Tie as tie
 
-section-requires : tie.Need-section-requires
-section-requires c κs = inside c.before.before.requires.0.laid 8 (omega arith)
+section-namespaces-requires : tie.Need-section-namespaces-requires
+section-namespaces-requires c κs = inside c.requires.0.laid 8 (omega arith)
 
-mul-result : tie.Need-overflow-mul-result
-mul-result c = record { fits = omega (arith, c.before.before.before.requires.1, c.before.before.before.requires.0.loaded.few_symbols) }
+offset_bounds-namespaces-i : tie.Need-offset_bounds-namespaces-i
+offset_bounds-namespaces-i c = record { fits = omega (arith, c.requires.1, c.requires.0.loaded.few_symbols) }
 
-shared-slice-read-result : tie.Need-shared-slice-read-result
+bounds-namespaces-i : tie.Need-bounds-namespaces-i
 unfolding graph_in
-shared-slice-read-result c = omega (arith, ap length c.before.section.ensures, c.before.before.before.before.requires.0.of_namespaces.long, c.before.before.before.before.requires.1)
+bounds-namespaces-i c = omega (arith, ap length c.section-namespaces.ensures, c.requires.0.of_namespaces.long, c.requires.1)
 
 returns : tie.Need-returns
 unfolding graph_in
 returns c =
-    let s = c.before.before.before.before in
-    let e = ap (λ t. get_or t s.args.s.0 0) c.before.section.ensures ∙ s.requires.0.of_namespaces.has s.args.s.0 s.requires.1 in
-    (e, omega (arith, e, namespaces_fit s.requires.0.loaded s.args.s.0 s.requires.1))
+    let e = ap (λ t. get_or t c.args.s.0 0) c.section-namespaces.ensures ∙ c.requires.0.of_namespaces.has c.args.s.0 c.requires.1 in
+    (e, omega (arith, e, namespaces_fit c.requires.0.loaded c.args.s.0 c.requires.1))
 
-pub commonjs-of-spec : {M : Type 1} → statement M
-commonjs-of-spec =
-    tie.close (tie.spec section-requires mul-result shared-slice-read-result returns)
+pub commonjs_of_spec : {M : Type 1} → statement M
+commonjs_of_spec =
+    tie.close
+    (tie.spec
+    section-namespaces-requires
+    offset_bounds-namespaces-i
+    bounds-namespaces-i
+    returns)

@@ -16,107 +16,107 @@ use Rattle.linking_metadata.proofs.Entering.{by_rows, by_end, Turn, turn_own, tu
 use Rattle.linking_metadata.proofs.enter_namespaces.Statement.{statement}
 use Rattle.linking_metadata.proofs.enter_namespaces.Tie as tie
 
-abbrev invariant-loop : tie.invariant-loop
-invariant-loop numbers tables₀ m base count k₀ tables k = Kept (start_of (header_in numbers) at_namespaces) tables₀ tables × (k ≤ count) × ((s : ℕ) → s < (header_in numbers).symbols → by_rows (owner_in (symbol_of (graph_in numbers) s)) m.0 s (drop k (common_js_namespaces (module_of (graph_in numbers) m.0))) (get_or (namespaces_in tables) s 0) ≡ entered (graph_in numbers) m.0 s (get_or (namespaces_in tables₀) s 0))
+abbrev invariant-loop-k : tie.invariant-loop-k
+invariant-loop-k numbers tables₀ m base count k₀ tables k = Kept (start_of (header_in numbers) at_namespaces) tables₀ tables × (k ≤ count) × ((s : ℕ) → s < (header_in numbers).symbols → by_rows (owner_in (symbol_of (graph_in numbers) s)) m.0 s (drop k (common_js_namespaces (module_of (graph_in numbers) m.0))) (get_or (namespaces_in tables) s 0) ≡ entered (graph_in numbers) m.0 s (get_or (namespaces_in tables₀) s 0))
 
-abbrev decreases-loop : tie.decreases-loop
-decreases-loop numbers tables₀ m base count k₀ tables k = count - k
+abbrev decreases-loop-k : tie.decreases-loop-k
+decreases-loop-k numbers tables₀ m base count k₀ tables k = count - k
 
 -- the sections in front are as they were
-loaded : (c : tie.In-loop invariant-loop decreases-loop) → Loaded c.before.before.before.before.before.before.before.args.numbers.now c.before.loop.tables
-loaded c = loaded_kept c.before.before.before.before.before.before.before.requires.0 8 (omega arith) (laid_less (omega arith) c.before.before.before.before.before.before.before.requires.1.0) c.before.loop.invariant.0
+loaded : (c : tie.In-loop-k invariant-loop-k decreases-loop-k) → Loaded c.args.numbers.now c.loop-k.tables
+loaded c = loaded_kept c.requires.0 8 (omega arith) (laid_less (omega arith) c.requires.1.0) c.loop-k.invariant.0
 
-laid : (c : tie.In-loop invariant-loop decreases-loop) → Laid (header_in c.before.before.before.before.before.before.before.args.numbers.now) all_sections c.before.loop.tables
-laid c = laid_kept c.before.before.before.before.before.before.before.requires.1.0 8 (omega arith) c.before.loop.invariant.0
+laid : (c : tie.In-loop-k invariant-loop-k decreases-loop-k) → Laid (header_in c.args.numbers.now) all_sections c.loop-k.tables
+laid c = laid_kept c.requires.1.0 8 (omega arith) c.loop-k.invariant.0
 
 -- row k is one of the module's
-inside : (c : tie.In-loop invariant-loop decreases-loop) → c.before.loop.k < length (common_js_namespaces (module_of (graph_in c.before.before.before.before.before.before.before.args.numbers.now) c.before.before.before.before.before.before.before.args.m.0))
-inside c = omega (arith, c.loop-test.true, c.before.before.commonjs-namespace-count.ensures.0)
+inside : (c : tie.In-loop-k invariant-loop-k decreases-loop-k) → c.loop-k.k < length (common_js_namespaces (module_of (graph_in c.args.numbers.now) c.args.m.0))
+inside c = omega (arith, c.loop-k-test.true, c.commonjs_namespace_count-count.ensures.0)
 
 -- its symbol's word is one of the section
-fits : (c : tie.After-commonjs-namespace-symbol invariant-loop decreases-loop) → get_or c.before.before.before.before.before.before.before.before.before.args.tables.now 8 0 + c.commonjs-namespace-symbol.result.0 < length c.before.before.before.loop.tables
+fits : (c : tie.After-commonjs_namespace_symbol-s invariant-loop-k decreases-loop-k) → get_or c.args.tables.now 8 0 + c.commonjs_namespace_symbol-s.result.0 < length c.loop-k.tables
 unfolding sizes
-fits c = omega (arith, c.before.before.before.before.before.before.before.before.before.requires.1.0.starts 8 (omega arith), ends_inside (laid c.before.before) 8 (omega arith), c.commonjs-namespace-symbol.ensures.1)
+fits c = omega (arith, c.requires.1.0.starts 8 (omega arith), ends_inside (laid c.before) 8 (omega arith), c.commonjs_namespace_symbol-s.ensures.1)
 
-turned : (c : tie.Joined1 invariant-loop decreases-loop) → Turn (λ s. owner_in (symbol_of (graph_in c.before.before.before.before.before.before.before.before.before.before.before.before.before.before.args.numbers.now) s)) c.before.before.before.before.before.before.before.before.before.before.before.before.before.before.args.m.0 (common_js_namespaces (module_of (graph_in c.before.before.before.before.before.before.before.before.before.before.before.before.before.before.args.numbers.now) c.before.before.before.before.before.before.before.before.before.before.before.before.before.before.args.m.0)) c.before.before.before.before.before.before.before.before.loop.k (header_in c.before.before.before.before.before.before.before.before.before.before.before.before.before.before.args.numbers.now) c.before.before.before.before.before.before.before.before.loop.tables c.if1.tables
+turned : (c : tie.Joined-owner-m invariant-loop-k decreases-loop-k) → Turn (λ s. owner_in (symbol_of (graph_in c.args.numbers.now) s)) c.args.m.0 (common_js_namespaces (module_of (graph_in c.args.numbers.now) c.args.m.0)) c.loop-k.k (header_in c.args.numbers.now) c.loop-k.tables c.if-owner-m.tables
 turned c =
-    let o = c.before.before.before.owner.ensures.0 in
-    let y = c.before.before.before.before.before.commonjs-namespace-symbol.ensures in
+    let o = c.owner-owner.ensures.0 in
+    let y = c.commonjs_namespace_symbol-s.ensures in
     ⊎_elim
-    (λ w. turn_own _ _ _ _ (inside c.before.before.before.before.before.before.before) _ _ _ _ y.0 (laid c.before.before.before.before.before.before.before) _ (c.before.before.before.before.before.before.before.before.before.before.before.before.before.before.requires.1.0.starts 8 (omega arith)) y.1 _ w.2.ensures.0 (sym o ∙ w.0.taken) w.5)
-    (λ w. turn_other _ _ _ _ (inside c.before.before.before.before.before.before.before) _ _ _ _ y.0 (λ z. w.0.left (o ∙ z)) w.1)
-    c.if1.branch
+    (λ w. turn_own _ _ _ _ (inside c.before.before.before.before.before) _ _ _ _ y.0 (laid c.before.before.before.before.before) _ (c.requires.1.0.starts 8 (omega arith)) y.1 _ w.2.ensures.0 (sym o ∙ w.0.taken) w.5)
+    (λ w. turn_other _ _ _ _ (inside c.before.before.before.before.before) _ _ _ _ y.0 (λ z. w.0.left (o ∙ z)) w.1)
+    c.if-owner-m.branch
 
-slice-read-base : tie.Need-slice-read-base invariant-loop decreases-loop
-slice-read-base c = word_inside c.before.before.before.requires.1.0 8 (omega arith)
+bounds-tables-8 : tie.Need-bounds-tables-8 invariant-loop-k decreases-loop-k
+bounds-tables-8 c = word_inside c.requires.1.0 8 (omega arith)
 
-commonjs-namespace-count-requires : tie.Need-commonjs-namespace-count-requires invariant-loop decreases-loop
-commonjs-namespace-count-requires c κs = (c.before.before.before.before.requires.0, c.before.before.before.before.requires.1.1)
+commonjs_namespace_count-count-requires : tie.Need-commonjs_namespace_count-count-requires invariant-loop-k decreases-loop-k
+commonjs_namespace_count-count-requires c κs = (c.requires.0, c.requires.1.1)
 
-loop-holds : tie.Need-loop-init invariant-loop decreases-loop
+loop-k-init : tie.Need-loop-k-init invariant-loop-k decreases-loop-k
 unfolding by_rows entered
-loop-holds c = (kept_none, omega arith, λ s l. refl)
+loop-k-init c = (kept_none, omega arith, λ s l. refl)
 
-commonjs-namespace-symbol-requires : tie.Need-commonjs-namespace-symbol-requires invariant-loop decreases-loop
-commonjs-namespace-symbol-requires c κs = (loaded c.before, (c.before.before.before.before.before.before.before.before.requires.1.1, inside c.before))
+commonjs_namespace_symbol-s-requires : tie.Need-commonjs_namespace_symbol-s-requires invariant-loop-k decreases-loop-k
+commonjs_namespace_symbol-s-requires c κs = (loaded c, (c.requires.1.1, inside c))
 
-owner-requires : tie.Need-owner-requires invariant-loop decreases-loop
-owner-requires c κs = (loaded c.before.before.before, c.before.commonjs-namespace-symbol.ensures.1)
+owner-owner-requires : tie.Need-owner-owner-requires invariant-loop-k decreases-loop-k
+owner-owner-requires c κs = (loaded c.before, c.commonjs_namespace_symbol-s.ensures.1)
 
-commonjs-namespace-module-requires : tie.Need-commonjs-namespace-module-requires invariant-loop decreases-loop
-commonjs-namespace-module-requires c κs = (loaded c.before.before.before.before.before.before.before.before, (c.before.before.before.before.before.before.before.before.before.before.before.before.before.before.before.requires.1.1, inside c.before.before.before.before.before.before.before.before))
+commonjs_namespace_module-n-requires : tie.Need-commonjs_namespace_module-n-requires invariant-loop-k decreases-loop-k
+commonjs_namespace_module-n-requires c κs = (loaded c.before.before.before.before.before, (c.requires.1.1, inside c.before.before.before.before.before))
 
-add-tables : tie.Need-overflow-add-tables invariant-loop decreases-loop
-add-tables c = record { fits = omega (arith, c.before.commonjs-namespace-module.ensures.1, c.before.before.before.before.before.before.before.before.before.before.before.before.before.before.before.before.before.requires.0.few_modules) }
+overflow_add-tables : tie.Need-overflow_add-tables invariant-loop-k decreases-loop-k
+overflow_add-tables c = record { fits = omega (arith, c.commonjs_namespace_module-n.ensures.1, c.requires.0.few_modules) }
 
-add-tables-2 : tie.Need-overflow-add-tables-2 invariant-loop decreases-loop
-add-tables-2 c = record { fits = omega (arith, fits c.before.before.before.before.before.before.before.before.before, (laid c.before.before.before.before.before.before.before.before.before.before.before).few) }
+overflow_add-tables-then-owner-m : tie.Need-overflow_add-tables-then-owner-m invariant-loop-k decreases-loop-k
+overflow_add-tables-then-owner-m c = record { fits = omega (arith, fits c.before.before.before.before.before.before.before, (laid c.before.before.before.before.before.before.before.before).few) }
 
-mul-tables : tie.Need-overflow-mul-tables invariant-loop decreases-loop
-mul-tables c = record { fits = omega (arith, fits c.before.before.before.before.before.before.before.before.before, (laid c.before.before.before.before.before.before.before.before.before.before.before).few) }
+offset_bounds-tables-base : tie.Need-offset_bounds-tables-base invariant-loop-k decreases-loop-k
+offset_bounds-tables-base c = record { fits = omega (arith, fits c.before.before.before.before.before.before.before, (laid c.before.before.before.before.before.before.before.before).few) }
 
-slice-write-tables : tie.Need-slice-write-tables invariant-loop decreases-loop
-slice-write-tables c = fits c.before.before.before.before.before.before.before.before.before
+bounds-tables-base : tie.Need-bounds-tables-base invariant-loop-k decreases-loop-k
+bounds-tables-base c = fits c.before.before.before.before.before.before.before
 
-add-k : tie.Need-overflow-add-k invariant-loop decreases-loop
-add-k c = record { fits = omega (arith, c.before.before.before.before.before.before.before.loop-test.true, c.before.before.before.before.before.before.before.before.before.commonjs-namespace-count.ensures.1) }
+overflow_add-k : tie.Need-overflow_add-k invariant-loop-k decreases-loop-k
+overflow_add-k c = record { fits = omega (arith, c.loop-k-test.true, c.commonjs_namespace_count-count.ensures.1) }
 
-loop-less : tie.Need-loop-smaller invariant-loop decreases-loop
-loop-less c = omega (arith, c.before.before.before.before.before.before.before.loop-test.true)
+loop-k-smaller : tie.Need-loop-k-smaller invariant-loop-k decreases-loop-k
+loop-k-smaller c = omega (arith, c.loop-k-test.true)
 
-loop-again : tie.Need-loop-preserved invariant-loop decreases-loop
-loop-again c =
+loop-k-preserved : tie.Need-loop-k-preserved invariant-loop-k decreases-loop-k
+loop-k-preserved c =
     let t = turned c in
-    let i = c.before.before.before.before.before.before.before.before.loop.invariant in
-    (kept_both i.0 t.kept, omega (arith, c.before.before.before.before.before.before.before.loop-test.true), λ s l. t.entries s ∙ i.2 s l)
+    let i = c.loop-k.invariant in
+    (kept_both i.0 t.kept, omega (arith, c.loop-k-test.true), λ s l. t.entries s ∙ i.2 s l)
 
-same_length : tie.Need-same-length invariant-loop decreases-loop
-same_length c = c.before.loop.invariant.0.same_length
+shape_of-tables : tie.Need-shape_of-tables invariant-loop-k decreases-loop-k
+shape_of-tables c = c.loop-k.invariant.0.same_length
 
-returns : tie.Need-returns invariant-loop decreases-loop
+returns : tie.Need-returns invariant-loop-k decreases-loop-k
 returns c =
-    let i = c.before.loop.invariant in
-    let e : length (common_js_namespaces (module_of (graph_in c.before.before.before.before.before.before.before.args.numbers.now) c.before.before.before.before.before.before.before.args.m.0)) ≤ c.before.loop.k = omega (arith, c.loop-test.false, c.before.before.commonjs-namespace-count.ensures.0) in
+    let i = c.loop-k.invariant in
+    let e : length (common_js_namespaces (module_of (graph_in c.args.numbers.now) c.args.m.0)) ≤ c.loop-k.k = omega (arith, c.loop-k-test.false, c.commonjs_namespace_count-count.ensures.0) in
     (λ s l. sym (by_end _ _ s _ _ _ e) ∙ i.2 s l, i.0)
 
-pub enter-namespaces-spec : {M : Type 1} → statement M
-enter-namespaces-spec =
+pub enter_namespaces_spec : {M : Type 1} → statement M
+enter_namespaces_spec =
     tie.close
     (tie.spec
-    invariant-loop
-    decreases-loop
-    slice-read-base
-    commonjs-namespace-count-requires
-    loop-holds
-    commonjs-namespace-symbol-requires
-    owner-requires
-    commonjs-namespace-module-requires
-    add-tables
-    add-tables-2
-    mul-tables
-    slice-write-tables
-    add-k
-    loop-less
-    loop-again
-    same_length
+    invariant-loop-k
+    decreases-loop-k
+    bounds-tables-8
+    commonjs_namespace_count-count-requires
+    loop-k-init
+    commonjs_namespace_symbol-s-requires
+    owner-owner-requires
+    commonjs_namespace_module-n-requires
+    overflow_add-tables
+    overflow_add-tables-then-owner-m
+    offset_bounds-tables-base
+    bounds-tables-base
+    overflow_add-k
+    loop-k-smaller
+    loop-k-preserved
+    shape_of-tables
     returns)

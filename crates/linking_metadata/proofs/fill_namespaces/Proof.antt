@@ -12,74 +12,72 @@ use Rattle.linking_metadata.proofs.FillingUp.{UpTo, up_start, up_step}
 use Rattle.linking_metadata.proofs.fill_namespaces.Statement.{statement}
 use Rattle.linking_metadata.proofs.fill_namespaces.Tie as tie
 
-abbrev invariant-loop : tie.invariant-loop
-invariant-loop numbers tables₀ h m₀ tables m = Kept (start_of (header_in numbers) at_namespaces) tables₀ tables × (m ≤ h.modules) × ((s : ℕ) → s < (header_in numbers).symbols → UpTo (graph_in numbers) m s (get_or (namespaces_in tables) s 0))
+abbrev invariant-loop-m : tie.invariant-loop-m
+invariant-loop-m numbers tables₀ h m₀ tables m = Kept (start_of (header_in numbers) at_namespaces) tables₀ tables × (m ≤ h.modules) × ((s : ℕ) → s < (header_in numbers).symbols → UpTo (graph_in numbers) m s (get_or (namespaces_in tables) s 0))
 
-abbrev decreases-loop : tie.decreases-loop
-decreases-loop numbers tables₀ h m₀ tables m = h.modules - m
+abbrev decreases-loop-m : tie.decreases-loop-m
+decreases-loop-m numbers tables₀ h m₀ tables m = h.modules - m
 
 -- the sections in front are as they were
-kept : (c : tie.After-struct-known invariant-loop decreases-loop) → Kept (start_of (header_in c.before.before.before.before.before.before.before.before.before.args.numbers.now) at_namespaces) c.before.before.before.before.before.before.before.before.before.args.tables.now c.before.loop.tables
-kept c = let p = c.before.before.before.before.before.before.before.before.before.requires.1.starts 8 (omega arith) in kept_both (kept_less (omega (arith, p)) c.before.before.before.before.clear.ensures.0) c.before.loop.invariant.0
+kept : (c : tie.After-struct_known-1 invariant-loop-m decreases-loop-m) → Kept (start_of (header_in c.args.numbers.now) at_namespaces) c.args.tables.now c.loop-m.tables
+kept c = let p = c.requires.1.starts 8 (omega arith) in kept_both (kept_less (omega (arith, p)) c.clear.ensures.0) c.loop-m.invariant.0
 
-laid : (c : tie.After-struct-known invariant-loop decreases-loop) → Laid (header_in c.before.before.before.before.before.before.before.before.before.args.numbers.now) all_sections c.before.loop.tables
-laid c = laid_kept c.before.before.before.before.before.before.before.before.before.requires.1 8 (omega arith) (kept c)
+laid : (c : tie.After-struct_known-1 invariant-loop-m decreases-loop-m) → Laid (header_in c.args.numbers.now) all_sections c.loop-m.tables
+laid c = laid_kept c.requires.1 8 (omega arith) (kept c)
 
 -- the header is the graph's
-counted : (c : tie.After-struct-known invariant-loop decreases-loop) → c.before.before.before.before.before.before.header_of.result.modules ≡ (header_in c.before.before.before.before.before.before.before.before.before.args.numbers.now).modules
-counted c = ap (λ h. h.modules) c.before.before.before.before.before.before.header_of.ensures
+counted : (c : tie.After-struct_known-1 invariant-loop-m decreases-loop-m) → c.header_of-h.result.modules ≡ (header_in c.args.numbers.now).modules
+counted c = ap (λ h. h.modules) c.header_of-h.ensures
 
-header-of-requires : tie.Need-header-of-requires invariant-loop decreases-loop
-header-of-requires c κs = c.before.before.requires.0.long
+header_of-h-requires : tie.Need-header_of-h-requires invariant-loop-m decreases-loop-m
+header_of-h-requires c κs = c.requires.0.long
 
-clear-requires : tie.Need-clear-requires invariant-loop decreases-loop
+clear-requires : tie.Need-clear-requires invariant-loop-m decreases-loop-m
 clear-requires c κs =
-    let t = c.before.before.before.before.requires.1 in
-    (inside t 8 (omega arith), omega (arith, t.starts 8 (omega arith), start_low (header_in c.before.before.before.before.args.numbers.now) 8))
+    let t = c.requires.1 in
+    (inside t 8 (omega arith), omega (arith, t.starts 8 (omega arith), start_low (header_in c.args.numbers.now) 8))
 
-loop-holds : tie.Need-loop-init invariant-loop decreases-loop
-loop-holds c = (kept_none, omega arith, λ s l. up_start _ s _ (c.before.before.clear.ensures.1 s))
+loop-m-init : tie.Need-loop-m-init invariant-loop-m decreases-loop-m
+loop-m-init c = (kept_none, omega arith, λ s l. up_start _ s _ (c.clear.ensures.1 s))
 
-enter-namespaces-requires : tie.Need-enter-namespaces-requires invariant-loop decreases-loop
-enter-namespaces-requires c κs =
-    let s = c.before.before.before.before.before.before.before.before.before.before.before in
-    (loaded_kept s.requires.0 8 (omega arith) (laid_less (omega arith) s.requires.1) (kept c.before.before), (laid c.before.before, omega (arith, c.before.if1.true, counted c.before.before)))
+enter_namespaces-requires : tie.Need-enter_namespaces-requires invariant-loop-m decreases-loop-m
+enter_namespaces-requires c κs =
+    (loaded_kept c.requires.0 8 (omega arith) (laid_less (omega arith) c.requires.1) (kept c.before.before), (laid c.before.before, omega (arith, c.loop-m-test.true, counted c.before.before)))
 
-add-m : tie.Need-overflow-add-m invariant-loop decreases-loop
-add-m c = record { fits = omega (arith, c.before.before.before.before.if1.true, counted c.before.before.before.before.before, c.before.before.before.before.before.before.before.before.before.before.before.before.before.before.requires.0.few_modules) }
+overflow_add-m : tie.Need-overflow_add-m invariant-loop-m decreases-loop-m
+overflow_add-m c = record { fits = omega (arith, c.loop-m-test.true, counted c.before.before.before.before.before, c.requires.0.few_modules) }
 
-loop-less : tie.Need-loop-smaller invariant-loop decreases-loop
-loop-less c = omega (arith, c.before.before.before.before.if1.true)
+loop-m-smaller : tie.Need-loop-m-smaller invariant-loop-m decreases-loop-m
+loop-m-smaller c = omega (arith, c.loop-m-test.true)
 
-loop-again : tie.Need-loop-preserved invariant-loop decreases-loop
-loop-again c =
-    let i = c.before.before.before.before.before.before.loop.invariant in
-    let e = c.before.before.enter-namespaces.ensures in
-    (kept_both i.0 e.1, omega (arith, c.before.before.before.before.if1.true), λ s l. up_step _ _ s _ _ (i.2 s l) (e.0 s l))
+loop-m-preserved : tie.Need-loop-m-preserved invariant-loop-m decreases-loop-m
+loop-m-preserved c =
+    let i = c.loop-m.invariant in
+    let e = c.enter_namespaces.ensures in
+    (kept_both i.0 e.1, omega (arith, c.loop-m-test.true), λ s l. up_step _ _ s _ _ (i.2 s l) (e.0 s l))
 
-same_length : tie.Need-same-length invariant-loop decreases-loop
-same_length c = (kept c.before).same_length
+shape_of-tables : tie.Need-shape_of-tables invariant-loop-m decreases-loop-m
+shape_of-tables c = (kept c.before).same_length
 
-returns : tie.Need-returns invariant-loop decreases-loop
+returns : tie.Need-returns invariant-loop-m decreases-loop-m
 unfolding graph_in sizes
 returns c =
-    let s = c.before.before.before.before.before.before.before.before.before.before in
     let l = section-length (laid c.before) 8 (omega arith) in
     let e = counted c.before in
-    (record { long = omega (arith, l); has = λ i b. (c.before.before.loop.invariant.2 i b).done (omega (arith, owner_below s.requires.0 i b, c.if1.false, e)) }, kept c.before)
+    (record { long = omega (arith, l); has = λ i b. (c.loop-m.invariant.2 i b).done (omega (arith, owner_below c.requires.0 i b, c.loop-m-test.false, e)) }, kept c.before)
 
-pub fill-namespaces-spec : {M : Type 1} → statement M
-fill-namespaces-spec =
+pub fill_namespaces_spec : {M : Type 1} → statement M
+fill_namespaces_spec =
     tie.close
     (tie.spec
-    invariant-loop
-    decreases-loop
-    header-of-requires
+    invariant-loop-m
+    decreases-loop-m
+    header_of-h-requires
     clear-requires
-    loop-holds
-    enter-namespaces-requires
-    add-m
-    loop-less
-    loop-again
-    same_length
+    loop-m-init
+    enter_namespaces-requires
+    overflow_add-m
+    loop-m-smaller
+    loop-m-preserved
+    shape_of-tables
     returns)

@@ -3,22 +3,28 @@ use Rattle.linking_metadata.proofs.Targets.{no_alias, some_alias}
 use Rattle.linking_metadata.proofs.target_of.Statement.{statement}
 use Rattle.linking_metadata.proofs.target_of.Tie as tie
 
-root-requires : tie.Need-root-requires
-root-requires c κs = (c.before.before.requires.0, c.before.before.requires.1)
+root-root-requires : tie.Need-root-root-requires
+root-root-requires c κs = (c.requires.0, c.requires.1)
 
-alias-namespace-requires : tie.Need-alias-namespace-requires
-alias-namespace-requires c κs = (c.before.before.before.requires.0, c.root.ensures.1)
+alias_namespace-alias-requires : tie.Need-alias_namespace-alias-requires
+alias_namespace-alias-requires c κs = (c.requires.0, c.root-root.ensures.1)
+
+returns-then-alias-eq0 : tie.Need-returns-then-alias-eq0
+returns-then-alias-eq0 c = (no_alias _ _ _ _ c.root-root.ensures.0 c.alias_namespace-alias.ensures.0 c.if-alias-eq0.true, c.root-root.ensures.1)
+
+overflow_sub-result : tie.Need-overflow_sub-result
+overflow_sub-result c = omega (arith, c.if-alias-eq0.false)
 
 returns : tie.Need-returns
-returns c = (no_alias _ _ _ _ c.before.before.root.ensures.0 c.before.alias-namespace.ensures.0 c.if1.true, c.before.before.root.ensures.1)
+returns c =
+    (some_alias _ _ _ _ c.root-root.ensures.0 c.alias_namespace-alias.ensures.0 c.if-alias-eq0.false, omega (arith, c.if-alias-eq0.false, c.alias_namespace-alias.ensures.1))
 
-sub-t7 : tie.Need-overflow-sub-t7
-sub-t7 c = omega (arith, c.if1.false)
-
-returns-2 : tie.Need-returns-2
-returns-2 c =
-    (some_alias _ _ _ _ c.before.before.root.ensures.0 c.before.alias-namespace.ensures.0 c.if1.false, omega (arith, c.if1.false, c.before.alias-namespace.ensures.1))
-
-pub target-of-spec : {M : Type 1} → statement M
-target-of-spec =
-    tie.close (tie.spec root-requires alias-namespace-requires returns sub-t7 returns-2)
+pub target_of_spec : {M : Type 1} → statement M
+target_of_spec =
+    tie.close
+    (tie.spec
+    root-root-requires
+    alias_namespace-alias-requires
+    returns-then-alias-eq0
+    overflow_sub-result
+    returns)

@@ -26,47 +26,47 @@ put-digits-below t =
 abbrev claims : ℕ → put-digits-lts.Claims
 claims t = (put-byte-reads.Asked, put-byte-reads.Learnt, put-digits-below t, put-digits.Post)
 
-put-digits-returns : (t : ℕ) → put-digits-lts.Need-returns (claims t) (put-digits-at t) put-digits.Post
-put-digits-returns t c = (emits_as (sym (digits_none _ _ c.if1.true)) emits_none, omega arith)
+put-digits-returns : (t : ℕ) → put-digits-lts.Need-returns-then-fuel-eq0 (claims t) (put-digits-at t) put-digits.Post
+put-digits-returns t c = (emits_as (sym (digits_none _ _ c.if-fuel-eq0.true)) emits_none, omega arith)
 
-put-digits-cast-put-byte : (t : ℕ) → put-digits-lts.Need-overflow-cast-put-byte (claims t) (put-digits-at t) put-digits.Post
+put-digits-cast-put-byte : (t : ℕ) → put-digits-lts.Need-overflow_cast-n (claims t) (put-digits-at t) put-digits.Post
 put-digits-cast-put-byte t c = search rules
 
-put-digits-add-put-byte : (t : ℕ) → put-digits-lts.Need-overflow-add-put-byte (claims t) (put-digits-at t) put-digits.Post
+put-digits-add-put-byte : (t : ℕ) → put-digits-lts.Need-overflow_add-n (claims t) (put-digits-at t) put-digits.Post
 put-digits-add-put-byte t c = search rules
 
-put-digits-put-byte-requires : (t : ℕ) → put-digits-lts.Need-put-byte-requires (claims t) (put-digits-at t) put-digits.Post
+put-digits-put-byte-requires : (t : ℕ) → put-digits-lts.Need-put_byte-requires (claims t) (put-digits-at t) put-digits.Post
 put-digits-put-byte-requires t c κs = search rules
 
-put-digits-same-length : (t : ℕ) → put-digits-lts.Need-same-length (claims t) (put-digits-at t) put-digits.Post
+put-digits-same-length : (t : ℕ) → put-digits-lts.Need-shape_of-out-then-n-lt10 (claims t) (put-digits-at t) put-digits.Post
 put-digits-same-length t c = search rules
 
-put-digits-returns-2 : (t : ℕ) → put-digits-lts.Need-returns-2 (claims t) (put-digits-at t) put-digits.Post
-put-digits-returns-2 t c = (emits_as (sym (digits_one _ _ (omega (arith, c.before.before.before.before.before.if1.false)) c.before.before.before.before.if2.true)) c.before.before.put_byte.ensures, omega (arith, c.before.before.put_byte.ensures.counts, c.before.before.before.before.before.if1.false))
+put-digits-returns-2 : (t : ℕ) → put-digits-lts.Need-returns-then-n-lt10 (claims t) (put-digits-at t) put-digits.Post
+put-digits-returns-2 t c = (emits_as (sym (digits_one _ _ (omega (arith, c.if-fuel-eq0.false)) c.if-n-lt10.true)) c.put_byte.ensures, omega (arith, c.put_byte.ensures.counts, c.if-fuel-eq0.false))
 
-put-digits-sub-put-digits : (t : ℕ) → put-digits-lts.Need-overflow-sub-put-digits (claims t) (put-digits-at t) put-digits.Post
+put-digits-sub-put-digits : (t : ℕ) → put-digits-lts.Need-overflow_sub-fuel (claims t) (put-digits-at t) put-digits.Post
 put-digits-sub-put-digits t c = search rules
 
-put-digits-put-digits-requires : (t : ℕ) → put-digits-lts.Need-put-digits-requires (claims t) (put-digits-at t) put-digits.Post
-put-digits-put-digits-requires t c κs = (omega (arith, c.before.before.before.before.requires.0, c.before.before.if1.false), (omega (arith, c.before.before.before.before.requires.1), omega (arith, c.before.before.before.before.requires.1)))
+put-digits-put-digits-requires : (t : ℕ) → put-digits-lts.Need-put_digits-end-requires (claims t) (put-digits-at t) put-digits.Post
+put-digits-put-digits-requires t c κs = (omega (arith, c.requires.0, c.if-fuel-eq0.false), (omega (arith, c.requires.1), omega (arith, c.requires.1)))
 
-put-digits-cast-put-byte-2 : (t : ℕ) → put-digits-lts.Need-overflow-cast-put-byte-2 (claims t) (put-digits-at t) put-digits.Post
+put-digits-cast-put-byte-2 : (t : ℕ) → put-digits-lts.Need-overflow_cast-n-2 (claims t) (put-digits-at t) put-digits.Post
 put-digits-cast-put-byte-2 t c = search rules
 
-put-digits-add-put-byte-2 : (t : ℕ) → put-digits-lts.Need-overflow-add-put-byte-2 (claims t) (put-digits-at t) put-digits.Post
+put-digits-add-put-byte-2 : (t : ℕ) → put-digits-lts.Need-overflow_add-n-2 (claims t) (put-digits-at t) put-digits.Post
 put-digits-add-put-byte-2 t c = search rules
 
-put-digits-put-byte-requires-2 : (t : ℕ) → put-digits-lts.Need-put-byte-requires-2 (claims t) (put-digits-at t) put-digits.Post
-put-digits-put-byte-requires-2 t c κs = omega (arith, c.before.before.before.before.before.before.before.before.requires.1, c.before.before.before.put-digits.ensures.1)
+put-digits-put-byte-requires-2 : (t : ℕ) → put-digits-lts.Need-put_byte-requires-2 (claims t) (put-digits-at t) put-digits.Post
+put-digits-put-byte-requires-2 t c κs = omega (arith, c.requires.1, c.put_digits-end.ensures.1)
 
-put-digits-same-length-2 : (t : ℕ) → put-digits-lts.Need-same-length-2 (claims t) (put-digits-at t) put-digits.Post
+put-digits-same-length-2 : (t : ℕ) → put-digits-lts.Need-shape_of-out (claims t) (put-digits-at t) put-digits.Post
 put-digits-same-length-2 t c = search rules
 
-put-digits-returns-3 : (t : ℕ) → put-digits-lts.Need-returns-3 (claims t) (put-digits-at t) put-digits.Post
-put-digits-returns-3 t c = (emits_as (sym (digits_more _ _ (omega (arith, c.before.before.before.before.before.before.before.before.before.if1.false)) c.before.before.before.before.before.before.before.before.if2.false)) (emits_both c.before.before.before.before.before.before.put-digits.ensures.0 c.before.before.put-byte2.ensures), omega (arith, c.before.before.before.before.before.before.put-digits.ensures.1, c.before.before.put-byte2.ensures.counts, c.before.before.before.before.before.before.before.before.before.if1.false))
+put-digits-returns-3 : (t : ℕ) → put-digits-lts.Need-returns (claims t) (put-digits-at t) put-digits.Post
+put-digits-returns-3 t c = (emits_as (sym (digits_more _ _ (omega (arith, c.if-fuel-eq0.false)) c.if-n-lt10.false)) (emits_both c.put_digits-end.ensures.0 c.put_byte-2.ensures), omega (arith, c.put_digits-end.ensures.1, c.put_byte-2.ensures.counts, c.if-fuel-eq0.false))
 
-pub +put-digits-spec : {M : Type 1} → statement M
-+put-digits-spec = close μ-put-digits λ t. put-digits-lts.spec (claims t) (put-digits-at t)
+pub +put_digits_spec : {M : Type 1} → statement M
++put_digits_spec = close μ-put-digits λ t. put-digits-lts.spec (claims t) (put-digits-at t)
     put-digits.Post
     (put-digits-returns t)
     (put-digits-cast-put-byte t)

@@ -7,11 +7,16 @@ use Rattle.listing.proofs.bit_value.Tie as tie
 test-requires : tie.Need-test-requires
 test-requires c κs = search rules
 
+returns-then-test : tie.Need-returns-then-test
+returns-then-test c = bit_one _ (sym c.test.ensures ∙ c.if-test.true)
+
 returns : tie.Need-returns
-returns c = bit_one _ (sym c.before.test.ensures ∙ c.if1.true)
+returns c = bit_zero _ (sym c.test.ensures ∙ c.if-test.false)
 
-returns-2 : tie.Need-returns-2
-returns-2 c = bit_zero _ (sym c.before.test.ensures ∙ c.if1.false)
-
-pub bit-value-spec : {M : Type 1} → statement M
-bit-value-spec = tie.close (tie.spec test-requires returns returns-2)
+pub bit_value_spec : {M : Type 1} → statement M
+bit_value_spec =
+    tie.close
+    (tie.spec
+    test-requires
+    returns-then-test
+    returns)

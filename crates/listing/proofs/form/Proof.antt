@@ -7,113 +7,101 @@ use borrow.Author.Rules.{rules}
 use Rattle.listing.proofs.form.Statement.{statement}
 use Rattle.listing.proofs.form.Tie as tie
 
-header-of-requires : tie.Need-header-of-requires
-header-of-requires c κs = search rules
+header_of-h-requires : tie.Need-header_of-h-requires
+header_of-h-requires c κs = search rules
 
-slice-aggregate-put-line : tie.Need-slice-aggregate-put-line
-slice-aggregate-put-line c = search rules
+slice_bounds-put_line-end-2 : tie.Need-slice_bounds-put_line-end-2
+slice_bounds-put_line-end-2 c = search rules
 
-slice-aggregate-put-line-2 : tie.Need-slice-aggregate-put-line-2
-slice-aggregate-put-line-2 c = search rules
+put_line-at-requires : tie.Need-put_line-at-requires
+put_line-at-requires c κs = search rules
 
-put-line-requires : tie.Need-put-line-requires
-put-line-requires c κs = search rules
+put_entries-at-requires : tie.Need-put_entries-at-requires
+put_entries-at-requires c κs =
+    let s = c.requires in
+    let e = c.header_of-h.ensures in
+    (s.0, (omega (arith, c.put_line-at.ensures.1), s.1.entries_long, omega (arith, s.0.few_entries, entries-few _ _ _ e s.1), entries_are _ _ _ e s.1))
 
-put-entries-requires : tie.Need-put-entries-requires
-put-entries-requires c κs =
-    let s = c.before.before.before.before.before.before.before.before.before.before.before.before.before.before.before.before.before.before.before.before.before.requires in
-    let e = c.before.before.before.before.before.before.before.header_of.ensures in
-    (s.0, (omega (arith, c.before.before.before.put-line.ensures.1), s.1.entries_long, omega (arith, s.0.few_entries, entries-few _ _ _ e s.1), entries_are _ _ _ e s.1))
-
-put-modules-requires : tie.Need-put-modules-requires
-put-modules-requires c κs =
-    let s = c.before.before.before.before.before.before.before.before.before.before.before.before.before.before.before.before.before.before.before.before.before.before.before.before.before.requires in
-    let e = c.before.before.before.before.before.before.before.before.before.before.before.header_of.ensures in
+put_modules-at-requires : tie.Need-put_modules-at-requires
+put_modules-at-requires c κs =
+    let s = c.requires in
+    let e = c.header_of-h.ensures in
     let f = modules_fit _ _ _ e s.1 in
-    (s.0, (omega (arith, c.before.before.before.before.before.before.before.put-line.ensures.1, c.before.before.before.put_entries.ensures.1), ap (λ (h : Header). h.modules) e, f.0, f.1, f.2, f.3))
+    (s.0, (omega (arith, c.put_line-at.ensures.1, c.put_entries-at.ensures.1), ap (λ (h : Header). h.modules) e, f.0, f.1, f.2, f.3))
 
-put-statements-requires : tie.Need-put-statements-requires
-put-statements-requires c κs =
-    let s = c.before.before.before.before.before.before.before.before.before.before.before.before.before.before.before.before.before.before.before.before.before.before.before.before.before.before.before.before.before.requires in
-    let e = c.before.before.before.before.before.before.before.before.before.before.before.before.before.before.before.header_of.ensures in
-    (s.0, (omega (arith, c.before.before.before.before.before.before.before.before.before.before.before.put-line.ensures.1, c.before.before.before.before.before.before.before.put_entries.ensures.1, c.before.before.before.put-modules.ensures.1), ap (λ (h : Header). h.modules) e, statements_fit _ _ _ e s.1))
+put_statements-at-requires : tie.Need-put_statements-at-requires
+put_statements-at-requires c κs =
+    let s = c.requires in
+    let e = c.header_of-h.ensures in
+    (s.0, (omega (arith, c.put_line-at.ensures.1, c.put_entries-at.ensures.1, c.put_modules-at.ensures.1), ap (λ (h : Header). h.modules) e, statements_fit _ _ _ e s.1))
 
-slice-aggregate-put-symbols : tie.Need-slice-aggregate-put-symbols
-slice-aggregate-put-symbols c = search rules
+put_symbols-at-requires : tie.Need-put_symbols-at-requires
+put_symbols-at-requires c κs =
+    let s = c.requires in
+    let e = c.header_of-h.ensures in
+    (omega (arith, c.put_line-at.ensures.1, c.put_entries-at.ensures.1, c.put_modules-at.ensures.1, c.put_statements-at.ensures.1), omega arith, (symbols-fit _ _ _ e s.1).0, omega (arith, s.0.few_symbols, ap (λ (h : Header). h.symbols) e))
 
-put-symbols-requires : tie.Need-put-symbols-requires
-put-symbols-requires c κs =
-    let s = c.before.before.before.before.before.before.before.before.before.before.before.before.before.before.before.before.before.before.before.before.before.before.before.before.before.before.before.before.before.before.before.before.before.before.requires in
-    let e = c.before.before.before.before.before.before.before.before.before.before.before.before.before.before.before.before.before.before.before.before.header_of.ensures in
-    (omega (arith, c.before.before.before.before.before.before.before.before.before.before.before.before.before.before.before.before.put-line.ensures.1, c.before.before.before.before.before.before.before.before.before.before.before.before.put_entries.ensures.1, c.before.before.before.before.before.before.before.before.put-modules.ensures.1, c.before.before.before.before.put-statements.ensures.1), omega arith, (symbols-fit _ _ _ e s.1).0, omega (arith, s.0.few_symbols, ap (λ (h : Header). h.symbols) e))
-
-slice-aggregate-put-symbols-2 : tie.Need-slice-aggregate-put-symbols-2
-slice-aggregate-put-symbols-2 c = search rules
-
-put-symbols-requires-2 : tie.Need-put-symbols-requires-2
-put-symbols-requires-2 c κs =
-    let s = c.before.before.before.before.before.before.before.before.before.before.before.before.before.before.before.before.before.before.before.before.before.before.before.before.before.before.before.before.before.before.before.before.before.before.before.before.before.before.before.requires in
-    let e = c.before.before.before.before.before.before.before.before.before.before.before.before.before.before.before.before.before.before.before.before.before.before.before.before.before.header_of.ensures in (
-      omega (arith, c.before.before.before.before.before.before.before.before.before.before.before.before.before.before.before.before.before.before.before.before.before.put-line.ensures.1, c.before.before.before.before.before.before.before.before.before.before.before.before.before.before.before.before.before.put_entries.ensures.1, c.before.before.before.before.before.before.before.before.before.before.before.before.before.put-modules.ensures.1, c.before.before.before.before.before.before.before.before.before.put-statements.ensures.1, c.before.before.before.before.put-symbols.ensures.1),
+put_symbols-at-requires-2 : tie.Need-put_symbols-at-requires-2
+put_symbols-at-requires-2 c κs =
+    let s = c.requires in
+    let e = c.header_of-h.ensures in (
+      omega (arith, c.put_line-at.ensures.1, c.put_entries-at.ensures.1, c.put_modules-at.ensures.1, c.put_statements-at.ensures.1, c.put_symbols-at.ensures.1),
       omega arith,
       (symbols-fit _ _ _ e s.1).1,
       omega (arith, s.0.few_symbols, ap (λ (h : Header). h.symbols) e),
     )
 
-put-json-requires : tie.Need-put-json-requires
-put-json-requires c κs =
-    let s = c.before.before.before.before.before.before.before.before.before.before.before.before.before.before.before.before.before.before.before.before.before.before.before.before.before.before.before.before.before.before.before.before.before.before.before.before.before.before.before.before.before.before.before.requires in
-    let e = c.before.before.before.before.before.before.before.before.before.before.before.before.before.before.before.before.before.before.before.before.before.before.before.before.before.before.before.before.before.header_of.ensures in (
+put_json-at-requires : tie.Need-put_json-at-requires
+put_json-at-requires c κs =
+    let s = c.requires in
+    let e = c.header_of-h.ensures in (
       s.0,
       (
-        omega (arith, c.before.before.before.before.before.before.before.before.before.before.before.before.before.before.before.before.before.before.before.before.before.before.before.before.before.put-line.ensures.1, c.before.before.before.before.before.before.before.before.before.before.before.before.before.before.before.before.before.before.before.before.before.put_entries.ensures.1, c.before.before.before.before.before.before.before.before.before.before.before.before.before.before.before.before.before.put-modules.ensures.1, c.before.before.before.before.before.before.before.before.before.before.before.before.before.put-statements.ensures.1, c.before.before.before.before.before.before.before.before.put-symbols.ensures.1, c.before.before.before.put-symbols2.ensures.1),
+        omega (arith, c.put_line-at.ensures.1, c.put_entries-at.ensures.1, c.put_modules-at.ensures.1, c.put_statements-at.ensures.1, c.put_symbols-at.ensures.1, c.put_symbols-at-2.ensures.1),
         ap (λ (h : Header). h.modules) e,
         ap (λ (h : Header). h.symbols) e,
         (symbols-fit _ _ _ e s.1).2,
       ),
     )
 
-put-dead-requires : tie.Need-put-dead-requires
-put-dead-requires c κs =
-    let s = c.before.before.before.before.before.before.before.before.before.before.before.before.before.before.before.before.before.before.before.before.before.before.before.before.before.before.before.before.before.before.before.before.before.before.before.before.before.before.before.before.before.before.before.before.before.before.before.requires in
-    let e = c.before.before.before.before.before.before.before.before.before.before.before.before.before.before.before.before.before.before.before.before.before.before.before.before.before.before.before.before.before.before.before.before.before.header_of.ensures in (
+put_dead-requires : tie.Need-put_dead-requires
+put_dead-requires c κs =
+    let s = c.requires in
+    let e = c.header_of-h.ensures in (
       s.0,
       (
-        omega (arith, c.before.before.before.before.before.before.before.before.before.before.before.before.before.before.before.before.before.before.before.before.before.before.before.before.before.before.before.before.before.put-line.ensures.1, c.before.before.before.before.before.before.before.before.before.before.before.before.before.before.before.before.before.before.before.before.before.before.before.before.before.put_entries.ensures.1, c.before.before.before.before.before.before.before.before.before.before.before.before.before.before.before.before.before.before.before.before.before.put-modules.ensures.1, c.before.before.before.before.before.before.before.before.before.before.before.before.before.before.before.before.before.put-statements.ensures.1, c.before.before.before.before.before.before.before.before.before.before.before.before.put-symbols.ensures.1, c.before.before.before.before.before.before.before.put-symbols2.ensures.1, c.before.before.before.put-json.ensures.1),
+        omega (arith, c.put_line-at.ensures.1, c.put_entries-at.ensures.1, c.put_modules-at.ensures.1, c.put_statements-at.ensures.1, c.put_symbols-at.ensures.1, c.put_symbols-at-2.ensures.1, c.put_json-at.ensures.1),
         ap (λ (h : Header). h.modules) e,
         dead_fit _ _ _ e s.1,
       ),
     )
 
-same_length : tie.Need-same-length
-same_length c = c.before.before.put-dead.auto.1.1.1.1.1.1.0 ∙ c.before.before.before.before.before.before.put-json.auto.1.1.1.1.1.1.1.0 ∙ c.before.before.before.before.before.before.before.before.before.before.put-symbols2.auto.1.1.1.1.1.0 ∙ c.before.before.before.before.before.before.before.before.before.before.before.before.before.before.before.put-symbols.auto.1.1.1.1.1.0 ∙ c.before.before.before.before.before.before.before.before.before.before.before.before.before.before.before.before.before.before.before.before.put-statements.auto.1.1.1.1.1.1.0 ∙ c.before.before.before.before.before.before.before.before.before.before.before.before.before.before.before.before.before.before.before.before.before.before.before.before.put-modules.auto.1.1.1.1.1.1.1.1.1.0 ∙ c.before.before.before.before.before.before.before.before.before.before.before.before.before.before.before.before.before.before.before.before.before.before.before.before.before.before.before.before.put_entries.auto.1.1.1.1.1.1.0
-    ∙ c.before.before.before.before.before.before.before.before.before.before.before.before.before.before.before.before.before.before.before.before.before.before.before.before.before.before.before.before.before.before.before.before.put-line.auto.1.1.1.1.0
+shape_of-out : tie.Need-shape_of-out
+shape_of-out c = c.put_dead.auto.1.1.1.1.1.1.0 ∙ c.put_json-at.auto.1.1.1.1.1.1.1.0 ∙ c.put_symbols-at-2.auto.1.1.1.1.1.0 ∙ c.put_symbols-at.auto.1.1.1.1.1.0 ∙ c.put_statements-at.auto.1.1.1.1.1.1.0 ∙ c.put_modules-at.auto.1.1.1.1.1.1.1.1.1.0 ∙ c.put_entries-at.auto.1.1.1.1.1.1.0
+    ∙ c.put_line-at.auto.1.1.1.1.0
 
 returns : tie.Need-returns
 returns c = emits_all
-    (emits_as (listing_is _ _ _ c.before.before.before.before.before.before.before.before.before.before.before.before.before.before.before.before.before.before.before.before.before.before.before.before.before.before.before.before.before.before.before.before.before.before.before.before.header_of.ensures)
-    (emits_both c.before.before.before.before.before.before.before.before.before.before.before.before.before.before.before.before.before.before.before.before.before.before.before.before.before.before.before.before.before.before.before.before.put-line.ensures.0
-    (emits_both c.before.before.before.before.before.before.before.before.before.before.before.before.before.before.before.before.before.before.before.before.before.before.before.before.before.before.before.before.put_entries.ensures.0
-    (emits_both c.before.before.before.before.before.before.before.before.before.before.before.before.before.before.before.before.before.before.before.before.before.before.before.before.put-modules.ensures.0
-    (emits_both c.before.before.before.before.before.before.before.before.before.before.before.before.before.before.before.before.before.before.before.before.put-statements.ensures.0
-    (emits_both c.before.before.before.before.before.before.before.before.before.before.before.before.before.before.before.put-symbols.ensures.0 (emits_both c.before.before.before.before.before.before.before.before.before.before.put-symbols2.ensures.0 (emits_both c.before.before.before.before.before.before.put-json.ensures.0 c.before.before.put-dead.ensures.0))))))))
+    (emits_as (listing_is _ _ _ c.header_of-h.ensures)
+    (emits_both c.put_line-at.ensures.0
+    (emits_both c.put_entries-at.ensures.0
+    (emits_both c.put_modules-at.ensures.0
+    (emits_both c.put_statements-at.ensures.0
+    (emits_both c.put_symbols-at.ensures.0 (emits_both c.put_symbols-at-2.ensures.0 (emits_both c.put_json-at.ensures.0 c.put_dead.ensures.0))))))))
 
-pub form-spec : {M : Type 1} → statement M
-form-spec =
+pub form_spec : {M : Type 1} → statement M
+form_spec =
     tie.close
     (tie.spec
-    header-of-requires
-    slice-aggregate-put-line
-    slice-aggregate-put-line-2
-    put-line-requires
-    put-entries-requires
-    put-modules-requires
-    put-statements-requires
-    slice-aggregate-put-symbols
-    put-symbols-requires
-    slice-aggregate-put-symbols-2
-    put-symbols-requires-2
-    put-json-requires
-    put-dead-requires
-    same_length
+    header_of-h-requires
+    slice_bounds-put_line-end-2
+    put_line-at-requires
+    put_entries-at-requires
+    put_modules-at-requires
+    put_statements-at-requires
+    put_symbols-at-requires
+    put_symbols-at-requires-2
+    put_json-at-requires
+    put_dead-requires
+    shape_of-out
     returns)

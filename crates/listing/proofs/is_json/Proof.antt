@@ -7,14 +7,20 @@ use Rattle.listing.proofs.is_json.Tie as tie
 test-requires : tie.Need-test-requires
 test-requires c κs = search rules
 
-owner-requires : tie.Need-owner-requires
-owner-requires c κs = search rules
+owner-owner-requires : tie.Need-owner-owner-requires
+owner-owner-requires c κs = search rules
+
+returns-then-test : tie.Need-returns-then-test
+returns-then-test c = json_set _ _ _ _ (sym c.test.ensures ∙ c.if-test.true) c.owner-owner.ensures.0
 
 returns : tie.Need-returns
-returns c = json_set _ _ _ _ (sym c.before.before.before.test.ensures ∙ c.before.before.if1.true) c.before.owner.ensures.0
+returns c = json_clear _ _ (sym c.test.ensures ∙ c.if-test.false)
 
-returns-2 : tie.Need-returns-2
-returns-2 c = json_clear _ _ (sym c.before.test.ensures ∙ c.if1.false)
-
-pub is-json-spec : {M : Type 1} → statement M
-is-json-spec = tie.close (tie.spec test-requires owner-requires returns returns-2)
+pub is_json_spec : {M : Type 1} → statement M
+is_json_spec =
+    tie.close
+    (tie.spec
+    test-requires
+    owner-owner-requires
+    returns-then-test
+    returns)

@@ -4,47 +4,43 @@ use borrow.Author.Rules.{rules}
 use Rattle.listing.proofs.put_entry.Statement.{statement}
 use Rattle.listing.proofs.put_entry.Tie as tie
 
-mul_wide : tie.Need-overflow-mul-wide
-mul_wide c = search rules
+offset_bounds-row-k : tie.Need-offset_bounds-row-k
+offset_bounds-row-k c = search rules
 
-shared-slice-read-wide : tie.Need-shared-slice-read-wide
-shared-slice-read-wide c = search rules
+bounds-row-k : tie.Need-bounds-row-k
+bounds-row-k c = search rules
 
 wide-requires : tie.Need-wide-requires
 wide-requires c κs = search rules
 
-entry-module-requires : tie.Need-entry-module-requires
-entry-module-requires c κs = search rules
+entry_module-m-requires : tie.Need-entry_module-m-requires
+entry_module-m-requires c κs = search rules
 
-entry-kind-requires : tie.Need-entry-kind-requires
-entry-kind-requires c κs = search rules
+entry_kind-requires : tie.Need-entry_kind-requires
+entry_kind-requires c κs = search rules
 
-slice-aggregate-put-line : tie.Need-slice-aggregate-put-line
-slice-aggregate-put-line c = search rules
+slice_bounds-put_line-end-2 : tie.Need-slice_bounds-put_line-end-2
+slice_bounds-put_line-end-2 c = search rules
 
-slice-aggregate-put-line-2 : tie.Need-slice-aggregate-put-line-2
-slice-aggregate-put-line-2 c = search rules
+put_line-requires : tie.Need-put_line-requires
+put_line-requires c κs = search rules
 
-put-line-requires : tie.Need-put-line-requires
-put-line-requires c κs = search rules
-
-same_length : tie.Need-same-length
-same_length c = search rules
+shape_of-out : tie.Need-shape_of-out
+shape_of-out c = search rules
 
 returns : tie.Need-returns
-returns c = (emits_as (entry_is _ _ _ _ _ _ c.before.before.before.before.before.before.before.before.wide.ensures c.before.before.before.before.before.before.before.entry-module.ensures.0 c.before.before.before.before.before.before.entry-kind.ensures.0) c.before.before.put-line.ensures.0, c.before.before.put-line.ensures.1)
+returns c = (emits_as (entry_is _ _ _ _ _ _ c.wide.ensures c.entry_module-m.ensures.0 c.entry_kind.ensures.0) c.put_line.ensures.0, c.put_line.ensures.1)
 
-pub put-entry-spec : {M : Type 1} → statement M
-put-entry-spec =
+pub put_entry_spec : {M : Type 1} → statement M
+put_entry_spec =
     tie.close
     (tie.spec
-    mul_wide
-    shared-slice-read-wide
+    offset_bounds-row-k
+    bounds-row-k
     wide-requires
-    entry-module-requires
-    entry-kind-requires
-    slice-aggregate-put-line
-    slice-aggregate-put-line-2
-    put-line-requires
-    same_length
+    entry_module-m-requires
+    entry_kind-requires
+    slice_bounds-put_line-end-2
+    put_line-requires
+    shape_of-out
     returns)

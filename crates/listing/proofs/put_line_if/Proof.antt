@@ -6,17 +6,23 @@ use borrow.Author.Rules.{rules}
 use Rattle.listing.proofs.put_line_if.Statement.{statement}
 use Rattle.listing.proofs.put_line_if.Tie as tie
 
-put-line-requires : tie.Need-put-line-requires
-put-line-requires c κs = search rules
+put_line-requires : tie.Need-put_line-requires
+put_line-requires c κs = search rules
 
-same_length : tie.Need-same-length
-same_length c = search rules
+shape_of-out-then-holds : tie.Need-shape_of-out-then-holds
+shape_of-out-then-holds c = search rules
+
+returns-then-holds : tie.Need-returns-then-holds
+returns-then-holds c = (emits_as (sym (only_true _ _ c.if-holds.true)) c.put_line.ensures.0, c.put_line.ensures.1)
 
 returns : tie.Need-returns
-returns c = (emits_as (sym (only_true _ _ c.before.before.before.before.if1.true)) c.before.before.put-line.ensures.0, c.before.before.put-line.ensures.1)
+returns c = (emits_as (sym (only_false _ _ c.if-holds.false)) emits_none, omega arith)
 
-returns-2 : tie.Need-returns-2
-returns-2 c = (emits_as (sym (only_false _ _ c.if1.false)) emits_none, omega arith)
-
-pub put-line-if-spec : {M : Type 1} → statement M
-put-line-if-spec = tie.close (tie.spec put-line-requires same_length returns returns-2)
+pub put_line_if_spec : {M : Type 1} → statement M
+put_line_if_spec =
+    tie.close
+    (tie.spec
+    put_line-requires
+    shape_of-out-then-holds
+    returns-then-holds
+    returns)

@@ -5,67 +5,63 @@ use borrow.Author.Rules.{rules}
 use Rattle.listing.proofs.put_module.Statement.{statement}
 use Rattle.listing.proofs.put_module.Tie as tie
 
-is-normal-requires : tie.Need-is-normal-requires
-is-normal-requires c κs = search rules
+is_normal-is_normal-requires : tie.Need-is_normal-is_normal-requires
+is_normal-is_normal-requires c κs = search rules
 
-bit-value-requires : tie.Need-bit-value-requires
-bit-value-requires c κs = search rules
+bit_value-is_kept-requires : tie.Need-bit_value-is_kept-requires
+bit_value-is_kept-requires c κs = search rules
 
-mul_wide : tie.Need-overflow-mul-wide
-mul_wide c = search rules
+offset_bounds-verdicts-m : tie.Need-offset_bounds-verdicts-m
+offset_bounds-verdicts-m c = search rules
 
-shared-slice-read-wide : tie.Need-shared-slice-read-wide
-shared-slice-read-wide c = search rules
+bounds-verdicts-m : tie.Need-bounds-verdicts-m
+bounds-verdicts-m c = search rules
 
-wide-requires : tie.Need-wide-requires
-wide-requires c κs = search rules
+wide-effects-requires : tie.Need-wide-effects-requires
+wide-effects-requires c κs = search rules
 
-shared-slice-read-reason-bits : tie.Need-shared-slice-read-reason-bits
-shared-slice-read-reason-bits c = search rules
+bounds-reason-m : tie.Need-bounds-reason-m
+bounds-reason-m c = search rules
 
-cast-reason-bits : tie.Need-overflow-cast-reason-bits
-cast-reason-bits c = omega (arith, c.shared-slice-known8.given c.before.before.before.before.before.before.before.before.before.before.before.before.args.m)
+overflow_cast-reason_bits : tie.Need-overflow_cast-reason_bits
+overflow_cast-reason_bits c = omega (arith, c.shared_slice_known-8-1.given c.args.m)
 
-mul-wide-2 : tie.Need-overflow-mul-wide-2
-mul-wide-2 c = search rules
+offset_bounds-helpers-m : tie.Need-offset_bounds-helpers-m
+offset_bounds-helpers-m c = search rules
 
-shared-slice-read-wide-2 : tie.Need-shared-slice-read-wide-2
-shared-slice-read-wide-2 c = search rules
+bounds-helpers-m : tie.Need-bounds-helpers-m
+bounds-helpers-m c = search rules
 
-wide-requires-2 : tie.Need-wide-requires-2
-wide-requires-2 c κs = search rules
+wide-helper_bits-requires : tie.Need-wide-helper_bits-requires
+wide-helper_bits-requires c κs = search rules
 
-slice-aggregate-put-line-if : tie.Need-slice-aggregate-put-line-if
-slice-aggregate-put-line-if c = search rules
+slice_bounds-put_line_if-end-2 : tie.Need-slice_bounds-put_line_if-end-2
+slice_bounds-put_line_if-end-2 c = search rules
 
-slice-aggregate-put-line-if-2 : tie.Need-slice-aggregate-put-line-if-2
-slice-aggregate-put-line-if-2 c = search rules
+put_line_if-requires : tie.Need-put_line_if-requires
+put_line_if-requires c κs = search rules
 
-put-line-if-requires : tie.Need-put-line-if-requires
-put-line-if-requires c κs = search rules
-
-same_length : tie.Need-same-length
-same_length c = search rules
+shape_of-out : tie.Need-shape_of-out
+shape_of-out c = search rules
 
 returns : tie.Need-returns
-returns c = (emits_as (module_is _ _ _ _ _ _ _ _ _ _ c.before.before.before.before.before.before.before.before.before.before.before.before.is_normal.ensures c.before.before.before.before.before.before.before.before.before.before.before.bit-value.ensures c.before.before.before.before.before.before.before.before.before.wide.ensures c.before.before.before.before.before.before.wide2.ensures) c.before.before.put-line-if.ensures.0, c.before.before.put-line-if.ensures.1)
+returns c = (emits_as (module_is _ _ _ _ _ _ _ _ _ _ c.is_normal-is_normal.ensures c.bit_value-is_kept.ensures c.wide-effects.ensures c.wide-helper_bits.ensures) c.put_line_if.ensures.0, c.put_line_if.ensures.1)
 
-pub put-module-spec : {M : Type 1} → statement M
-put-module-spec =
+pub put_module_spec : {M : Type 1} → statement M
+put_module_spec =
     tie.close
     (tie.spec
-    is-normal-requires
-    bit-value-requires
-    mul_wide
-    shared-slice-read-wide
-    wide-requires
-    shared-slice-read-reason-bits
-    cast-reason-bits
-    mul-wide-2
-    shared-slice-read-wide-2
-    wide-requires-2
-    slice-aggregate-put-line-if
-    slice-aggregate-put-line-if-2
-    put-line-if-requires
-    same_length
+    is_normal-is_normal-requires
+    bit_value-is_kept-requires
+    offset_bounds-verdicts-m
+    bounds-verdicts-m
+    wide-effects-requires
+    bounds-reason-m
+    overflow_cast-reason_bits
+    offset_bounds-helpers-m
+    bounds-helpers-m
+    wide-helper_bits-requires
+    slice_bounds-put_line_if-end-2
+    put_line_if-requires
+    shape_of-out
     returns)

@@ -7,49 +7,49 @@ use Rattle.listing.proofs.Pieces.{Going, go_none, go_more, go_done}
 use Rattle.listing.proofs.put_modules.Statement.{statement}
 use Rattle.listing.proofs.put_modules.Tie as tie
 
-abbrev invariant-loop : tie.invariant-loop
-invariant-loop numbers tables verdicts kept reason helpers count skip at out₀ end₀ m₀ out end m = Going skip (module_text (graph_in numbers) (of_modules verdicts kept reason helpers)) count m at out₀ out end × (end ≤ at + 128 * m)
+abbrev invariant-loop-m : tie.invariant-loop-m
+invariant-loop-m numbers tables verdicts kept reason helpers count skip at out₀ end₀ m₀ out end m = Going skip (module_text (graph_in numbers) (of_modules verdicts kept reason helpers)) count m at out₀ out end × (end ≤ at + 128 * m)
 
-abbrev decreases-loop : tie.decreases-loop
-decreases-loop numbers tables verdicts kept reason helpers count skip at out₀ end₀ m₀ out end m = count - m
+abbrev decreases-loop-m : tie.decreases-loop-m
+decreases-loop-m numbers tables verdicts kept reason helpers count skip at out₀ end₀ m₀ out end m = count - m
 
-loop-holds : tie.Need-loop-init invariant-loop decreases-loop
-loop-holds c = (go_none, omega arith)
+loop-m-init : tie.Need-loop-m-init invariant-loop-m decreases-loop-m
+loop-m-init c = (go_none, omega arith)
 
-put-module-requires : tie.Need-put-module-requires invariant-loop decreases-loop
-put-module-requires c κs =
-    let s = c.before.before.before.before.before.before.before.before.before.before.requires in
-    let l = c.before.loop-test.true in
-    (s.0, (omega (arith, c.before.before.loop.invariant.1, c.before.before.loop.invariant.0.few, s.0.few_modules, s.1), omega (arith, l, s.1), omega (arith, l, s.1), omega (arith, l, s.1), omega (arith, l, s.1), omega (arith, l, s.1)))
+put_module-end-requires : tie.Need-put_module-end-requires invariant-loop-m decreases-loop-m
+put_module-end-requires c κs =
+    let s = c.requires in
+    let l = c.loop-m-test.true in
+    (s.0, (omega (arith, c.loop-m.invariant.1, c.loop-m.invariant.0.few, s.0.few_modules, s.1), omega (arith, l, s.1), omega (arith, l, s.1), omega (arith, l, s.1), omega (arith, l, s.1), omega (arith, l, s.1)))
 
-add-m : tie.Need-overflow-add-m invariant-loop decreases-loop
-add-m c = omega (arith, c.before.before.before.before.loop-test.true)
+overflow_add-m : tie.Need-overflow_add-m invariant-loop-m decreases-loop-m
+overflow_add-m c = omega (arith, c.loop-m-test.true)
 
-loop-less : tie.Need-loop-smaller invariant-loop decreases-loop
-loop-less c = omega (arith, c.before.before.before.before.loop-test.true)
+loop-m-smaller : tie.Need-loop-m-smaller invariant-loop-m decreases-loop-m
+loop-m-smaller c = omega (arith, c.loop-m-test.true)
 
-loop-again : tie.Need-loop-preserved invariant-loop decreases-loop
-loop-again c =
-    let p = c.before.before.put-module in
-    let i = c.before.before.before.before.before.loop.invariant in
-    (go_more i.0 c.before.before.before.before.loop-test.true p.auto.1.1.1.1.1.1.1.1.1.0 p.ensures.0, omega (arith, i.1, p.ensures.1))
+loop-m-preserved : tie.Need-loop-m-preserved invariant-loop-m decreases-loop-m
+loop-m-preserved c =
+    let p = c.put_module-end in
+    let i = c.loop-m.invariant in
+    (go_more i.0 c.loop-m-test.true p.auto.1.1.1.1.1.1.1.1.1.0 p.ensures.0, omega (arith, i.1, p.ensures.1))
 
-same_length : tie.Need-same-length invariant-loop decreases-loop
-same_length c = c.before.loop.invariant.0.long
+shape_of-out : tie.Need-shape_of-out invariant-loop-m decreases-loop-m
+shape_of-out c = c.loop-m.invariant.0.long
 
-returns : tie.Need-returns invariant-loop decreases-loop
-returns c = let i = c.before.loop.invariant in (go_done i.0 c.loop-test.false, omega (arith, i.1, i.0.few, c.before.before.before.before.before.before.before.before.before.requires.0.few_modules, c.before.before.before.before.before.before.before.before.before.requires.1))
+returns : tie.Need-returns invariant-loop-m decreases-loop-m
+returns c = let i = c.loop-m.invariant in (go_done i.0 c.loop-m-test.false, omega (arith, i.1, i.0.few, c.requires.0.few_modules, c.requires.1))
 
-pub put-modules-spec : {M : Type 1} → statement M
-put-modules-spec =
+pub put_modules_spec : {M : Type 1} → statement M
+put_modules_spec =
     tie.close
     (tie.spec
-    invariant-loop
-    decreases-loop
-    loop-holds
-    put-module-requires
-    add-m
-    loop-less
-    loop-again
-    same_length
+    invariant-loop-m
+    decreases-loop-m
+    loop-m-init
+    put_module-end-requires
+    overflow_add-m
+    loop-m-smaller
+    loop-m-preserved
+    shape_of-out
     returns)

@@ -7,58 +7,58 @@ use Rattle.listing.proofs.Lines.{pair_is}
 use Rattle.listing.proofs.put_pairs.Statement.{statement}
 use Rattle.listing.proofs.put_pairs.Tie as tie
 
-abbrev invariant-loop : tie.invariant-loop
-invariant-loop word row first m count skip at out₀ end₀ i₀ out end i = Going skip (pair_text word row first m) count i at out₀ out end × (end ≤ at + 128 * i)
+abbrev invariant-loop-i : tie.invariant-loop-i
+invariant-loop-i word row first m count skip at out₀ end₀ i₀ out end i = Going skip (pair_text word row first m) count i at out₀ out end × (end ≤ at + 128 * i)
 
-abbrev decreases-loop : tie.decreases-loop
-decreases-loop word row first m count skip at out₀ end₀ i₀ out end i = count - i
+abbrev decreases-loop-i : tie.decreases-loop-i
+decreases-loop-i word row first m count skip at out₀ end₀ i₀ out end i = count - i
 
-loop-holds : tie.Need-loop-init invariant-loop decreases-loop
-loop-holds c = (go_none, omega arith)
+loop-i-init : tie.Need-loop-i-init invariant-loop-i decreases-loop-i
+loop-i-init c = (go_none, omega arith)
 
-add-test : tie.Need-overflow-add-test invariant-loop decreases-loop
-add-test c = omega (arith, c.loop-test.true)
+overflow_add-first : tie.Need-overflow_add-first invariant-loop-i decreases-loop-i
+overflow_add-first c = omega (arith, c.loop-i-test.true)
 
-test-requires : tie.Need-test-requires invariant-loop decreases-loop
-test-requires c κs = omega (arith, c.loop-test.true, c.before.before.before.before.before.requires)
+test-requires : tie.Need-test-requires invariant-loop-i decreases-loop-i
+test-requires c κs = omega (arith, c.loop-i-test.true, c.requires)
 
-slice-aggregate-put-line-if : tie.Need-slice-aggregate-put-line-if invariant-loop decreases-loop
-slice-aggregate-put-line-if c = search rules
+slice_bounds-put_line_if-end : tie.Need-slice_bounds-put_line_if-end invariant-loop-i decreases-loop-i
+slice_bounds-put_line_if-end c = search rules
 
-put-line-if-requires : tie.Need-put-line-if-requires invariant-loop decreases-loop
-put-line-if-requires c κs = (omega (arith, c.before.before.before.before.loop.invariant.1, c.before.before.before.before.loop.invariant.0.few, c.before.before.before.before.before.before.before.before.requires), c.before.before.before.before.before.before.before.before.requires.1, omega arith)
+put_line_if-end-requires : tie.Need-put_line_if-end-requires invariant-loop-i decreases-loop-i
+put_line_if-end-requires c κs = (omega (arith, c.loop-i.invariant.1, c.loop-i.invariant.0.few, c.requires), c.requires.1, omega arith)
 
-add-i : tie.Need-overflow-add-i invariant-loop decreases-loop
-add-i c = omega (arith, c.before.before.before.before.before.before.loop-test.true)
+overflow_add-i : tie.Need-overflow_add-i invariant-loop-i decreases-loop-i
+overflow_add-i c = omega (arith, c.loop-i-test.true)
 
-loop-less : tie.Need-loop-smaller invariant-loop decreases-loop
-loop-less c = omega (arith, c.before.before.before.before.before.before.loop-test.true)
+loop-i-smaller : tie.Need-loop-i-smaller invariant-loop-i decreases-loop-i
+loop-i-smaller c = omega (arith, c.loop-i-test.true)
 
-loop-again : tie.Need-loop-preserved invariant-loop decreases-loop
-loop-again c =
-    let p = c.before.before.put-line-if in
-    let i = c.before.before.before.before.before.before.before.loop.invariant in
-    (go_more i.0 c.before.before.before.before.before.before.loop-test.true p.auto.1.1.1.1.1.0 (emits_as (pair_is _ _ _ _ _ _ c.before.before.before.before.before.test.ensures) p.ensures.0), omega (arith, i.1, p.ensures.1))
+loop-i-preserved : tie.Need-loop-i-preserved invariant-loop-i decreases-loop-i
+loop-i-preserved c =
+    let p = c.put_line_if-end in
+    let i = c.loop-i.invariant in
+    (go_more i.0 c.loop-i-test.true p.auto.1.1.1.1.1.0 (emits_as (pair_is _ _ _ _ _ _ c.test.ensures) p.ensures.0), omega (arith, i.1, p.ensures.1))
 
-same_length : tie.Need-same-length invariant-loop decreases-loop
-same_length c = c.before.loop.invariant.0.long
+shape_of-out : tie.Need-shape_of-out invariant-loop-i decreases-loop-i
+shape_of-out c = c.loop-i.invariant.0.long
 
-returns : tie.Need-returns invariant-loop decreases-loop
-returns c = let i = c.before.loop.invariant in (go_done i.0 c.loop-test.false, omega (arith, i.1, i.0.few, c.before.before.before.before.before.requires))
+returns : tie.Need-returns invariant-loop-i decreases-loop-i
+returns c = let i = c.loop-i.invariant in (go_done i.0 c.loop-i-test.false, omega (arith, i.1, i.0.few, c.requires))
 
-pub put-pairs-spec : {M : Type 1} → statement M
-put-pairs-spec =
+pub put_pairs_spec : {M : Type 1} → statement M
+put_pairs_spec =
     tie.close
     (tie.spec
-    invariant-loop
-    decreases-loop
-    loop-holds
-    add-test
+    invariant-loop-i
+    decreases-loop-i
+    loop-i-init
+    overflow_add-first
     test-requires
-    slice-aggregate-put-line-if
-    put-line-if-requires
-    add-i
-    loop-less
-    loop-again
-    same_length
+    slice_bounds-put_line_if-end
+    put_line_if-end-requires
+    overflow_add-i
+    loop-i-smaller
+    loop-i-preserved
+    shape_of-out
     returns)

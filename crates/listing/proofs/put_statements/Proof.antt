@@ -15,70 +15,70 @@ use Rattle.listing.proofs.Running.{statements_inside, statements_next}
 use Rattle.listing.proofs.put_statements.Statement.{statement}
 use Rattle.listing.proofs.put_statements.Tie as tie
 
-abbrev invariant-loop : tie.invariant-loop
-invariant-loop numbers tables row count skip at out₀ end₀ first₀ m₀ out end first m =
+abbrev invariant-loop-m : tie.invariant-loop-m
+invariant-loop-m numbers tables row count skip at out₀ end₀ first₀ m₀ out end first m =
     Going skip (λ k. text_of (statement_text (graph_in numbers) (of_statements row) k) 0 (length (statement_list (graph_in numbers) k))) count m at out₀ out end × (end ≤ at + 2097152 * m)
     × (first ≡ bytes_before (graph_in numbers).statements m) × (first ≤ 16384 * m)
 
-abbrev decreases-loop : tie.decreases-loop
-decreases-loop numbers tables row count skip at out₀ end₀ first₀ m₀ out end first m = count - m
+abbrev decreases-loop-m : tie.decreases-loop-m
+decreases-loop-m numbers tables row count skip at out₀ end₀ first₀ m₀ out end first m = count - m
 
-loop-holds : tie.Need-loop-init invariant-loop decreases-loop
+loop-m-init : tie.Need-loop-m-init invariant-loop-m decreases-loop-m
 unfolding bytes_before
-loop-holds c = (go_none, omega arith, refl, omega arith)
+loop-m-init c = (go_none, omega arith, refl, omega arith)
 
-statement-count-requires : tie.Need-statement-count-requires invariant-loop decreases-loop
-statement-count-requires c κs = let s = c.before.before.before.before.before.before.requires in (s.0, omega (arith, c.loop-test.true, s.1.1))
+statement_count-size-requires : tie.Need-statement_count-size-requires invariant-loop-m decreases-loop-m
+statement_count-size-requires c κs = let s = c.requires in (s.0, omega (arith, c.loop-m-test.true, s.1.1))
 
-put-statements-of-requires : tie.Need-put-statements-of-requires invariant-loop decreases-loop
-put-statements-of-requires c κs =
-    let s = c.before.before.before.before.before.before.before.before.requires in
-    let i = c.before.before.before.loop.invariant in
-    let n = c.before.statement-count.ensures in
-    (omega (arith, i.1, i.0.few, s.0.few_modules, s.1.0, s.1.1), omega (arith, i.2, statements_inside _ _ _ _ _ c.before.before.loop-test.true n.0 s.1.2), omega (arith, i.3, i.0.few, s.0.few_modules, s.1.1), n.1)
+put_statements_of-end-requires : tie.Need-put_statements_of-end-requires invariant-loop-m decreases-loop-m
+put_statements_of-end-requires c κs =
+    let s = c.requires in
+    let i = c.loop-m.invariant in
+    let n = c.statement_count-size.ensures in
+    (omega (arith, i.1, i.0.few, s.0.few_modules, s.1.0, s.1.1), omega (arith, i.2, statements_inside _ _ _ _ _ c.loop-m-test.true n.0 s.1.2), omega (arith, i.3, i.0.few, s.0.few_modules, s.1.1), n.1)
 
-bytes-for-requires : tie.Need-bytes-for-requires invariant-loop decreases-loop
-bytes-for-requires c κs = omega (arith, c.before.before.before.before.statement-count.ensures.1)
+bytes_for-first-requires : tie.Need-bytes_for-first-requires invariant-loop-m decreases-loop-m
+bytes_for-first-requires c κs = omega (arith, c.statement_count-size.ensures.1)
 
-add-first : tie.Need-overflow-add-first invariant-loop decreases-loop
-add-first c = let s = c.before.before.before.before.before.before.before.before.before.before.before.before.requires in let i = c.before.before.before.before.before.before.before.loop.invariant in omega (arith, i.3, i.0.few, s.0.few_modules, s.1.1, c.before.before.before.before.before.statement-count.ensures.1, c.bytes-for.ensures, bytes_at_most c.before.before.before.before.before.statement-count.result)
+overflow_add-first : tie.Need-overflow_add-first invariant-loop-m decreases-loop-m
+overflow_add-first c = let s = c.requires in let i = c.loop-m.invariant in omega (arith, i.3, i.0.few, s.0.few_modules, s.1.1, c.statement_count-size.ensures.1, c.bytes_for-first.ensures, bytes_at_most c.statement_count-size.result)
 
-add-m : tie.Need-overflow-add-m invariant-loop decreases-loop
-add-m c = omega (arith, c.before.before.before.before.before.before.loop-test.true)
+overflow_add-m : tie.Need-overflow_add-m invariant-loop-m decreases-loop-m
+overflow_add-m c = omega (arith, c.loop-m-test.true)
 
-loop-less : tie.Need-loop-smaller invariant-loop decreases-loop
-loop-less c = omega (arith, c.before.before.before.before.before.before.loop-test.true)
+loop-m-smaller : tie.Need-loop-m-smaller invariant-loop-m decreases-loop-m
+loop-m-smaller c = omega (arith, c.loop-m-test.true)
 
-loop-again : tie.Need-loop-preserved invariant-loop decreases-loop
-loop-again c =
-    let p = c.before.before.before.put-statements-of in
-    let i = c.before.before.before.before.before.before.before.loop.invariant in
-    let n = c.before.before.before.before.before.statement-count.ensures in (
-      go_more i.0 c.before.before.before.before.before.before.loop-test.true p.auto.1.1.1.1.1.1.0 (emits_as (statements_are _ _ _ _ _ i.2 n.0) p.ensures.0),
+loop-m-preserved : tie.Need-loop-m-preserved invariant-loop-m decreases-loop-m
+loop-m-preserved c =
+    let p = c.put_statements_of-end in
+    let i = c.loop-m.invariant in
+    let n = c.statement_count-size.ensures in (
+      go_more i.0 c.loop-m-test.true p.auto.1.1.1.1.1.1.0 (emits_as (statements_are _ _ _ _ _ i.2 n.0) p.ensures.0),
       omega (arith, i.1, p.ensures.1),
-      omega (arith, i.2, c.bytes-for.ensures, statements_next _ _ _ n.0),
-      omega (arith, i.3, n.1, c.bytes-for.ensures, bytes_at_most c.before.before.before.before.before.statement-count.result),
+      omega (arith, i.2, c.bytes_for-first.ensures, statements_next _ _ _ n.0),
+      omega (arith, i.3, n.1, c.bytes_for-first.ensures, bytes_at_most c.statement_count-size.result),
     )
 
-same_length : tie.Need-same-length invariant-loop decreases-loop
-same_length c = c.before.loop.invariant.0.long
+shape_of-out : tie.Need-shape_of-out invariant-loop-m decreases-loop-m
+shape_of-out c = c.loop-m.invariant.0.long
 
-returns : tie.Need-returns invariant-loop decreases-loop
-returns c = let i = c.before.loop.invariant in (go_done i.0 c.loop-test.false, omega (arith, i.1, i.0.few, c.before.before.before.before.before.before.requires.0.few_modules, c.before.before.before.before.before.before.requires.1.1))
+returns : tie.Need-returns invariant-loop-m decreases-loop-m
+returns c = let i = c.loop-m.invariant in (go_done i.0 c.loop-m-test.false, omega (arith, i.1, i.0.few, c.requires.0.few_modules, c.requires.1.1))
 
-pub put-statements-spec : {M : Type 1} → statement M
-put-statements-spec =
+pub put_statements_spec : {M : Type 1} → statement M
+put_statements_spec =
     tie.close
     (tie.spec
-    invariant-loop
-    decreases-loop
-    loop-holds
-    statement-count-requires
-    put-statements-of-requires
-    bytes-for-requires
-    add-first
-    add-m
-    loop-less
-    loop-again
-    same_length
+    invariant-loop-m
+    decreases-loop-m
+    loop-m-init
+    statement_count-size-requires
+    put_statements_of-end-requires
+    bytes_for-first-requires
+    overflow_add-first
+    overflow_add-m
+    loop-m-smaller
+    loop-m-preserved
+    shape_of-out
     returns)

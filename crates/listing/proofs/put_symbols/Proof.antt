@@ -7,54 +7,54 @@ use Rattle.listing.proofs.Lines.{symbol_is}
 use Rattle.listing.proofs.put_symbols.Statement.{statement}
 use Rattle.listing.proofs.put_symbols.Tie as tie
 
-abbrev invariant-loop : tie.invariant-loop
-invariant-loop word row count skip at out₀ end₀ s₀ out end s = Going skip (symbol_text word row) count s at out₀ out end × (end ≤ at + 128 * s)
+abbrev invariant-loop-s : tie.invariant-loop-s
+invariant-loop-s word row count skip at out₀ end₀ s₀ out end s = Going skip (symbol_text word row) count s at out₀ out end × (end ≤ at + 128 * s)
 
-abbrev decreases-loop : tie.decreases-loop
-decreases-loop word row count skip at out₀ end₀ s₀ out end s = count - s
+abbrev decreases-loop-s : tie.decreases-loop-s
+decreases-loop-s word row count skip at out₀ end₀ s₀ out end s = count - s
 
-loop-holds : tie.Need-loop-init invariant-loop decreases-loop
-loop-holds c = (go_none, omega arith)
+loop-s-init : tie.Need-loop-s-init invariant-loop-s decreases-loop-s
+loop-s-init c = (go_none, omega arith)
 
-test-requires : tie.Need-test-requires invariant-loop decreases-loop
-test-requires c κs = omega (arith, c.loop-test.true, c.before.before.before.before.before.requires)
+test-requires : tie.Need-test-requires invariant-loop-s decreases-loop-s
+test-requires c κs = omega (arith, c.loop-s-test.true, c.requires)
 
-slice-aggregate-put-line-if : tie.Need-slice-aggregate-put-line-if invariant-loop decreases-loop
-slice-aggregate-put-line-if c = search rules
+slice_bounds-put_line_if-end : tie.Need-slice_bounds-put_line_if-end invariant-loop-s decreases-loop-s
+slice_bounds-put_line_if-end c = search rules
 
-put-line-if-requires : tie.Need-put-line-if-requires invariant-loop decreases-loop
-put-line-if-requires c κs = (omega (arith, c.before.before.before.before.loop.invariant.1, c.before.before.before.before.loop.invariant.0.few, c.before.before.before.before.before.before.before.before.requires), c.before.before.before.before.before.before.before.before.requires.1, omega arith)
+put_line_if-end-requires : tie.Need-put_line_if-end-requires invariant-loop-s decreases-loop-s
+put_line_if-end-requires c κs = (omega (arith, c.loop-s.invariant.1, c.loop-s.invariant.0.few, c.requires), c.requires.1, omega arith)
 
-add-s : tie.Need-overflow-add-s invariant-loop decreases-loop
-add-s c = omega (arith, c.before.before.before.before.before.before.loop-test.true)
+overflow_add-s : tie.Need-overflow_add-s invariant-loop-s decreases-loop-s
+overflow_add-s c = omega (arith, c.loop-s-test.true)
 
-loop-less : tie.Need-loop-smaller invariant-loop decreases-loop
-loop-less c = omega (arith, c.before.before.before.before.before.before.loop-test.true)
+loop-s-smaller : tie.Need-loop-s-smaller invariant-loop-s decreases-loop-s
+loop-s-smaller c = omega (arith, c.loop-s-test.true)
 
-loop-again : tie.Need-loop-preserved invariant-loop decreases-loop
-loop-again c =
-    let p = c.before.before.put-line-if in
-    let i = c.before.before.before.before.before.before.before.loop.invariant in
-    (go_more i.0 c.before.before.before.before.before.before.loop-test.true p.auto.1.1.1.1.1.0 (emits_as (symbol_is _ _ _ _ c.before.before.before.before.before.test.ensures) p.ensures.0), omega (arith, i.1, p.ensures.1))
+loop-s-preserved : tie.Need-loop-s-preserved invariant-loop-s decreases-loop-s
+loop-s-preserved c =
+    let p = c.put_line_if-end in
+    let i = c.loop-s.invariant in
+    (go_more i.0 c.loop-s-test.true p.auto.1.1.1.1.1.0 (emits_as (symbol_is _ _ _ _ c.test.ensures) p.ensures.0), omega (arith, i.1, p.ensures.1))
 
-same_length : tie.Need-same-length invariant-loop decreases-loop
-same_length c = c.before.loop.invariant.0.long
+shape_of-out : tie.Need-shape_of-out invariant-loop-s decreases-loop-s
+shape_of-out c = c.loop-s.invariant.0.long
 
-returns : tie.Need-returns invariant-loop decreases-loop
-returns c = let i = c.before.loop.invariant in (go_done i.0 c.loop-test.false, omega (arith, i.1, i.0.few, c.before.before.before.before.before.requires))
+returns : tie.Need-returns invariant-loop-s decreases-loop-s
+returns c = let i = c.loop-s.invariant in (go_done i.0 c.loop-s-test.false, omega (arith, i.1, i.0.few, c.requires))
 
-pub put-symbols-spec : {M : Type 1} → statement M
-put-symbols-spec =
+pub put_symbols_spec : {M : Type 1} → statement M
+put_symbols_spec =
     tie.close
     (tie.spec
-    invariant-loop
-    decreases-loop
-    loop-holds
+    invariant-loop-s
+    decreases-loop-s
+    loop-s-init
     test-requires
-    slice-aggregate-put-line-if
-    put-line-if-requires
-    add-s
-    loop-less
-    loop-again
-    same_length
+    slice_bounds-put_line_if-end
+    put_line_if-end-requires
+    overflow_add-s
+    loop-s-smaller
+    loop-s-preserved
+    shape_of-out
     returns)

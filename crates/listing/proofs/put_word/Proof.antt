@@ -7,50 +7,50 @@ use native.Mathlib.Omega.{arith}
 use Rattle.listing.proofs.put_word.Statement.{statement}
 use Rattle.listing.proofs.put_word.Tie as tie
 
-abbrev invariant-loop : tie.invariant-loop
-invariant-loop word skip at out₀ end₀ i₀ out end i = Going skip (λ k. get_or word k 0 ∷ []) (length word) i at out₀ out end × (end ≤ at + i)
+abbrev invariant-loop-i : tie.invariant-loop-i
+invariant-loop-i word skip at out₀ end₀ i₀ out end i = Going skip (λ k. get_or word k 0 ∷ []) (length word) i at out₀ out end × (end ≤ at + i)
 
-abbrev decreases-loop : tie.decreases-loop
-decreases-loop word skip at out₀ end₀ i₀ out end i = length word - i
+abbrev decreases-loop-i : tie.decreases-loop-i
+decreases-loop-i word skip at out₀ end₀ i₀ out end i = length word - i
 
-loop-holds : tie.Need-loop-init invariant-loop decreases-loop
-loop-holds c = (go_none, omega arith)
+loop-i-init : tie.Need-loop-i-init invariant-loop-i decreases-loop-i
+loop-i-init c = (go_none, omega arith)
 
-shared-slice-read-put-byte : tie.Need-shared-slice-read-put-byte invariant-loop decreases-loop
-shared-slice-read-put-byte c = search rules
+bounds-word-i : tie.Need-bounds-word-i invariant-loop-i decreases-loop-i
+bounds-word-i c = search rules
 
-put-byte-requires : tie.Need-put-byte-requires invariant-loop decreases-loop
-put-byte-requires c κs = omega (arith, c.before.before.before.loop.invariant.1, c.before.before.loop-test.true)
+put_byte-end-requires : tie.Need-put_byte-end-requires invariant-loop-i decreases-loop-i
+put_byte-end-requires c κs = omega (arith, c.loop-i.invariant.1, c.loop-i-test.true)
 
-add-i : tie.Need-overflow-add-i invariant-loop decreases-loop
-add-i c = search rules
+overflow_add-i : tie.Need-overflow_add-i invariant-loop-i decreases-loop-i
+overflow_add-i c = search rules
 
-loop-less : tie.Need-loop-smaller invariant-loop decreases-loop
-loop-less c = omega (arith, c.before.before.before.before.before.loop-test.true)
+loop-i-smaller : tie.Need-loop-i-smaller invariant-loop-i decreases-loop-i
+loop-i-smaller c = omega (arith, c.loop-i-test.true)
 
-loop-again : tie.Need-loop-preserved invariant-loop decreases-loop
-loop-again c =
-    let p = c.before.before.put_byte in
-    let l = c.before.before.before.before.before.before.loop in
-    (go_more l.invariant.0 c.before.before.before.before.before.loop-test.true p.auto.1.1.1.0 p.ensures, omega (arith, l.invariant.1, p.ensures.counts))
+loop-i-preserved : tie.Need-loop-i-preserved invariant-loop-i decreases-loop-i
+loop-i-preserved c =
+    let p = c.put_byte-end in
+    let l = c.loop-i in
+    (go_more l.invariant.0 c.loop-i-test.true p.auto.1.1.1.0 p.ensures, omega (arith, l.invariant.1, p.ensures.counts))
 
-same_length : tie.Need-same-length invariant-loop decreases-loop
-same_length c = c.before.loop.invariant.0.long
+shape_of-out : tie.Need-shape_of-out invariant-loop-i decreases-loop-i
+shape_of-out c = c.loop-i.invariant.0.long
 
-returns : tie.Need-returns invariant-loop decreases-loop
-returns c = (emits_as (bytes_of _) (go_done c.before.loop.invariant.0 c.loop-test.false), omega (arith, c.before.loop.invariant.1, c.before.loop.invariant.0.few))
+returns : tie.Need-returns invariant-loop-i decreases-loop-i
+returns c = (emits_as (bytes_of _) (go_done c.loop-i.invariant.0 c.loop-i-test.false), omega (arith, c.loop-i.invariant.1, c.loop-i.invariant.0.few))
 
-pub put-word-spec : {M : Type 1} → statement M
-put-word-spec =
+pub put_word_spec : {M : Type 1} → statement M
+put_word_spec =
     tie.close
     (tie.spec
-    invariant-loop
-    decreases-loop
-    loop-holds
-    shared-slice-read-put-byte
-    put-byte-requires
-    add-i
-    loop-less
-    loop-again
-    same_length
+    invariant-loop-i
+    decreases-loop-i
+    loop-i-init
+    bounds-word-i
+    put_byte-end-requires
+    overflow_add-i
+    loop-i-smaller
+    loop-i-preserved
+    shape_of-out
     returns)

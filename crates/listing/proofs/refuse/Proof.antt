@@ -7,28 +7,24 @@ use Rattle.listing.proofs.refuse.Tie as tie
 wide-requires : tie.Need-wide-requires
 wide-requires c κs = search rules
 
-slice-aggregate-put-line : tie.Need-slice-aggregate-put-line
-slice-aggregate-put-line c = search rules
+slice_bounds-put_line-end-2 : tie.Need-slice_bounds-put_line-end-2
+slice_bounds-put_line-end-2 c = search rules
 
-slice-aggregate-put-line-2 : tie.Need-slice-aggregate-put-line-2
-slice-aggregate-put-line-2 c = search rules
+put_line-requires : tie.Need-put_line-requires
+put_line-requires c κs = search rules
 
-put-line-requires : tie.Need-put-line-requires
-put-line-requires c κs = search rules
-
-same_length : tie.Need-same-length
-same_length c = search rules
+shape_of-out : tie.Need-shape_of-out
+shape_of-out c = search rules
 
 returns : tie.Need-returns
-returns c = emits_all (emits_as (refused_is _ _ c.before.before.before.before.before.before.wide.ensures) c.before.before.put-line.ensures.0)
+returns c = emits_all (emits_as (refused_is _ _ c.wide.ensures) c.put_line.ensures.0)
 
-pub refuse-spec : {M : Type 1} → statement M
-refuse-spec =
+pub refuse_spec : {M : Type 1} → statement M
+refuse_spec =
     tie.close
     (tie.spec
     wide-requires
-    slice-aggregate-put-line
-    slice-aggregate-put-line-2
-    put-line-requires
-    same_length
+    slice_bounds-put_line-end-2
+    put_line-requires
+    shape_of-out
     returns)

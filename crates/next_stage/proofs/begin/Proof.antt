@@ -12,50 +12,49 @@ use borrow.Author.Rules.{rules}
 use Rattle.next_stage.proofs.begin.Statement.{statement}
 use Rattle.next_stage.proofs.begin.Tie as tie
 
-header-of-requires : tie.Need-header-of-requires
-header-of-requires c κs = c.before.before.before.before.before.requires.0.long
+header_of-h-requires : tie.Need-header_of-h-requires
+header_of-h-requires c κs = c.requires.0.long
 
-mark-kept-requires : tie.Need-mark-kept-requires
-mark-kept-requires c κs = (c.before.before.before.before.before.before.before.requires.0, c.before.before.before.before.before.before.before.requires.1.held)
+mark_kept-requires : tie.Need-mark_kept-requires
+mark_kept-requires c κs = (c.requires.0, c.requires.1.held)
 
 -- the table has a size
 size_fits : (h : Header) (numbers tables : List ℕ) → Loaded numbers tables → h ≡ header_in numbers → partners_size h < 18446744073709551616
 size_fits h numbers tables t e = rw e (omega (arith, t.few_modules, t.few_symbols))
 
-firsts-at-requires : tie.Need-firsts-at-requires
-firsts-at-requires c κs = size_fits _ _ _ c.before.before.before.before.before.before.before.before.before.before.requires.0 c.before.before.before.before.header_of.ensures
+firsts_at-firsts-requires : tie.Need-firsts_at-firsts-requires
+firsts_at-firsts-requires c κs = size_fits _ _ _ c.requires.0 c.header_of-h.ensures
 
-nexts-at-requires : tie.Need-nexts-at-requires
-nexts-at-requires c κs = size_fits _ _ _ c.before.before.before.before.before.before.before.before.before.before.before.requires.0 c.before.before.before.before.before.header_of.ensures
+nexts_at-nexts-requires : tie.Need-nexts_at-nexts-requires
+nexts_at-nexts-requires c κs = size_fits _ _ _ c.requires.0 c.header_of-h.ensures
 
-forget-forwards-requires : tie.Need-forget-forwards-requires
-forget-forwards-requires c κs = omega (arith, c.before.before.before.before.before.before.before.before.before.before.before.before.before.requires.1.linked.long, c.before.nexts-at.ensures, modules_are _ _ c.before.before.before.before.before.before.before.header_of.ensures)
+forget_forwards-requires : tie.Need-forget_forwards-requires
+forget_forwards-requires c κs = omega (arith, c.requires.1.linked.long, c.nexts_at-nexts.ensures, modules_are _ _ c.header_of-h.ensures)
 
-same_length : tie.Need-same-length
-same_length c = search rules
+shape_of-partners : tie.Need-shape_of-partners
+shape_of-partners c = search rules
 
-same-length-2 : tie.Need-same-length-2
-same-length-2 c = search rules
+shape_of-marks : tie.Need-shape_of-marks
+shape_of-marks c = search rules
 
 returns : tie.Need-returns
 returns c =
-    let s = c.before.before.before.before.before.before.before.before.before.before.before.before.before.before.before.before in
-    let m = modules_are _ _ c.before.before.before.before.before.before.before.before.before.before.header_of.ensures in
-    let f = c.before.before.forget-forwards.ensures in
+    let m = modules_are _ _ c.header_of-h.ensures in
+    let f = c.forget_forwards.ensures in
     record {
-      held = c.before.before.before.before.before.before.before.before.mark-kept.ensures;
-      linked = stage_linked _ _ _ _ _ _ _ (c.before.before.before.before.before.firsts_at.ensures ∙ m) (c.before.before.before.before.nexts-at.ensures ∙ ap (λ (x : ℕ). 3 * x) m) (lines-length _ _) s.requires.1.linked f.0 f.1 f.2;
+      held = c.mark_kept.ensures;
+      linked = stage_linked _ _ _ _ _ _ _ (c.firsts_at-firsts.ensures ∙ m) (c.nexts_at-nexts.ensures ∙ ap (λ (x : ℕ). 3 * x) m) (lines-length _ _) c.requires.1.linked f.0 f.1 f.2;
     }
 
-pub begin-spec : {M : Type 1} → statement M
-begin-spec =
+pub begin_spec : {M : Type 1} → statement M
+begin_spec =
     tie.close
     (tie.spec
-    header-of-requires
-    mark-kept-requires
-    firsts-at-requires
-    nexts-at-requires
-    forget-forwards-requires
-    same_length
-    same-length-2
+    header_of-h-requires
+    mark_kept-requires
+    firsts_at-firsts-requires
+    nexts_at-nexts-requires
+    forget_forwards-requires
+    shape_of-partners
+    shape_of-marks
     returns)

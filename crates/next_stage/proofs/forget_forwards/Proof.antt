@@ -5,47 +5,47 @@ use native.Mathlib.Omega.{arith}
 use Rattle.next_stage.proofs.forget_forwards.Statement.{statement}
 use Rattle.next_stage.proofs.forget_forwards.Tie as tie
 
-abbrev invariant-loop : tie.invariant-loop
-invariant-loop partners₀ firsts nexts i₀ partners i = Zeroing firsts partners₀ partners i
+abbrev invariant-loop-i : tie.invariant-loop-i
+invariant-loop-i partners₀ firsts nexts i₀ partners i = Zeroing firsts partners₀ partners i
 
-abbrev decreases-loop : tie.decreases-loop
-decreases-loop partners₀ firsts nexts i₀ partners i = nexts - i
+abbrev decreases-loop-i : tie.decreases-loop-i
+decreases-loop-i partners₀ firsts nexts i₀ partners i = nexts - i
 
-loop-holds : tie.Need-loop-init invariant-loop decreases-loop
-loop-holds c = zeroing_none _ _
+loop-i-init : tie.Need-loop-i-init invariant-loop-i decreases-loop-i
+loop-i-init c = zeroing_none _ _
 
-mul-partners : tie.Need-overflow-mul-partners invariant-loop decreases-loop
-mul-partners c = search rules
+offset_bounds-partners-i : tie.Need-offset_bounds-partners-i invariant-loop-i decreases-loop-i
+offset_bounds-partners-i c = search rules
 
-slice-write-partners : tie.Need-slice-write-partners invariant-loop decreases-loop
-slice-write-partners c = search rules
+bounds-partners-i : tie.Need-bounds-partners-i invariant-loop-i decreases-loop-i
+bounds-partners-i c = search rules
 
-add-i : tie.Need-overflow-add-i invariant-loop decreases-loop
-add-i c = search rules
+overflow_add-i : tie.Need-overflow_add-i invariant-loop-i decreases-loop-i
+overflow_add-i c = search rules
 
-loop-less : tie.Need-loop-smaller invariant-loop decreases-loop
-loop-less c = search rules
+loop-i-smaller : tie.Need-loop-i-smaller invariant-loop-i decreases-loop-i
+loop-i-smaller c = search rules
 
-loop-again : tie.Need-loop-preserved invariant-loop decreases-loop
-loop-again c = zeroing_more _ _ _ _ c.before.loop.invariant (omega (arith, c.before.loop.invariant.same_length))
+loop-i-preserved : tie.Need-loop-i-preserved invariant-loop-i decreases-loop-i
+loop-i-preserved c = zeroing_more _ _ _ _ c.loop-i.invariant (omega (arith, c.loop-i.invariant.same_length))
 
-same_length : tie.Need-same-length invariant-loop decreases-loop
-same_length c = search rules
+shape_of-partners : tie.Need-shape_of-partners invariant-loop-i decreases-loop-i
+shape_of-partners c = search rules
 
-returns : tie.Need-returns invariant-loop decreases-loop
-returns c = let z = c.before.loop.invariant in (z.same_length, z.before, λ i a b. z.zeros i a (omega (arith, c.loop-test.false, b)))
+returns : tie.Need-returns invariant-loop-i decreases-loop-i
+returns c = let z = c.loop-i.invariant in (z.same_length, z.before, λ i a b. z.zeros i a (omega (arith, c.loop-i-test.false, b)))
 
-pub forget-forwards-spec : {M : Type 1} → statement M
-forget-forwards-spec =
+pub forget_forwards_spec : {M : Type 1} → statement M
+forget_forwards_spec =
     tie.close
     (tie.spec
-    invariant-loop
-    decreases-loop
-    loop-holds
-    mul-partners
-    slice-write-partners
-    add-i
-    loop-less
-    loop-again
-    same_length
+    invariant-loop-i
+    decreases-loop-i
+    loop-i-init
+    offset_bounds-partners-i
+    bounds-partners-i
+    overflow_add-i
+    loop-i-smaller
+    loop-i-preserved
+    shape_of-partners
     returns)

@@ -7,65 +7,65 @@ use native.Mathlib.Omega.{arith}
 use Rattle.next_stage.proofs.mark_kept.Statement.{statement}
 use Rattle.next_stage.proofs.mark_kept.Tie as tie
 
-abbrev invariant-loop : tie.invariant-loop
-invariant-loop numbers tables marks₀ lines count bytes k₀ marks k = Marking (graph_in numbers) lines count marks₀ marks k
+abbrev invariant-loop-k : tie.invariant-loop-k
+invariant-loop-k numbers tables marks₀ lines count bytes k₀ marks k = Marking (graph_in numbers) lines count marks₀ marks k
 
-abbrev decreases-loop : tie.decreases-loop
-decreases-loop numbers tables marks₀ lines count bytes k₀ marks k = count - k
+abbrev decreases-loop-k : tie.decreases-loop-k
+decreases-loop-k numbers tables marks₀ lines count bytes k₀ marks k = count - k
 
-clear-requires : tie.Need-clear-requires invariant-loop decreases-loop
+clear-requires : tie.Need-clear-requires invariant-loop-k decreases-loop-k
 clear-requires c κs = search rules
 
-loop-holds : tie.Need-loop-init invariant-loop decreases-loop
-loop-holds c = marking_none _ _ _ _ _ _ (omega arith) c.before.before.clear.ensures
+loop-k-init : tie.Need-loop-k-init invariant-loop-k decreases-loop-k
+loop-k-init c = marking_none _ _ _ _ _ _ (omega arith) c.clear.ensures
 
-fact-at-requires : tie.Need-fact-at-requires invariant-loop decreases-loop
-fact-at-requires c κs = search rules
+fact_at-fact-requires : tie.Need-fact_at-fact-requires invariant-loop-k decreases-loop-k
+fact_at-fact-requires c κs = search rules
 
-stays-requires : tie.Need-stays-requires invariant-loop decreases-loop
+stays-requires : tie.Need-stays-requires invariant-loop-k decreases-loop-k
 stays-requires c κs = search rules
 
-mark-of-requires : tie.Need-mark-of-requires invariant-loop decreases-loop
-mark-of-requires c κs = let s = c.before.before.before.before.before.before.before.before.before.before.before.before.before.before in (s.requires.0, line_good _ _ _ _ _ _ s.requires.1 c.before.before.before.fact_at.ensures (omega (arith, c.before.before.before.before.loop-test.true)))
+mark_of-requires : tie.Need-mark_of-requires invariant-loop-k decreases-loop-k
+mark_of-requires c κs = (c.requires.0, line_good _ _ _ _ _ _ c.requires.1 c.fact_at-fact.ensures (omega (arith, c.loop-k-test.true)))
 
-set-requires : tie.Need-set-requires invariant-loop decreases-loop
+set-requires : tie.Need-set-requires invariant-loop-k decreases-loop-k
 set-requires c κs = search rules
 
-add-k : tie.Need-overflow-add-k invariant-loop decreases-loop
-add-k c = search rules
+overflow_add-k : tie.Need-overflow_add-k invariant-loop-k decreases-loop-k
+overflow_add-k c = search rules
 
-loop-less : tie.Need-loop-smaller invariant-loop decreases-loop
-loop-less c = search rules
+loop-k-smaller : tie.Need-loop-k-smaller invariant-loop-k decreases-loop-k
+loop-k-smaller c = search rules
 
-loop-again : tie.Need-loop-preserved invariant-loop decreases-loop
-loop-again c =
-    let m = c.before.before.before.before.loop.invariant in
-    let l : c.before.before.before.before.loop.k < c.before.before.before.before.before.before.before.before.before.before.before.before.before.args.count = omega (arith, c.before.before.before.loop-test.true) in
+loop-k-preserved : tie.Need-loop-k-preserved invariant-loop-k decreases-loop-k
+loop-k-preserved c =
+    let m = c.loop-k.invariant in
+    let l : c.loop-k.k < c.args.count = omega (arith, c.loop-k-test.true) in
     ⊎_elim
-    (λ w. marking-set _ _ _ _ _ _ m l _ c.before.before.fact_at.ensures _ _ _ _ c.before.stays.ensures w.0.taken w.2.ensures.0 w.3.kept.0 w.3.ensures w.6)
-    (λ w. marking-passed _ _ _ _ _ _ m l _ c.before.before.fact_at.ensures _ _ c.before.stays.ensures w.0.left w.1)
-    c.if1.branch
+    (λ w. marking-set _ _ _ _ _ _ m l _ c.fact_at-fact.ensures _ _ _ _ c.stays.ensures w.0.taken w.2.ensures.0 w.3.kept.0 w.3.ensures w.6)
+    (λ w. marking-passed _ _ _ _ _ _ m l _ c.fact_at-fact.ensures _ _ c.stays.ensures w.0.left w.1)
+    c.if-stays.branch
 
-same_length : tie.Need-same-length invariant-loop decreases-loop
-same_length c = search rules
+shape_of-marks : tie.Need-shape_of-marks invariant-loop-k decreases-loop-k
+shape_of-marks c = search rules
 
-returns : tie.Need-returns invariant-loop decreases-loop
-returns c = let s = c.before.before.before.before.before.before.before.before.before.before in stage_held s.requires.0 _ _ _ _ s.requires.1 (same_length c) (marking_done _ _ _ _ _ _ c.before.loop.invariant (omega (arith, c.loop-test.false)))
+returns : tie.Need-returns invariant-loop-k decreases-loop-k
+returns c = stage_held c.requires.0 _ _ _ _ c.requires.1 (shape_of-marks c) (marking_done _ _ _ _ _ _ c.loop-k.invariant (omega (arith, c.loop-k-test.false)))
 
-pub mark-kept-spec : {M : Type 1} → statement M
-mark-kept-spec =
+pub mark_kept_spec : {M : Type 1} → statement M
+mark_kept_spec =
     tie.close
     (tie.spec
-    invariant-loop
-    decreases-loop
+    invariant-loop-k
+    decreases-loop-k
     clear-requires
-    loop-holds
-    fact-at-requires
+    loop-k-init
+    fact_at-fact-requires
     stays-requires
-    mark-of-requires
+    mark_of-requires
     set-requires
-    add-k
-    loop-less
-    loop-again
-    same_length
+    overflow_add-k
+    loop-k-smaller
+    loop-k-preserved
+    shape_of-marks
     returns)

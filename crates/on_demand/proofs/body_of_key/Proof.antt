@@ -10,30 +10,29 @@ use Rattle.on_demand.proofs.Entering.{body_fits}
 use Rattle.on_demand.proofs.body_of_key.Statement.{statement}
 use Rattle.on_demand.proofs.body_of_key.Tie as tie
 
-section-requires : tie.Need-section-requires
-section-requires c κs = inside c.before.before.requires.0.laid 7 (omega arith)
+section-bodies-requires : tie.Need-section-bodies-requires
+section-bodies-requires c κs = inside c.requires.0.laid 7 (omega arith)
 
-mul-result : tie.Need-overflow-mul-result
+offset_bounds-bodies-i : tie.Need-offset_bounds-bodies-i
 unfolding sizes
-mul-result c = record { fits = omega (arith, word_fits c.before.before.before.requires.0.laid 7 (omega arith) kept_none c.before.before.before.args.s.0 c.before.before.before.requires.1, c.before.before.before.requires.0.laid.few) }
+offset_bounds-bodies-i c = record { fits = omega (arith, word_fits c.requires.0.laid 7 (omega arith) kept_none c.args.s.0 c.requires.1, c.requires.0.laid.few) }
 
-shared-slice-read-result : tie.Need-shared-slice-read-result
+bounds-bodies-i : tie.Need-bounds-bodies-i
 unfolding graph_in
-shared-slice-read-result c = omega (arith, ap length c.before.section.ensures, c.before.before.before.before.requires.0.of_keys.long, c.before.before.before.before.requires.1)
+bounds-bodies-i c = omega (arith, ap length c.section-bodies.ensures, c.requires.0.of_keys.long, c.requires.1)
 
 returns : tie.Need-returns
 unfolding graph_in
 returns c =
-    let s = c.before.before.before.before in
-    let g = graph_in s.args.numbers.now in
-    let e = ap (λ v. get_or v s.args.s.0 0) c.before.section.ensures ∙ s.requires.0.of_keys.has s.args.s.0 s.requires.1 in
-    (e, omega (arith, e, body_fits g (last_verdicts g) s.args.s.0))
+    let g = graph_in c.args.numbers.now in
+    let e = ap (λ v. get_or v c.args.s.0 0) c.section-bodies.ensures ∙ c.requires.0.of_keys.has c.args.s.0 c.requires.1 in
+    (e, omega (arith, e, body_fits g (last_verdicts g) c.args.s.0))
 
-pub body-of-key-spec : {M : Type 1} → statement M
-body-of-key-spec =
+pub body_of_key_spec : {M : Type 1} → statement M
+body_of_key_spec =
     tie.close
     (tie.spec
-    section-requires
-    mul-result
-    shared-slice-read-result
+    section-bodies-requires
+    offset_bounds-bodies-i
+    bounds-bodies-i
     returns)

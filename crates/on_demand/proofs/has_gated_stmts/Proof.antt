@@ -8,55 +8,54 @@ use Rattle.on_demand.specs.Demand.{gated, has_gated}
 use Rattle.on_demand.proofs.has_gated_stmts.Statement.{statement}
 use Rattle.on_demand.proofs.has_gated_stmts.Tie as tie
 
-abbrev invariant-loop : tie.invariant-loop
-invariant-loop numbers tables m count i₀ i = (i ≤ count) × (some (gated (graph_in numbers) m.0) (tabulate (λ i. i) i (count - i)) ≡ has_gated (graph_in numbers) m.0)
+abbrev invariant-loop-i : tie.invariant-loop-i
+invariant-loop-i numbers tables m count i₀ i = (i ≤ count) × (some (gated (graph_in numbers) m.0) (tabulate (λ i. i) i (count - i)) ≡ has_gated (graph_in numbers) m.0)
 
-abbrev decreases-loop : tie.decreases-loop
-decreases-loop numbers tables m count i₀ i = count - i
+abbrev decreases-loop-i : tie.decreases-loop-i
+decreases-loop-i numbers tables m count i₀ i = count - i
 
-statement-count-requires : tie.Need-statement-count-requires invariant-loop decreases-loop
-statement-count-requires c κs = c.before.before.requires
+statement_count-count-requires : tie.Need-statement_count-count-requires invariant-loop-i decreases-loop-i
+statement_count-count-requires c κs = c.requires
 
-loop-holds : tie.Need-loop-init invariant-loop decreases-loop
+loop-i-init : tie.Need-loop-i-init invariant-loop-i decreases-loop-i
 unfolding has_gated
-loop-holds c =
-    let s = c.before.before.before in
-    let z : c.statement-count.result - 0 ≡ c.statement-count.result = omega arith in
-    (omega arith, ap (λ n. some (gated (graph_in s.args.numbers.now) s.args.m.0) (tabulate (λ i. i) 0 n)) (z ∙ c.statement-count.ensures.0))
+loop-i-init c =
+    let z : c.statement_count-count.result - 0 ≡ c.statement_count-count.result = omega arith in
+    (omega arith, ap (λ n. some (gated (graph_in c.args.numbers.now) c.args.m.0) (tabulate (λ i. i) 0 n)) (z ∙ c.statement_count-count.ensures.0))
 
-is-gated-side-effect-stmt-requires : tie.Need-is-gated-side-effect-stmt-requires invariant-loop decreases-loop
-is-gated-side-effect-stmt-requires c κs = (c.before.before.before.before.before.requires.0, (c.before.before.before.before.before.requires.1, omega (arith, c.loop-test.true, c.before.before.statement-count.ensures.0)))
+is_gated_side_effect_stmt-requires : tie.Need-is_gated_side_effect_stmt-requires invariant-loop-i decreases-loop-i
+is_gated_side_effect_stmt-requires c κs = (c.requires.0, (c.requires.1, omega (arith, c.loop-i-test.true, c.statement_count-count.ensures.0)))
 
-returns : tie.Need-returns invariant-loop decreases-loop
-returns c =
-    let e = sym c.before.is-gated-side-effect-stmt.ensures ∙ c.if1.true in
-    sym (some-tabulate-here _ (λ i. i) _ _ c.before.before.loop-test.true e) ∙ c.before.before.before.loop.invariant.1
+returns-then-is_gated_side_effect_stmt : tie.Need-returns-then-is_gated_side_effect_stmt invariant-loop-i decreases-loop-i
+returns-then-is_gated_side_effect_stmt c =
+    let e = sym c.is_gated_side_effect_stmt.ensures ∙ c.if-is_gated_side_effect_stmt.true in
+    sym (some-tabulate-here _ (λ i. i) _ _ c.loop-i-test.true e) ∙ c.loop-i.invariant.1
 
-add-i : tie.Need-overflow-add-i invariant-loop decreases-loop
-add-i c = record { fits = omega (arith, c.before.before.loop-test.true, c.before.before.before.before.statement-count.ensures.1) }
+overflow_add-i : tie.Need-overflow_add-i invariant-loop-i decreases-loop-i
+overflow_add-i c = record { fits = omega (arith, c.loop-i-test.true, c.statement_count-count.ensures.1) }
 
-loop-less : tie.Need-loop-smaller invariant-loop decreases-loop
-loop-less c = omega (arith, c.before.before.loop-test.true)
+loop-i-smaller : tie.Need-loop-i-smaller invariant-loop-i decreases-loop-i
+loop-i-smaller c = omega (arith, c.loop-i-test.true)
 
-loop-again : tie.Need-loop-preserved invariant-loop decreases-loop
-loop-again c =
-    let e = sym c.before.is-gated-side-effect-stmt.ensures ∙ c.if1.false in
-    (omega (arith, c.before.before.loop-test.true), sym (some_tabulate_next _ (λ i. i) _ _ c.before.before.loop-test.true e) ∙ c.before.before.before.loop.invariant.1)
+loop-i-preserved : tie.Need-loop-i-preserved invariant-loop-i decreases-loop-i
+loop-i-preserved c =
+    let e = sym c.is_gated_side_effect_stmt.ensures ∙ c.if-is_gated_side_effect_stmt.false in
+    (omega (arith, c.loop-i-test.true), sym (some_tabulate_next _ (λ i. i) _ _ c.loop-i-test.true e) ∙ c.loop-i.invariant.1)
 
-returns-2 : tie.Need-returns-2 invariant-loop decreases-loop
-returns-2 c = sym (some-tabulate-none _ (λ i. i) _ _ c.loop-test.false) ∙ c.before.loop.invariant.1
+returns : tie.Need-returns invariant-loop-i decreases-loop-i
+returns c = sym (some-tabulate-none _ (λ i. i) _ _ c.loop-i-test.false) ∙ c.loop-i.invariant.1
 
-pub has-gated-stmts-spec : {M : Type 1} → statement M
-has-gated-stmts-spec =
+pub has_gated_stmts_spec : {M : Type 1} → statement M
+has_gated_stmts_spec =
     tie.close
     (tie.spec
-    invariant-loop
-    decreases-loop
-    statement-count-requires
-    loop-holds
-    is-gated-side-effect-stmt-requires
-    returns
-    add-i
-    loop-less
-    loop-again
-    returns-2)
+    invariant-loop-i
+    decreases-loop-i
+    statement_count-count-requires
+    loop-i-init
+    is_gated_side_effect_stmt-requires
+    returns-then-is_gated_side_effect_stmt
+    overflow_add-i
+    loop-i-smaller
+    loop-i-preserved
+    returns)

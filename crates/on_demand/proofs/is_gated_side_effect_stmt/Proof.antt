@@ -6,39 +6,39 @@ use Rattle.on_demand.proofs.Deciding.{gated_first, gated-pure, gated-alone, gate
 use Rattle.on_demand.proofs.is_gated_side_effect_stmt.Statement.{statement}
 use Rattle.on_demand.proofs.is_gated_side_effect_stmt.Tie as tie
 
-returns : tie.Need-returns
-returns c = gated_first _ _ _ c.if1.true
+returns-then-i-eq0 : tie.Need-returns-then-i-eq0
+returns-then-i-eq0 c = gated_first _ _ _ c.if-i-eq0.true
 
 bits-requires : tie.Need-bits-requires
-bits-requires c κs = c.before.before.before.before.requires
+bits-requires c κs = c.requires
 
 flag-requires : tie.Need-flag-requires
 flag-requires c κs = (omega arith)
 
-returns-2 : tie.Need-returns-2
-returns-2 c = gated-pure _ _ _ c.before.before.before.if1.false _ (c.before.flag.ensures ∙ ap (λ x. flag_of 0 x) c.before.before.bits.ensures) (not_true _ c.if2.true)
+returns-then-not-flag : tie.Need-returns-then-not-flag
+returns-then-not-flag c = gated-pure _ _ _ c.if-i-eq0.false _ (c.flag.ensures ∙ ap (λ x. flag_of 0 x) c.bits.ensures) (not_true _ c.if-not-flag.true)
 
-reference-count-requires : tie.Need-reference-count-requires
-reference-count-requires c κs = c.before.before.before.before.before.before.before.requires
+reference_count-requires : tie.Need-reference_count-requires
+reference_count-requires c κs = c.requires
 
-returns-3 : tie.Need-returns-3
-returns-3 c = gated-alone _ _ _ c.before.before.before.before.before.if1.false _ (c.before.before.before.flag.ensures ∙ ap (λ x. flag_of 0 x) c.before.before.before.before.bits.ensures) (not-false _ c.before.before.if2.false) _ c.before.reference-count.ensures.0 c.if3.true
+returns-then-reference_count-eq0 : tie.Need-returns-then-reference_count-eq0
+returns-then-reference_count-eq0 c = gated-alone _ _ _ c.if-i-eq0.false _ (c.flag.ensures ∙ ap (λ x. flag_of 0 x) c.bits.ensures) (not-false _ c.if-not-flag.false) _ c.reference_count.ensures.0 c.if-reference_count-eq0.true
 
-import-record-count-requires : tie.Need-import-record-count-requires
-import-record-count-requires c κs = c.before.before.before.before.before.before.before.before.before.requires
+import_record_count-requires : tie.Need-import_record_count-requires
+import_record_count-requires c κs = c.requires
 
-returns-4 : tie.Need-returns-4
-returns-4 c = gated-records _ _ _ c.before.before.before.before.before.before.if1.false _ (c.before.before.before.before.flag.ensures ∙ ap (λ x. flag_of 0 x) c.before.before.before.before.before.bits.ensures) (not-false _ c.before.before.before.if2.false) _ c.before.before.reference-count.ensures.0 _ c.before.if3.false c.import-record-count.ensures.0
+returns : tie.Need-returns
+returns c = gated-records _ _ _ c.if-i-eq0.false _ (c.flag.ensures ∙ ap (λ x. flag_of 0 x) c.bits.ensures) (not-false _ c.if-not-flag.false) _ c.reference_count.ensures.0 _ c.if-reference_count-eq0.false c.import_record_count.ensures.0
 
-pub is-gated-side-effect-stmt-spec : {M : Type 1} → statement M
-is-gated-side-effect-stmt-spec =
+pub is_gated_side_effect_stmt_spec : {M : Type 1} → statement M
+is_gated_side_effect_stmt_spec =
     tie.close
     (tie.spec
-    returns
+    returns-then-i-eq0
     bits-requires
     flag-requires
-    returns-2
-    reference-count-requires
-    returns-3
-    import-record-count-requires
-    returns-4)
+    returns-then-not-flag
+    reference_count-requires
+    returns-then-reference_count-eq0
+    import_record_count-requires
+    returns)

@@ -10,28 +10,27 @@ use Rattle.on_demand.proofs.Deciding.{one_is}
 use Rattle.on_demand.proofs.is_on_demand.Statement.{statement}
 use Rattle.on_demand.proofs.is_on_demand.Tie as tie
 
-section-requires : tie.Need-section-requires
-section-requires c κs = inside c.before.before.requires.0.laid 6 (omega arith)
+section-demand-requires : tie.Need-section-demand-requires
+section-demand-requires c κs = inside c.requires.0.laid 6 (omega arith)
 
-mul-result : tie.Need-overflow-mul-result
+offset_bounds-demand-i : tie.Need-offset_bounds-demand-i
 unfolding sizes
-mul-result c = record { fits = omega (arith, word_fits c.before.before.before.requires.0.laid 6 (omega arith) kept_none c.before.before.before.args.m.0 c.before.before.before.requires.1, c.before.before.before.requires.0.laid.few) }
+offset_bounds-demand-i c = record { fits = omega (arith, word_fits c.requires.0.laid 6 (omega arith) kept_none c.args.m.0 c.requires.1, c.requires.0.laid.few) }
 
-shared-slice-read-result : tie.Need-shared-slice-read-result
+bounds-demand-i : tie.Need-bounds-demand-i
 unfolding graph_in
-shared-slice-read-result c = omega (arith, ap length c.before.section.ensures, c.before.before.before.before.requires.0.of_demand.long, c.before.before.before.before.requires.1)
+bounds-demand-i c = omega (arith, ap length c.section-demand.ensures, c.requires.0.of_demand.long, c.requires.1)
 
 returns : tie.Need-returns
 unfolding graph_in
 returns c =
-    let s = c.before.before.before.before in
-    ap (λ v. eqb (get_or v s.args.m.0 0) 1) c.before.section.ensures ∙ ap (λ x. eqb x 1) (s.requires.0.of_demand.has s.args.m.0 s.requires.1) ∙ one_is _
+    ap (λ v. eqb (get_or v c.args.m.0 0) 1) c.section-demand.ensures ∙ ap (λ x. eqb x 1) (c.requires.0.of_demand.has c.args.m.0 c.requires.1) ∙ one_is _
 
-pub is-on-demand-spec : {M : Type 1} → statement M
-is-on-demand-spec =
+pub is_on_demand_spec : {M : Type 1} → statement M
+is_on_demand_spec =
     tie.close
     (tie.spec
-    section-requires
-    mul-result
-    shared-slice-read-result
+    section-demand-requires
+    offset_bounds-demand-i
+    bounds-demand-i
     returns)

@@ -20,111 +20,109 @@ use Rattle.on_demand.proofs.Entering.{marks, marks_start, Turn, turn_user, turn_
 use Rattle.on_demand.proofs.mark_user_defined_entries.Statement.{statement}
 use Rattle.on_demand.proofs.mark_user_defined_entries.Tie as tie
 
-abbrev invariant-loop : tie.invariant-loop
-invariant-loop numbers tables₀ h base e₀ tables e = Kept (start_of (header_in numbers) at_on_demand) tables₀ tables × (e ≤ h.entries) × ((m : ℕ) → m < (header_in numbers).modules → by_some (marks m) 1 (drop e (graph_in numbers).entries) (get_or (on_demand_in tables) m 0) ≡ one (user_entry (graph_in numbers) m))
+abbrev invariant-loop-e : tie.invariant-loop-e
+invariant-loop-e numbers tables₀ h base e₀ tables e = Kept (start_of (header_in numbers) at_on_demand) tables₀ tables × (e ≤ h.entries) × ((m : ℕ) → m < (header_in numbers).modules → by_some (marks m) 1 (drop e (graph_in numbers).entries) (get_or (on_demand_in tables) m 0) ≡ one (user_entry (graph_in numbers) m))
 
-abbrev decreases-loop : tie.decreases-loop
-decreases-loop numbers tables₀ h base e₀ tables e = h.entries - e
+abbrev decreases-loop-e : tie.decreases-loop-e
+decreases-loop-e numbers tables₀ h base e₀ tables e = h.entries - e
 
 -- the section was cleared, what is in front of it stays
-cleared : (c : tie.After-clear invariant-loop decreases-loop) → Kept (start_of (header_in c.before.before.before.before.before.args.numbers.now) at_on_demand) c.before.before.before.before.before.args.tables.now c.clear.new.0
-cleared c = let p = c.before.before.before.before.before.requires.1.starts 6 (omega arith) in kept_less (omega (arith, p)) c.clear.ensures.0
+cleared : (c : tie.After-clear invariant-loop-e decreases-loop-e) → Kept (start_of (header_in c.args.numbers.now) at_on_demand) c.args.tables.now c.clear.new.0
+cleared c = let p = c.requires.1.starts 6 (omega arith) in kept_less (omega (arith, p)) c.clear.ensures.0
 
-laid : (c : tie.After-clear invariant-loop decreases-loop) → Laid (header_in c.before.before.before.before.before.args.numbers.now) all_sections c.clear.new.0
-laid c = laid_kept c.before.before.before.before.before.requires.1 6 (omega arith) (cleared c)
+laid : (c : tie.After-clear invariant-loop-e decreases-loop-e) → Laid (header_in c.args.numbers.now) all_sections c.clear.new.0
+laid c = laid_kept c.requires.1 6 (omega arith) (cleared c)
 
-loaded : (c : tie.After-struct-known invariant-loop decreases-loop) → Loaded c.before.before.before.before.before.before.before.before.before.before.args.numbers.now c.before.loop.tables
+loaded : (c : tie.After-struct_known-1 invariant-loop-e decreases-loop-e) → Loaded c.args.numbers.now c.loop-e.tables
 loaded c =
-    let s = c.before.before.before.before.before.before.before.before.before.before in
-    loaded_kept s.requires.0 6 (omega arith) (laid_less (omega arith) s.requires.1) (kept_both (cleared c.before.before.before.before.before) c.before.loop.invariant.0)
+    loaded_kept c.requires.0 6 (omega arith) (laid_less (omega arith) c.requires.1) (kept_both (cleared c.before.before.before.before.before) c.loop-e.invariant.0)
 
 -- entry e is one
-small : (c : tie.Then1 invariant-loop decreases-loop) → c.before.before.loop.e < (header_in c.before.before.before.before.before.before.before.before.before.before.before.args.numbers.now).entries
-small c = omega (arith, c.if1.true, ap (λ h. h.entries) c.before.before.before.before.before.before.before.before.header_of.ensures)
+small : (c : tie.In-loop-e invariant-loop-e decreases-loop-e) → c.loop-e.e < (header_in c.args.numbers.now).entries
+small c = omega (arith, c.loop-e-test.true, ap (λ h. h.entries) c.header_of-h.ensures)
 
 -- its module's word is one of the section
-fits : (c : tie.After-entry-module invariant-loop decreases-loop) → get_or c.before.before.before.before.before.before.before.before.before.before.before.clear.new.0 6 0 + c.entry-module.result.0 < length c.before.before.before.before.before.before.before.loop.tables
+fits : (c : tie.After-entry_module-m invariant-loop-e decreases-loop-e) → get_or c.clear.new.0 6 0 + c.entry_module-m.result.0 < length c.loop-e.tables
 unfolding sizes
-fits c = word_fits (laid c.before.before.before.before.before.before.before.before.before.before.before) 6 (omega arith) c.before.before.before.before.before.before.before.loop.invariant.0 c.entry-module.result.0 c.entry-module.ensures.1
+fits c = word_fits (laid c.before.before.before.before.before.before.before.before.before) 6 (omega arith) c.loop-e.invariant.0 c.entry_module-m.result.0 c.entry_module-m.ensures.1
 
-turned : (c : tie.Joined2 invariant-loop decreases-loop) → Turn (graph_in c.before.before.before.before.before.before.before.before.before.before.before.before.before.before.args.numbers.now).entries c.before.before.before.before.before.loop.e (header_in c.before.before.before.before.before.before.before.before.before.before.before.before.before.before.args.numbers.now) c.before.before.before.before.before.before.before.before.before.clear.new.0 c.before.before.before.before.before.loop.tables c.if2.tables
+turned : (c : tie.Joined-entry_kind-lt2 invariant-loop-e decreases-loop-e) → Turn (graph_in c.args.numbers.now).entries c.loop-e.e (header_in c.args.numbers.now) c.clear.new.0 c.loop-e.tables c.if-entry_kind-lt2.tables
 unfolding entry_of
 turned c =
-    let l : c.before.before.before.before.before.loop.e < length (graph_in c.before.before.before.before.before.before.before.before.before.before.before.before.before.before.args.numbers.now).entries = omega (arith, small c.before.before.before, entries_long _ _ c.before.before.before.before.before.before.before.before.before.before.before.before.before.before.requires.0.of_entries) in
-    let k = c.before.entry-kind.ensures.0 in
+    let l : c.loop-e.e < length (graph_in c.args.numbers.now).entries = omega (arith, small c.before.before, entries_long _ _ c.requires.0.of_entries) in
+    let k = c.entry_kind.ensures.0 in
     ⊎_elim
-    (λ w. turn_user _ _ l _ _ _ _ (laid c.before.before.before.before.before.before.before.before.before) c.before.before.before.before.before.loop.invariant.0 _ w.2.ensures.0 (omega (arith, k, w.0.taken)) w.2.ensures.1 w.4)
-    (λ w. turn_other _ _ l _ _ _ _ (laid c.before.before.before.before.before.before.before.before.before) c.before.before.before.before.before.loop.invariant.0 (omega (arith, k, w.0.left)) w.1)
-    c.if2.branch
+    (λ w. turn_user _ _ l _ _ _ _ (laid c.before.before.before.before.before.before.before.before) c.loop-e.invariant.0 _ w.2.ensures.0 (omega (arith, k, w.0.taken)) w.2.ensures.1 w.4)
+    (λ w. turn_other _ _ l _ _ _ _ (laid c.before.before.before.before.before.before.before.before) c.loop-e.invariant.0 (omega (arith, k, w.0.left)) w.1)
+    c.if-entry_kind-lt2.branch
 
-header-of-requires : tie.Need-header-of-requires invariant-loop decreases-loop
-header-of-requires c κs = c.before.before.requires.0.long
+header_of-h-requires : tie.Need-header_of-h-requires invariant-loop-e decreases-loop-e
+header_of-h-requires c κs = c.requires.0.long
 
-clear-requires : tie.Need-clear-requires invariant-loop decreases-loop
+clear-requires : tie.Need-clear-requires invariant-loop-e decreases-loop-e
 clear-requires c κs =
-    let t = c.before.before.before.before.requires.1 in
-    (inside t 6 (omega arith), omega (arith, t.starts 6 (omega arith), start_low (header_in c.before.before.before.before.args.numbers.now) 6))
+    let t = c.requires.1 in
+    (inside t 6 (omega arith), omega (arith, t.starts 6 (omega arith), start_low (header_in c.args.numbers.now) 6))
 
-slice-read-base : tie.Need-slice-read-base invariant-loop decreases-loop
-slice-read-base c = word_inside (laid c.before.before.before) 6 (omega arith)
+bounds-tables-6 : tie.Need-bounds-tables-6 invariant-loop-e decreases-loop-e
+bounds-tables-6 c = word_inside (laid c.before.before.before) 6 (omega arith)
 
-loop-holds : tie.Need-loop-init invariant-loop decreases-loop
-loop-holds c = (kept_none, omega arith, λ m l. marks_start _ m _ (c.before.before.before.clear.ensures.1 m))
+loop-e-init : tie.Need-loop-e-init invariant-loop-e decreases-loop-e
+loop-e-init c = (kept_none, omega arith, λ m l. marks_start _ m _ (c.clear.ensures.1 m))
 
-entry-kind-requires : tie.Need-entry-kind-requires invariant-loop decreases-loop
-entry-kind-requires c κs = (loaded c.before.before, small c.before)
+entry_kind-requires : tie.Need-entry_kind-requires invariant-loop-e decreases-loop-e
+entry_kind-requires c κs = (loaded c.before, small c)
 
-entry-module-requires : tie.Need-entry-module-requires invariant-loop decreases-loop
-entry-module-requires c κs = (loaded c.before.before.before.before.before, small c.before.before.before.before)
+entry_module-m-requires : tie.Need-entry_module-m-requires invariant-loop-e decreases-loop-e
+entry_module-m-requires c κs = (loaded c.before.before.before, small c.before.before)
 
-add-tables : tie.Need-overflow-add-tables invariant-loop decreases-loop
-add-tables c = record { fits = omega (arith, fits c.before, (loaded c.before.before.before.before.before.before.before).laid.few) }
+overflow_add-tables : tie.Need-overflow_add-tables invariant-loop-e decreases-loop-e
+overflow_add-tables c = record { fits = omega (arith, fits c.before, (loaded c.before.before.before.before.before).laid.few) }
 
-mul-tables : tie.Need-overflow-mul-tables invariant-loop decreases-loop
-mul-tables c = record { fits = omega (arith, fits c.before, (loaded c.before.before.before.before.before.before.before).laid.few) }
+offset_bounds-tables-base : tie.Need-offset_bounds-tables-base invariant-loop-e decreases-loop-e
+offset_bounds-tables-base c = record { fits = omega (arith, fits c.before, (loaded c.before.before.before.before.before).laid.few) }
 
-slice-write-tables : tie.Need-slice-write-tables invariant-loop decreases-loop
-slice-write-tables c = fits c.before
+bounds-tables-base : tie.Need-bounds-tables-base invariant-loop-e decreases-loop-e
+bounds-tables-base c = fits c.before
 
-add-e : tie.Need-overflow-add-e invariant-loop decreases-loop
-add-e c = record { fits = omega (arith, small c.before.before.before, c.before.before.before.before.before.before.before.before.before.before.before.before.before.before.requires.0.few_entries) }
+overflow_add-e : tie.Need-overflow_add-e invariant-loop-e decreases-loop-e
+overflow_add-e c = record { fits = omega (arith, small c.before.before, c.requires.0.few_entries) }
 
-loop-less : tie.Need-loop-smaller invariant-loop decreases-loop
-loop-less c = omega (arith, c.before.before.before.if1.true)
+loop-e-smaller : tie.Need-loop-e-smaller invariant-loop-e decreases-loop-e
+loop-e-smaller c = omega (arith, c.loop-e-test.true)
 
-loop-again : tie.Need-loop-preserved invariant-loop decreases-loop
-loop-again c =
+loop-e-preserved : tie.Need-loop-e-preserved invariant-loop-e decreases-loop-e
+loop-e-preserved c =
     let t = turned c in
-    (t.kept, omega (arith, c.before.before.before.if1.true), λ m l. t.entries m ∙ c.before.before.before.before.before.loop.invariant.2 m l)
+    (t.kept, omega (arith, c.loop-e-test.true), λ m l. t.entries m ∙ c.loop-e.invariant.2 m l)
 
-same_length : tie.Need-same-length invariant-loop decreases-loop
-same_length c = (kept_both (cleared c.before.before.before.before.before.before) c.before.before.loop.invariant.0).same_length
+shape_of-tables : tie.Need-shape_of-tables invariant-loop-e decreases-loop-e
+shape_of-tables c = (kept_both (cleared c.before.before.before.before.before.before) c.loop-e.invariant.0).same_length
 
-returns : tie.Need-returns invariant-loop decreases-loop
+returns : tie.Need-returns invariant-loop-e decreases-loop-e
 unfolding graph_in
 returns c =
-    let s = c.before.before.before.before.before.before.before.before.before.before.before in
-    let i = c.before.before.loop.invariant in
-    let e : length (graph_in s.args.numbers.now).entries ≤ c.before.before.loop.e = omega (arith, entries_long _ _ s.requires.0.of_entries, c.if1.false, ap (λ h. h.entries) c.before.before.before.before.before.before.before.before.header_of.ensures) in
+    let i = c.loop-e.invariant in
+    let e : length (graph_in c.args.numbers.now).entries ≤ c.loop-e.e = omega (arith, entries_long _ _ c.requires.0.of_entries, c.loop-e-test.false, ap (λ h. h.entries) c.header_of-h.ensures) in
     (λ m l. sym (by_some_end _ _ no_item _ _ _ e) ∙ i.2 m l, kept_both (cleared c.before.before.before.before.before.before) i.0)
 
-pub mark-user-defined-entries-spec : {M : Type 1} → statement M
-mark-user-defined-entries-spec =
+pub mark_user_defined_entries_spec : {M : Type 1} → statement M
+mark_user_defined_entries_spec =
     tie.close
     (tie.spec
-    invariant-loop
-    decreases-loop
-    header-of-requires
+    invariant-loop-e
+    decreases-loop-e
+    header_of-h-requires
     clear-requires
-    slice-read-base
-    loop-holds
-    entry-kind-requires
-    entry-module-requires
-    add-tables
-    mul-tables
-    slice-write-tables
-    add-e
-    loop-less
-    loop-again
-    same_length
+    bounds-tables-6
+    loop-e-init
+    entry_kind-requires
+    entry_module-m-requires
+    overflow_add-tables
+    offset_bounds-tables-base
+    bounds-tables-base
+    overflow_add-e
+    loop-e-smaller
+    loop-e-preserved
+    shape_of-tables
     returns)

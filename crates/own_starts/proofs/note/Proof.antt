@@ -5,43 +5,43 @@ use borrow.Author.Rules.{rules}
 use Rattle.own_starts.proofs.note.Statement.{statement}
 use Rattle.own_starts.proofs.note.Tie as tie
 
-is-marked-requires : tie.Need-is-marked-requires
-is-marked-requires c κs = search rules
+is_marked-requires : tie.Need-is_marked-requires
+is_marked-requires c κs = search rules
 
-same_length : tie.Need-same-length
-same_length c = search rules
+shape_of-seen-then-is_marked : tie.Need-shape_of-seen-then-is_marked
+shape_of-seen-then-is_marked c = search rules
 
-returns : tie.Need-returns
-returns c = note-hit _ _ _ _ _ (sym c.before.is-marked.ensures ∙ c.if1.true)
+returns-then-is_marked : tie.Need-returns-then-is_marked
+returns-then-is_marked c = note-hit _ _ _ _ _ (sym c.is_marked.ensures ∙ c.if-is_marked.true)
 
 mark-requires : tie.Need-mark-requires
 mark-requires c κs = search rules
 
-write-triple-requires : tie.Need-write-triple-requires
-write-triple-requires c κs = let s = c.before.before.before.before.before.before.before.before.before.before.before.before in let p = parts_small s.requires.0.loaded s.args.fact s.requires.1.1 in (omega (arith, noted_few s.requires.0.loaded _ _ _ s.requires.1.0), p.0, p.1)
+write_triple-requires : tie.Need-write_triple-requires
+write_triple-requires c κs = let p = parts_small c.requires.0.loaded c.args.fact c.requires.1.1 in (omega (arith, noted_few c.requires.0.loaded _ _ _ c.requires.1.0), p.0, p.1)
 
-add-result : tie.Need-overflow-add-result
-add-result c = let s = c.before.before.before.before.before.before.before.before.before.before.before.before.before.before.before in omega (arith, noted_few s.requires.0.loaded _ _ _ s.requires.1.0)
+overflow_add-result : tie.Need-overflow_add-result
+overflow_add-result c = omega (arith, noted_few c.requires.0.loaded _ _ _ c.requires.1.0)
 
-same-length-2 : tie.Need-same-length-2
-same-length-2 c = search rules
+shape_of-seen : tie.Need-shape_of-seen
+shape_of-seen c = search rules
 
-same-length-3 : tie.Need-same-length-3
-same-length-3 c = search rules
+shape_of-out : tie.Need-shape_of-out
+shape_of-out c = search rules
 
-returns-2 : tie.Need-returns-2
-returns-2 c = note-miss _ _ _ _ _ _ _ c.before.before.before.before.before.before.before.before.before.before.before.before.before.before.before.requires.1.1 c.before.before.before.before.before.before.mark.ensures c.before.before.write-triple.ensures c.before.before.write-triple.auto.0 (sym c.before.before.before.before.before.before.before.before.before.is-marked.ensures ∙ c.before.before.before.before.before.before.before.before.if1.false)
+returns : tie.Need-returns
+returns c = note-miss _ _ _ _ _ _ _ c.requires.1.1 c.mark.ensures c.write_triple.ensures c.write_triple.auto.0 (sym c.is_marked.ensures ∙ c.if-is_marked.false)
 
-pub note-spec : {M : Type 1} → statement M
-note-spec =
+pub note_spec : {M : Type 1} → statement M
+note_spec =
     tie.close
     (tie.spec
-    is-marked-requires
-    same_length
-    returns
+    is_marked-requires
+    shape_of-seen-then-is_marked
+    returns-then-is_marked
     mark-requires
-    write-triple-requires
-    add-result
-    same-length-2
-    same-length-3
-    returns-2)
+    write_triple-requires
+    overflow_add-result
+    shape_of-seen
+    shape_of-out
+    returns)

@@ -5,33 +5,33 @@ use borrow.Author.Rules.{rules}
 use Rattle.own_starts.proofs.note_all.Statement.{statement}
 use Rattle.own_starts.proofs.note_all.Tie as tie
 
-note-user-entries-requires : tie.Need-note-user-entries-requires
-note-user-entries-requires c κs = search rules
+note_user_entries-users-requires : tie.Need-note_user_entries-users-requires
+note_user_entries-users-requires c κs = search rules
 
-note-cjs-bailout-exports-requires : tie.Need-note-cjs-bailout-exports-requires
-note-cjs-bailout-exports-requires c κs = let s = c.before.before.before.before.before.before.before.before.before.before.before.before.before.before.before in (s.requires.0, (noted_on _ _ _ _ _ _ _ _ s.requires.1.0.0 c.before.before.before.before.before.before.note-user-entries.ensures, s.requires.1.1))
+note_cjs_bailout_exports-bailouts-requires : tie.Need-note_cjs_bailout_exports-bailouts-requires
+note_cjs_bailout_exports-bailouts-requires c κs = (c.requires.0, (noted_on _ _ _ _ _ _ _ _ c.requires.1.0.0 c.note_user_entries-users.ensures, c.requires.1.1))
 
-note-live-modules-requires : tie.Need-note-live-modules-requires
+note_live_modules-requires : tie.Need-note_live_modules-requires
 unfolding graph_in
-note-live-modules-requires c κs = let s = c.before.before.before.before.before.before.before.before.before.before.before.before.before.before.before.before.before.before.before.before.before.before in (s.requires.0, (noted_on _ _ _ _ _ _ _ _ (noted_on _ _ _ _ _ _ _ _ s.requires.1.0.0 c.before.before.before.before.before.before.before.before.before.before.before.before.before.note-user-entries.ensures) c.before.before.before.before.before.before.note-cjs-bailout-exports.ensures, s.requires.1.0.1.long))
+note_live_modules-requires c κs = (c.requires.0, (noted_on _ _ _ _ _ _ _ _ (noted_on _ _ _ _ _ _ _ _ c.requires.1.0.0 c.note_user_entries-users.ensures) c.note_cjs_bailout_exports-bailouts.ensures, c.requires.1.0.1.long))
 
-same_length : tie.Need-same-length
-same_length c = search rules
+shape_of-seen : tie.Need-shape_of-seen
+shape_of-seen c = search rules
 
-same-length-2 : tie.Need-same-length-2
-same-length-2 c = search rules
+shape_of-out : tie.Need-shape_of-out
+shape_of-out c = search rules
 
 returns : tie.Need-returns
 unfolding starts_by_kind graph_in
-returns c = notes_then _ _ _ _ _ _ _ _ _ _ _ _ c.before.before.before.before.before.before.before.before.before.before.before.before.before.before.before.before.before.before.note-user-entries.ensures (notes_then _ _ _ _ _ _ _ _ _ _ _ _ c.before.before.before.before.before.before.before.before.before.before.before.note-cjs-bailout-exports.ensures c.before.before.before.before.note-live-modules.ensures)
+returns c = notes_then _ _ _ _ _ _ _ _ _ _ _ _ c.note_user_entries-users.ensures (notes_then _ _ _ _ _ _ _ _ _ _ _ _ c.note_cjs_bailout_exports-bailouts.ensures c.note_live_modules.ensures)
 
-pub note-all-spec : {M : Type 1} → statement M
-note-all-spec =
+pub note_all_spec : {M : Type 1} → statement M
+note_all_spec =
     tie.close
     (tie.spec
-    note-user-entries-requires
-    note-cjs-bailout-exports-requires
-    note-live-modules-requires
-    same_length
-    same-length-2
+    note_user_entries-users-requires
+    note_cjs_bailout_exports-bailouts-requires
+    note_live_modules-requires
+    shape_of-seen
+    shape_of-out
     returns)

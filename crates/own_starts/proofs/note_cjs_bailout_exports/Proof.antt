@@ -12,60 +12,60 @@ use native.Mathlib.Omega.{arith}
 use Rattle.own_starts.proofs.note_cjs_bailout_exports.Statement.{statement}
 use Rattle.own_starts.proofs.note_cjs_bailout_exports.Tie as tie
 
-abbrev invariant-loop : tie.invariant-loop
-invariant-loop numbers tables lines count seen₀ out₀ n total₀ k₀ seen out total k = (length seen ≡ length seen₀) × (length out ≡ length out₀) × (k ≤ count) × Along (graph_in numbers) (bailouts_starts (graph_in numbers) (lines_of count lines)) (bailouts_starts (graph_in numbers) (drop k (lines_of count lines))) seen₀ out₀ total₀ seen out total
+abbrev invariant-loop-k : tie.invariant-loop-k
+invariant-loop-k numbers tables lines count seen₀ out₀ n total₀ k₀ seen out total k = (length seen ≡ length seen₀) × (length out ≡ length out₀) × (k ≤ count) × Along (graph_in numbers) (bailouts_starts (graph_in numbers) (lines_of count lines)) (bailouts_starts (graph_in numbers) (drop k (lines_of count lines))) seen₀ out₀ total₀ seen out total
 
-abbrev decreases-loop : tie.decreases-loop
-decreases-loop numbers tables lines count seen₀ out₀ n total₀ k₀ seen out total k = count - k
+abbrev decreases-loop-k : tie.decreases-loop-k
+decreases-loop-k numbers tables lines count seen₀ out₀ n total₀ k₀ seen out total k = count - k
 
-loop-holds : tie.Need-loop-init invariant-loop decreases-loop
-loop-holds c = let s = c.before.before.before.before.before in (refl, refl, omega arith, along_start _ _ _ _ _ _ refl s.requires.1.0)
+loop-k-init : tie.Need-loop-k-init invariant-loop-k decreases-loop-k
+loop-k-init c = (refl, refl, omega arith, along_start _ _ _ _ _ _ refl c.requires.1.0)
 
-fact-at-requires : tie.Need-fact-at-requires invariant-loop decreases-loop
-fact-at-requires c κs = omega (arith, c.loop-test.true, c.before.before.before.before.before.before.before.requires.1.1.0)
+fact_at-fact-requires : tie.Need-fact_at-fact-requires invariant-loop-k decreases-loop-k
+fact_at-fact-requires c κs = omega (arith, c.loop-k-test.true, c.requires.1.1.0)
 
-kind-of-requires : tie.Need-kind-of-requires invariant-loop decreases-loop
-kind-of-requires c κs = search rules
+kind_of-requires : tie.Need-kind_of-requires invariant-loop-k decreases-loop-k
+kind_of-requires c κs = search rules
 
-first-part-requires : tie.Need-first-part-requires invariant-loop decreases-loop
-first-part-requires c κs = search rules
+first_part-requires : tie.Need-first_part-requires invariant-loop-k decreases-loop-k
+first_part-requires c κs = search rules
 
-note-cjs-exports-requires : tie.Need-note-cjs-exports-requires invariant-loop decreases-loop
+note_cjs_exports-total-requires : tie.Need-note_cjs_exports-total-requires invariant-loop-k decreases-loop-k
 unfolding graph_in
-note-cjs-exports-requires c κs = let s = c.before.before.before.before.before.before.before.before.before.before.before.before.before in (s.requires.0, (c.before.before.before.before.before.before.before.loop.invariant.3.noted, bailout_below _ _ _ _ c.before.before.before.before.before.before.loop-test.true _ c.before.before.before.before.before.fact_at.ensures (sym c.before.before.before.before.kind-of.ensures ∙ c.before.before.before.if1.true) _ c.before.before.first_part.ensures (s.requires.1.1.1 _ c.before.before.before.before.before.before.loop-test.true)))
+note_cjs_exports-total-requires c κs = (c.requires.0, (c.loop-k.invariant.3.noted, bailout_below _ _ _ _ c.loop-k-test.true _ c.fact_at-fact.ensures (sym c.kind_of.ensures ∙ c.if-kind_of-eq6.true) _ c.first_part.ensures (c.requires.1.1.1 _ c.loop-k-test.true)))
 
-add-k : tie.Need-overflow-add-k invariant-loop decreases-loop
-add-k c = record { fits = omega (arith, c.before.before.before.loop-test.true) }
+overflow_add-k : tie.Need-overflow_add-k invariant-loop-k decreases-loop-k
+overflow_add-k c = record { fits = omega (arith, c.loop-k-test.true) }
 
-loop-less : tie.Need-loop-smaller invariant-loop decreases-loop
-loop-less c = omega (arith, c.before.before.before.loop-test.true)
+loop-k-smaller : tie.Need-loop-k-smaller invariant-loop-k decreases-loop-k
+loop-k-smaller c = omega (arith, c.loop-k-test.true)
 
-loop-again : tie.Need-loop-preserved invariant-loop decreases-loop
-loop-again c = let v = c.before.before.before.before.loop.invariant in let inside = c.before.before.before.loop-test.true in let is = c.before.before.fact_at.ensures in let kind = c.before.kind-of.ensures in ⊎_elim (λ w. (ap length w.9 ∙ w.4.kept.1.1.0 ∙ v.0, ap length w.10 ∙ w.4.kept.1.1.1.0 ∙ v.1, omega (arith, inside), along_same _ _ _ _ _ _ _ _ _ (along_step _ _ _ _ _ _ _ _ _ _ _ (bailouts-here _ _ _ _ inside _ is (sym kind ∙ w.0.taken) _ w.1.ensures) v.3 _ _ _ w.4.ensures) w.9 w.10 w.11)) (λ w. (ap length w.1 ∙ v.0, ap length w.2 ∙ v.1, omega (arith, inside), along_same _ _ _ _ _ _ _ _ _ (along_as _ _ _ _ _ _ _ _ _ _ (bailouts-other _ _ _ _ inside _ is (λ e. w.0.left (kind ∙ e))) v.3) w.1 w.2 w.3)) c.if1.branch
+loop-k-preserved : tie.Need-loop-k-preserved invariant-loop-k decreases-loop-k
+loop-k-preserved c = let v = c.loop-k.invariant in let inside = c.loop-k-test.true in let is = c.fact_at-fact.ensures in let kind = c.kind_of.ensures in ⊎_elim (λ w. (ap length w.9 ∙ w.4.kept.1.1.0 ∙ v.0, ap length w.10 ∙ w.4.kept.1.1.1.0 ∙ v.1, omega (arith, inside), along_same _ _ _ _ _ _ _ _ _ (along_step _ _ _ _ _ _ _ _ _ _ _ (bailouts-here _ _ _ _ inside _ is (sym kind ∙ w.0.taken) _ w.1.ensures) v.3 _ _ _ w.4.ensures) w.9 w.10 w.11)) (λ w. (ap length w.1 ∙ v.0, ap length w.2 ∙ v.1, omega (arith, inside), along_same _ _ _ _ _ _ _ _ _ (along_as _ _ _ _ _ _ _ _ _ _ (bailouts-other _ _ _ _ inside _ is (λ e. w.0.left (kind ∙ e))) v.3) w.1 w.2 w.3)) c.if-kind_of-eq6.branch
 
-same_length : tie.Need-same-length invariant-loop decreases-loop
-same_length c = search rules
+shape_of-seen : tie.Need-shape_of-seen invariant-loop-k decreases-loop-k
+shape_of-seen c = search rules
 
-same-length-2 : tie.Need-same-length-2 invariant-loop decreases-loop
-same-length-2 c = search rules
+shape_of-out : tie.Need-shape_of-out invariant-loop-k decreases-loop-k
+shape_of-out c = search rules
 
-returns : tie.Need-returns invariant-loop decreases-loop
-returns c = along_done _ _ _ _ _ _ _ _ _ (bailouts_over _ _ _ _ c.loop-test.false) c.before.loop.invariant.3
+returns : tie.Need-returns invariant-loop-k decreases-loop-k
+returns c = along_done _ _ _ _ _ _ _ _ _ (bailouts_over _ _ _ _ c.loop-k-test.false) c.loop-k.invariant.3
 
-pub note-cjs-bailout-exports-spec : {M : Type 1} → statement M
-note-cjs-bailout-exports-spec =
+pub note_cjs_bailout_exports_spec : {M : Type 1} → statement M
+note_cjs_bailout_exports_spec =
     tie.close
     (tie.spec
-    invariant-loop
-    decreases-loop
-    loop-holds
-    fact-at-requires
-    kind-of-requires
-    first-part-requires
-    note-cjs-exports-requires
-    add-k
-    loop-less
-    loop-again
-    same_length
-    same-length-2
+    invariant-loop-k
+    decreases-loop-k
+    loop-k-init
+    fact_at-fact-requires
+    kind_of-requires
+    first_part-requires
+    note_cjs_exports-total-requires
+    overflow_add-k
+    loop-k-smaller
+    loop-k-preserved
+    shape_of-seen
+    shape_of-out
     returns)

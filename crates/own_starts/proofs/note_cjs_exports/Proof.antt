@@ -13,61 +13,61 @@ use native.Mathlib.Omega.{arith}
 use Rattle.own_starts.proofs.note_cjs_exports.Statement.{statement}
 use Rattle.own_starts.proofs.note_cjs_exports.Tie as tie
 
-abbrev invariant-loop : tie.invariant-loop
-invariant-loop numbers tables seen₀ out₀ n m exports total₀ k₀ seen out total k = (length seen ≡ length seen₀) × (length out ≡ length out₀) × (k ≤ exports) × Along (graph_in numbers) (export_starts (resolved_exports (module_of (graph_in numbers) m.0))) (export_starts (drop k (resolved_exports (module_of (graph_in numbers) m.0)))) seen₀ out₀ total₀ seen out total
+abbrev invariant-loop-k : tie.invariant-loop-k
+invariant-loop-k numbers tables seen₀ out₀ n m exports total₀ k₀ seen out total k = (length seen ≡ length seen₀) × (length out ≡ length out₀) × (k ≤ exports) × Along (graph_in numbers) (export_starts (resolved_exports (module_of (graph_in numbers) m.0))) (export_starts (drop k (resolved_exports (module_of (graph_in numbers) m.0)))) seen₀ out₀ total₀ seen out total
 
-abbrev decreases-loop : tie.decreases-loop
-decreases-loop numbers tables seen₀ out₀ n m exports total₀ k₀ seen out total k = exports - k
+abbrev decreases-loop-k : tie.decreases-loop-k
+decreases-loop-k numbers tables seen₀ out₀ n m exports total₀ k₀ seen out total k = exports - k
 
-resolved-export-count-requires : tie.Need-resolved-export-count-requires invariant-loop decreases-loop
-resolved-export-count-requires c κs = let s = c.before.before.before.before in (s.requires.0.loaded, s.requires.1.1)
+resolved_export_count-exports-requires : tie.Need-resolved_export_count-exports-requires invariant-loop-k decreases-loop-k
+resolved_export_count-exports-requires c κs = (c.requires.0.loaded, c.requires.1.1)
 
-loop-holds : tie.Need-loop-init invariant-loop decreases-loop
-loop-holds c = (refl, refl, omega arith, along_start _ _ _ _ _ _ refl c.before.before.before.before.before.requires.1.0)
+loop-k-init : tie.Need-loop-k-init invariant-loop-k decreases-loop-k
+loop-k-init c = (refl, refl, omega arith, along_start _ _ _ _ _ _ refl c.requires.1.0)
 
-resolved-export-from-commonjs-requires :
-    tie.Need-resolved-export-from-commonjs-requires invariant-loop decreases-loop
-resolved-export-from-commonjs-requires c κs = let s = c.before.before.before.before.before.before.before in (s.requires.0.loaded, (s.requires.1.1, omega (arith, c.loop-test.true, c.before.before.resolved-export-count.ensures.0)))
+resolved_export_from_commonjs-requires :
+    tie.Need-resolved_export_from_commonjs-requires invariant-loop-k decreases-loop-k
+resolved_export_from_commonjs-requires c κs = (c.requires.0.loaded, (c.requires.1.1, omega (arith, c.loop-k-test.true, c.resolved_export_count-exports.ensures.0)))
 
-resolved-export-symbol-requires : tie.Need-resolved-export-symbol-requires invariant-loop decreases-loop
-resolved-export-symbol-requires c κs = let s = c.before.before.before.before.before.before.before.before.before in (s.requires.0.loaded, (s.requires.1.1, omega (arith, c.before.before.loop-test.true, c.before.before.before.before.resolved-export-count.ensures.0)))
+resolved_export_symbol-s-requires : tie.Need-resolved_export_symbol-s-requires invariant-loop-k decreases-loop-k
+resolved_export_symbol-s-requires c κs = (c.requires.0.loaded, (c.requires.1.1, omega (arith, c.loop-k-test.true, c.resolved_export_count-exports.ensures.0)))
 
-note-requires : tie.Need-note-requires invariant-loop decreases-loop
+note-total-requires : tie.Need-note-total-requires invariant-loop-k decreases-loop-k
 unfolding graph_in
-note-requires c κs = let s = c.before.before.before.before.before.before.before.before.before.before.before.before in (s.requires.0, (c.before.before.before.before.before.before.loop.invariant.3.noted, (c.before.before.resolved-export-symbol.ensures.1, omega arith, omega arith)))
+note-total-requires c κs = (c.requires.0, (c.loop-k.invariant.3.noted, (c.resolved_export_symbol-s.ensures.1, omega arith, omega arith)))
 
-add-k : tie.Need-overflow-add-k invariant-loop decreases-loop
-add-k c = record { fits = omega (arith, c.before.before.loop-test.true, c.before.before.before.before.resolved-export-count.ensures.1) }
+overflow_add-k : tie.Need-overflow_add-k invariant-loop-k decreases-loop-k
+overflow_add-k c = record { fits = omega (arith, c.loop-k-test.true, c.resolved_export_count-exports.ensures.1) }
 
-loop-less : tie.Need-loop-smaller invariant-loop decreases-loop
-loop-less c = omega (arith, c.before.before.loop-test.true)
+loop-k-smaller : tie.Need-loop-k-smaller invariant-loop-k decreases-loop-k
+loop-k-smaller c = omega (arith, c.loop-k-test.true)
 
-loop-again : tie.Need-loop-preserved invariant-loop decreases-loop
-loop-again c = let v = c.before.before.before.loop.invariant in let size = c.before.before.before.before.resolved-export-count.ensures.0 in let inside = c.before.before.loop-test.true in let is = c.before.resolved-export-from-commonjs.ensures in ⊎_elim (λ w. (ap length w.9 ∙ w.4.kept.1.1.0 ∙ v.0, ap length w.10 ∙ w.4.kept.1.1.1.0 ∙ v.1, omega (arith, inside), along_same _ _ _ _ _ _ _ _ _ (along_step _ _ _ _ _ _ _ _ _ _ _ (exports-here _ _ size _ inside _ is w.0.taken _ w.1.ensures.0) v.3 _ _ _ w.4.ensures) w.9 w.10 w.11)) (λ w. (ap length w.1 ∙ v.0, ap length w.2 ∙ v.1, omega (arith, inside), along_same _ _ _ _ _ _ _ _ _ (along_as _ _ _ _ _ _ _ _ _ _ (exports-other _ _ size _ inside _ is w.0.left) v.3) w.1 w.2 w.3)) c.if1.branch
+loop-k-preserved : tie.Need-loop-k-preserved invariant-loop-k decreases-loop-k
+loop-k-preserved c = let v = c.loop-k.invariant in let size = c.resolved_export_count-exports.ensures.0 in let inside = c.loop-k-test.true in let is = c.resolved_export_from_commonjs.ensures in ⊎_elim (λ w. (ap length w.9 ∙ w.4.kept.1.1.0 ∙ v.0, ap length w.10 ∙ w.4.kept.1.1.1.0 ∙ v.1, omega (arith, inside), along_same _ _ _ _ _ _ _ _ _ (along_step _ _ _ _ _ _ _ _ _ _ _ (exports-here _ _ size _ inside _ is w.0.taken _ w.1.ensures.0) v.3 _ _ _ w.4.ensures) w.9 w.10 w.11)) (λ w. (ap length w.1 ∙ v.0, ap length w.2 ∙ v.1, omega (arith, inside), along_same _ _ _ _ _ _ _ _ _ (along_as _ _ _ _ _ _ _ _ _ _ (exports-other _ _ size _ inside _ is w.0.left) v.3) w.1 w.2 w.3)) c.if-resolved_export_from_commonjs-eq1.branch
 
-same_length : tie.Need-same-length invariant-loop decreases-loop
-same_length c = search rules
+shape_of-seen : tie.Need-shape_of-seen invariant-loop-k decreases-loop-k
+shape_of-seen c = search rules
 
-same-length-2 : tie.Need-same-length-2 invariant-loop decreases-loop
-same-length-2 c = search rules
+shape_of-out : tie.Need-shape_of-out invariant-loop-k decreases-loop-k
+shape_of-out c = search rules
 
-returns : tie.Need-returns invariant-loop decreases-loop
-returns c = along_done _ _ _ _ _ _ _ _ _ (exports_over _ _ c.before.before.resolved-export-count.ensures.0 _ c.loop-test.false) c.before.loop.invariant.3
+returns : tie.Need-returns invariant-loop-k decreases-loop-k
+returns c = along_done _ _ _ _ _ _ _ _ _ (exports_over _ _ c.resolved_export_count-exports.ensures.0 _ c.loop-k-test.false) c.loop-k.invariant.3
 
-pub note-cjs-exports-spec : {M : Type 1} → statement M
-note-cjs-exports-spec =
+pub note_cjs_exports_spec : {M : Type 1} → statement M
+note_cjs_exports_spec =
     tie.close
     (tie.spec
-    invariant-loop
-    decreases-loop
-    resolved-export-count-requires
-    loop-holds
-    resolved-export-from-commonjs-requires
-    resolved-export-symbol-requires
-    note-requires
-    add-k
-    loop-less
-    loop-again
-    same_length
-    same-length-2
+    invariant-loop-k
+    decreases-loop-k
+    resolved_export_count-exports-requires
+    loop-k-init
+    resolved_export_from_commonjs-requires
+    resolved_export_symbol-s-requires
+    note-total-requires
+    overflow_add-k
+    loop-k-smaller
+    loop-k-preserved
+    shape_of-seen
+    shape_of-out
     returns)

@@ -11,68 +11,68 @@ use native.Mathlib.Omega.{arith}
 use Rattle.own_starts.proofs.note_entry.Statement.{statement}
 use Rattle.own_starts.proofs.note_entry.Tie as tie
 
-abbrev invariant-loop : tie.invariant-loop
-invariant-loop numbers tables seen₀ out₀ n m references total₀ k₀ seen out total k = (length seen ≡ length seen₀) × (length out ≡ length out₀) × (k ≤ references) × Along (graph_in numbers) (module_starts (graph_in numbers) m.0) (referred_from (graph_in numbers) m.0 k) seen₀ out₀ total₀ seen out total
+abbrev invariant-loop-k : tie.invariant-loop-k
+invariant-loop-k numbers tables seen₀ out₀ n m references total₀ k₀ seen out total k = (length seen ≡ length seen₀) × (length out ≡ length out₀) × (k ≤ references) × Along (graph_in numbers) (module_starts (graph_in numbers) m.0) (referred_from (graph_in numbers) m.0 k) seen₀ out₀ total₀ seen out total
 
-abbrev decreases-loop : tie.decreases-loop
-decreases-loop numbers tables seen₀ out₀ n m references total₀ k₀ seen out total k = references - k
+abbrev decreases-loop-k : tie.decreases-loop-k
+decreases-loop-k numbers tables seen₀ out₀ n m references total₀ k₀ seen out total k = references - k
 
-is-normal-requires : tie.Need-is-normal-requires invariant-loop decreases-loop
-is-normal-requires c κs = let s = c.before.before.before.before in (s.requires.0.loaded, s.requires.1.1)
+is_normal-requires : tie.Need-is_normal-requires invariant-loop-k decreases-loop-k
+is_normal-requires c κs = (c.requires.0.loaded, c.requires.1.1)
 
-returns : tie.Need-returns invariant-loop decreases-loop
-returns c = notes_none _ _ (module_none _ _ (sym c.before.is_normal.ensures ∙ not_true _ c.if1.true)) _ _ _
+returns-then-not-is_normal : tie.Need-returns-then-not-is_normal invariant-loop-k decreases-loop-k
+returns-then-not-is_normal c = notes_none _ _ (module_none _ _ (sym c.is_normal.ensures ∙ not_true _ c.if-not-is_normal.true)) _ _ _
 
-entry-reference-count-requires : tie.Need-entry-reference-count-requires invariant-loop decreases-loop
-entry-reference-count-requires c κs = let s = c.before.before.before.before.before.before in (s.requires.0.loaded, s.requires.1.1)
+entry_reference_count-references-requires : tie.Need-entry_reference_count-references-requires invariant-loop-k decreases-loop-k
+entry_reference_count-references-requires c κs = (c.requires.0.loaded, c.requires.1.1)
 
-loop-holds : tie.Need-loop-init invariant-loop decreases-loop
-loop-holds c = (refl, refl, omega arith, along_start _ _ _ _ _ _ (referred_whole _ _ _ c.entry-reference-count.ensures.0 (sym c.before.before.is_normal.ensures ∙ not-false _ c.before.if1.false)) c.before.before.before.before.before.before.before.requires.1.0)
+loop-k-init : tie.Need-loop-k-init invariant-loop-k decreases-loop-k
+loop-k-init c = (refl, refl, omega arith, along_start _ _ _ _ _ _ (referred_whole _ _ _ c.entry_reference_count-references.ensures.0 (sym c.is_normal.ensures ∙ not-false _ c.if-not-is_normal.false)) c.requires.1.0)
 
-entry-reference-requires : tie.Need-entry-reference-requires invariant-loop decreases-loop
-entry-reference-requires c κs = let s = c.before.before.before.before.before.before.before.before.before in (s.requires.0.loaded, (s.requires.1.1, omega (arith, c.loop-test.true, c.before.before.entry-reference-count.ensures.0)))
+entry_reference-s-requires : tie.Need-entry_reference-s-requires invariant-loop-k decreases-loop-k
+entry_reference-s-requires c κs = (c.requires.0.loaded, (c.requires.1.1, omega (arith, c.loop-k-test.true, c.entry_reference_count-references.ensures.0)))
 
-note-reference-requires : tie.Need-note-reference-requires invariant-loop decreases-loop
-note-reference-requires c κs = (c.before.before.before.before.before.before.before.before.before.before.before.before.requires.0, (c.before.before.before.before.loop.invariant.3.noted, c.before.before.entry-reference.ensures.1))
+note_reference-total-requires : tie.Need-note_reference-total-requires invariant-loop-k decreases-loop-k
+note_reference-total-requires c κs = (c.requires.0, (c.loop-k.invariant.3.noted, c.entry_reference-s.ensures.1))
 
-add-k : tie.Need-overflow-add-k invariant-loop decreases-loop
-add-k c = record { fits = omega (arith, c.before.before.before.before.before.before.before.before.loop-test.true, c.before.before.before.before.before.before.before.before.before.before.entry-reference-count.ensures.1) }
+overflow_add-k : tie.Need-overflow_add-k invariant-loop-k decreases-loop-k
+overflow_add-k c = record { fits = omega (arith, c.loop-k-test.true, c.entry_reference_count-references.ensures.1) }
 
-loop-less : tie.Need-loop-smaller invariant-loop decreases-loop
-loop-less c = omega (arith, c.before.before.before.before.before.before.before.before.loop-test.true)
+loop-k-smaller : tie.Need-loop-k-smaller invariant-loop-k decreases-loop-k
+loop-k-smaller c = omega (arith, c.loop-k-test.true)
 
-loop-again : tie.Need-loop-preserved invariant-loop decreases-loop
-loop-again c = let w = c.before.before.before.before.before.before.before.before.before.loop.invariant in let t = c.before.before.before.before.note-reference in (t.auto.1.1.0 ∙ w.0, t.auto.1.1.1.0 ∙ w.1, omega (arith, c.before.before.before.before.before.before.before.before.loop-test.true), along_step _ _ _ _ _ _ _ _ _ _ _ (referred_next _ _ _ c.before.before.before.before.before.before.before.before.before.before.entry-reference-count.ensures.0 _ c.before.before.before.before.before.before.before.before.loop-test.true _ c.before.before.before.before.before.before.before.entry-reference.ensures.0) w.3 _ _ _ t.ensures)
+loop-k-preserved : tie.Need-loop-k-preserved invariant-loop-k decreases-loop-k
+loop-k-preserved c = let w = c.loop-k.invariant in let t = c.note_reference-total in (t.auto.1.1.0 ∙ w.0, t.auto.1.1.1.0 ∙ w.1, omega (arith, c.loop-k-test.true), along_step _ _ _ _ _ _ _ _ _ _ _ (referred_next _ _ _ c.entry_reference_count-references.ensures.0 _ c.loop-k-test.true _ c.entry_reference-s.ensures.0) w.3 _ _ _ t.ensures)
 
-note-requires : tie.Need-note-requires invariant-loop decreases-loop
+note-requires : tie.Need-note-requires invariant-loop-k decreases-loop-k
 unfolding graph_in
-note-requires c κs = let s = c.before.before.before.before.before.before.before.before.before.before.before in (s.requires.0, (c.before.before.before.loop.invariant.3.noted, (s.requires.1.1, (sym c.before.before.before.before.before.before.is_normal.ensures ∙ not-false _ c.before.before.before.before.before.if1.false))))
+note-requires c κs = (c.requires.0, (c.loop-k.invariant.3.noted, (c.requires.1.1, (sym c.is_normal.ensures ∙ not-false _ c.if-not-is_normal.false))))
 
-same_length : tie.Need-same-length invariant-loop decreases-loop
-same_length c = search rules
+shape_of-seen : tie.Need-shape_of-seen invariant-loop-k decreases-loop-k
+shape_of-seen c = search rules
 
-same-length-2 : tie.Need-same-length-2 invariant-loop decreases-loop
-same-length-2 c = search rules
+shape_of-out : tie.Need-shape_of-out invariant-loop-k decreases-loop-k
+shape_of-out c = search rules
 
-returns-2 : tie.Need-returns-2 invariant-loop decreases-loop
-returns-2 c = along_last _ _ _ _ _ _ _ _ _ _ (referred_over _ _ _ c.before.before.before.before.before.before.before.before.before.entry-reference-count.ensures.0 _ c.before.before.before.before.before.before.before.loop-test.false) c.before.before.before.before.before.before.before.before.loop.invariant.3 _ _ _ c.before.before.before.before.note.ensures
+returns : tie.Need-returns invariant-loop-k decreases-loop-k
+returns c = along_last _ _ _ _ _ _ _ _ _ _ (referred_over _ _ _ c.entry_reference_count-references.ensures.0 _ c.loop-k-test.false) c.loop-k.invariant.3 _ _ _ c.note.ensures
 
-pub note-entry-spec : {M : Type 1} → statement M
-note-entry-spec =
+pub note_entry_spec : {M : Type 1} → statement M
+note_entry_spec =
     tie.close
     (tie.spec
-    invariant-loop
-    decreases-loop
-    is-normal-requires
-    returns
-    entry-reference-count-requires
-    loop-holds
-    entry-reference-requires
-    note-reference-requires
-    add-k
-    loop-less
-    loop-again
+    invariant-loop-k
+    decreases-loop-k
+    is_normal-requires
+    returns-then-not-is_normal
+    entry_reference_count-references-requires
+    loop-k-init
+    entry_reference-s-requires
+    note_reference-total-requires
+    overflow_add-k
+    loop-k-smaller
+    loop-k-preserved
     note-requires
-    same_length
-    same-length-2
-    returns-2)
+    shape_of-seen
+    shape_of-out
+    returns)

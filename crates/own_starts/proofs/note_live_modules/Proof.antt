@@ -13,67 +13,67 @@ use native.Mathlib.Omega.{arith}
 use Rattle.own_starts.proofs.note_live_modules.Statement.{statement}
 use Rattle.own_starts.proofs.note_live_modules.Tie as tie
 
-abbrev invariant-loop : tie.invariant-loop
-invariant-loop numbers tables plan seen₀ out₀ n h live total₀ m₀ seen out total m = (length seen ≡ length seen₀) × (length out ≡ length out₀) × (m ≤ h.modules) × Along (graph_in numbers) (live_starts (graph_in numbers) (live_in (header_in numbers) plan) 0 (header_in numbers).modules) (lives_from (graph_in numbers) (header_in numbers) plan m) seen₀ out₀ total₀ seen out total
+abbrev invariant-loop-m : tie.invariant-loop-m
+invariant-loop-m numbers tables plan seen₀ out₀ n h live total₀ m₀ seen out total m = (length seen ≡ length seen₀) × (length out ≡ length out₀) × (m ≤ h.modules) × Along (graph_in numbers) (live_starts (graph_in numbers) (live_in (header_in numbers) plan) 0 (header_in numbers).modules) (lives_from (graph_in numbers) (header_in numbers) plan m) seen₀ out₀ total₀ seen out total
 
-abbrev decreases-loop : tie.decreases-loop
-decreases-loop numbers tables plan seen₀ out₀ n h live total₀ m₀ seen out total m = h.modules - m
+abbrev decreases-loop-m : tie.decreases-loop-m
+decreases-loop-m numbers tables plan seen₀ out₀ n h live total₀ m₀ seen out total m = h.modules - m
 
-header-of-requires : tie.Need-header-of-requires invariant-loop decreases-loop
-header-of-requires c κs = c.before.before.before.before.before.requires.0.loaded.long
+header_of-h-requires : tie.Need-header_of-h-requires invariant-loop-m decreases-loop-m
+header_of-h-requires c κs = c.requires.0.loaded.long
 
-live-at-requires : tie.Need-live-at-requires invariant-loop decreases-loop
-live-at-requires c κs = let t = c.before.before.before.before.before.before.requires.0.loaded in rw c.header_of.ensures (omega (arith, t.few_modules, t.few_entries))
+live_at-live-requires : tie.Need-live_at-live-requires invariant-loop-m decreases-loop-m
+live_at-live-requires c κs = let t = c.requires.0.loaded in rw c.header_of-h.ensures (omega (arith, t.few_modules, t.few_entries))
 
-loop-holds : tie.Need-loop-init invariant-loop decreases-loop
-loop-holds c = (refl, refl, omega arith, along_start _ _ _ _ _ _ (lives_all _ _ _) c.before.before.before.before.before.before.before.requires.1.0)
+loop-m-init : tie.Need-loop-m-init invariant-loop-m decreases-loop-m
+loop-m-init c = (refl, refl, omega arith, along_start _ _ _ _ _ _ (lives_all _ _ _) c.requires.1.0)
 
-add-if2 : tie.Need-overflow-add-if2 invariant-loop decreases-loop
-add-if2 c = let t = c.before.before.before.before.before.before.before.before.before.before.requires.0.loaded in let is = c.before.before.before.before.header_of.ensures in record { fits = omega (arith, c.if1.true, c.before.before.before.Live-at.ensures, modules_same is, entries_same is, t.few_modules, t.few_entries) }
+overflow_add-live : tie.Need-overflow_add-live invariant-loop-m decreases-loop-m
+overflow_add-live c = let t = c.requires.0.loaded in let is = c.header_of-h.ensures in record { fits = omega (arith, c.loop-m-test.true, c.live_at-live.ensures, modules_same is, entries_same is, t.few_modules, t.few_entries) }
 
-mul-if2 : tie.Need-overflow-mul-if2 invariant-loop decreases-loop
-mul-if2 c = let t = c.before.before.before.before.before.before.before.before.before.before.requires.0.loaded in let is = c.before.before.before.before.header_of.ensures in record { fits = omega (arith, c.if1.true, c.before.before.before.Live-at.ensures, modules_same is, entries_same is, t.few_modules, t.few_entries) }
+offset_bounds-plan-live : tie.Need-offset_bounds-plan-live invariant-loop-m decreases-loop-m
+offset_bounds-plan-live c = let t = c.requires.0.loaded in let is = c.header_of-h.ensures in record { fits = omega (arith, c.loop-m-test.true, c.live_at-live.ensures, modules_same is, entries_same is, t.few_modules, t.few_entries) }
 
-shared-slice-read-if2 : tie.Need-shared-slice-read-if2 invariant-loop decreases-loop
-shared-slice-read-if2 c = let is = c.before.before.before.before.before.header_of.ensures in omega (arith, c.before.if1.true, c.before.before.before.before.Live-at.ensures, modules_same is, entries_same is, c.before.before.before.before.before.before.before.before.before.before.before.requires.1.1)
+bounds-plan-live : tie.Need-bounds-plan-live invariant-loop-m decreases-loop-m
+bounds-plan-live c = let is = c.header_of-h.ensures in omega (arith, c.loop-m-test.true, c.live_at-live.ensures, modules_same is, entries_same is, c.requires.1.1)
 
-note-entry-requires : tie.Need-note-entry-requires invariant-loop decreases-loop
-note-entry-requires c κs = (c.before.before.before.before.before.before.before.before.before.before.before.before.before.before.requires.0, (c.before.before.before.before.before.before.loop.invariant.3.noted, omega (arith, c.before.before.before.before.if1.true, modules_same c.before.before.before.before.before.before.before.before.header_of.ensures)))
+note_entry-total-requires : tie.Need-note_entry-total-requires invariant-loop-m decreases-loop-m
+note_entry-total-requires c κs = (c.requires.0, (c.loop-m.invariant.3.noted, omega (arith, c.loop-m-test.true, modules_same c.header_of-h.ensures)))
 
-add-m : tie.Need-overflow-add-m invariant-loop decreases-loop
-add-m c = record { fits = omega (arith, c.before.before.if1.true, modules_same c.before.before.before.before.before.before.header_of.ensures, c.before.before.before.before.before.before.before.before.before.before.before.before.requires.0.loaded.few_modules) }
+overflow_add-m : tie.Need-overflow_add-m invariant-loop-m decreases-loop-m
+overflow_add-m c = record { fits = omega (arith, c.loop-m-test.true, modules_same c.header_of-h.ensures, c.requires.0.loaded.few_modules) }
 
-loop-less : tie.Need-loop-smaller invariant-loop decreases-loop
-loop-less c = omega (arith, c.before.before.if1.true)
+loop-m-smaller : tie.Need-loop-m-smaller invariant-loop-m decreases-loop-m
+loop-m-smaller c = omega (arith, c.loop-m-test.true)
 
-loop-again : tie.Need-loop-preserved invariant-loop decreases-loop
-loop-again c = let v = c.before.before.before.before.loop.invariant in let inside = c.before.before.if1.true in let live = c.before.before.before.before.before.Live-at.ensures in let is = c.before.before.before.before.before.before.header_of.ensures in ⊎_elim (λ w. (ap length w.8 ∙ w.3.kept.1.1.0 ∙ v.0, ap length w.9 ∙ w.3.kept.1.1.1.0 ∙ v.1, omega (arith, inside), along_same _ _ _ _ _ _ _ _ _ (along_step _ _ _ _ _ _ _ _ _ _ _ (lives-here _ _ _ _ is _ inside (rw live at w.0.taken)) v.3 _ _ _ w.3.ensures) w.8 w.9 w.10)) (λ w. (ap length w.1 ∙ v.0, ap length w.2 ∙ v.1, omega (arith, inside), along_same _ _ _ _ _ _ _ _ _ (along_as _ _ _ _ _ _ _ _ _ _ (lives-other _ _ _ _ is _ inside (rw live at w.0.left)) v.3) w.1 w.2 w.3)) c.if2.branch
+loop-m-preserved : tie.Need-loop-m-preserved invariant-loop-m decreases-loop-m
+loop-m-preserved c = let v = c.loop-m.invariant in let inside = c.loop-m-test.true in let live = c.live_at-live.ensures in let is = c.header_of-h.ensures in ⊎_elim (λ w. (ap length w.8 ∙ w.3.kept.1.1.0 ∙ v.0, ap length w.9 ∙ w.3.kept.1.1.1.0 ∙ v.1, omega (arith, inside), along_same _ _ _ _ _ _ _ _ _ (along_step _ _ _ _ _ _ _ _ _ _ _ (lives-here _ _ _ _ is _ inside (rw live at w.0.taken)) v.3 _ _ _ w.3.ensures) w.8 w.9 w.10)) (λ w. (ap length w.1 ∙ v.0, ap length w.2 ∙ v.1, omega (arith, inside), along_same _ _ _ _ _ _ _ _ _ (along_as _ _ _ _ _ _ _ _ _ _ (lives-other _ _ _ _ is _ inside (rw live at w.0.left)) v.3) w.1 w.2 w.3)) c.if-plan-live-eq1.branch
 
-same_length : tie.Need-same-length invariant-loop decreases-loop
-same_length c = search rules
+shape_of-seen : tie.Need-shape_of-seen invariant-loop-m decreases-loop-m
+shape_of-seen c = search rules
 
-same-length-2 : tie.Need-same-length-2 invariant-loop decreases-loop
-same-length-2 c = search rules
+shape_of-out : tie.Need-shape_of-out invariant-loop-m decreases-loop-m
+shape_of-out c = search rules
 
-returns : tie.Need-returns invariant-loop decreases-loop
-returns c = along_done _ _ _ _ _ _ _ _ _ (lives-over _ _ _ _ c.before.before.before.before.header_of.ensures _ c.if1.false) c.before.before.loop.invariant.3
+returns : tie.Need-returns invariant-loop-m decreases-loop-m
+returns c = along_done _ _ _ _ _ _ _ _ _ (lives-over _ _ _ _ c.header_of-h.ensures _ c.loop-m-test.false) c.loop-m.invariant.3
 
-pub note-live-modules-spec : {M : Type 1} → statement M
-note-live-modules-spec =
+pub note_live_modules_spec : {M : Type 1} → statement M
+note_live_modules_spec =
     tie.close
     (tie.spec
-    invariant-loop
-    decreases-loop
-    header-of-requires
-    live-at-requires
-    loop-holds
-    add-if2
-    mul-if2
-    shared-slice-read-if2
-    note-entry-requires
-    add-m
-    loop-less
-    loop-again
-    same_length
-    same-length-2
+    invariant-loop-m
+    decreases-loop-m
+    header_of-h-requires
+    live_at-live-requires
+    loop-m-init
+    overflow_add-live
+    offset_bounds-plan-live
+    bounds-plan-live
+    note_entry-total-requires
+    overflow_add-m
+    loop-m-smaller
+    loop-m-preserved
+    shape_of-seen
+    shape_of-out
     returns)

@@ -8,40 +8,40 @@ use borrow.Author.Rules.{rules}
 use Rattle.own_starts.proofs.note_reference.Statement.{statement}
 use Rattle.own_starts.proofs.note_reference.Tie as tie
 
-owner-requires : tie.Need-owner-requires
-owner-requires c κs = let s = c.before.before.before.before in (s.requires.0.loaded, s.requires.1.1)
+owner-owner-requires : tie.Need-owner-owner-requires
+owner-owner-requires c κs = (c.requires.0.loaded, c.requires.1.1)
 
-is-normal-requires : tie.Need-is-normal-requires
-is-normal-requires c κs = (c.before.before.before.before.before.requires.0.loaded, c.owner.ensures.1)
+is_normal-requires : tie.Need-is_normal-requires
+is_normal-requires c κs = (c.requires.0.loaded, c.owner-owner.ensures.1)
 
-returns : tie.Need-returns
-returns c = notes_none _ _ (reference_none _ _ _ c.before.before.owner.ensures.0 (sym c.before.is_normal.ensures ∙ not_true _ c.if1.true)) _ _ _
+returns-then-not-is_normal : tie.Need-returns-then-not-is_normal
+returns-then-not-is_normal c = notes_none _ _ (reference_none _ _ _ c.owner-owner.ensures.0 (sym c.is_normal.ensures ∙ not_true _ c.if-not-is_normal.true)) _ _ _
 
-note-declaring-statements-requires : tie.Need-note-declaring-statements-requires
-note-declaring-statements-requires c κs = let s = c.before.before.before.before.before.before.before.before.before in (s.requires.0, (s.requires.1.0, s.requires.1.1))
+note_declaring_statements-total-requires : tie.Need-note_declaring_statements-total-requires
+note_declaring_statements-total-requires c κs = (c.requires.0, (c.requires.1.0, c.requires.1.1))
 
 note-requires : tie.Need-note-requires
 unfolding graph_in
-note-requires c κs = let s = c.before.before.before.before.before.before.before.before.before.before.before.before.before.before.before.before in (s.requires.0, (noted_on _ _ _ _ _ _ _ _ s.requires.1.0 c.before.before.before.before.before.before.note-declaring-statements.ensures, (s.requires.1.1, omega arith, omega arith)))
+note-requires c κs = (c.requires.0, (noted_on _ _ _ _ _ _ _ _ c.requires.1.0 c.note_declaring_statements-total.ensures, (c.requires.1.1, omega arith, omega arith)))
 
-same_length : tie.Need-same-length
-same_length c = search rules
+shape_of-seen : tie.Need-shape_of-seen
+shape_of-seen c = search rules
 
-same-length-2 : tie.Need-same-length-2
-same-length-2 c = search rules
+shape_of-out : tie.Need-shape_of-out
+shape_of-out c = search rules
 
-returns-2 : tie.Need-returns-2
-returns-2 c = notes_as _ _ _ (reference_is _ _ _ c.before.before.before.before.before.before.before.before.before.before.before.before.before.before.before.before.owner.ensures.0 (sym c.before.before.before.before.before.before.before.before.before.before.before.before.before.before.before.is_normal.ensures ∙ not-false _ c.before.before.before.before.before.before.before.before.before.before.before.before.before.before.if1.false)) _ _ _ _ _ _ (notes_then _ _ _ _ _ _ _ _ _ _ _ _ c.before.before.before.before.before.before.before.before.before.before.before.note-declaring-statements.ensures c.before.before.before.before.note.ensures)
+returns : tie.Need-returns
+returns c = notes_as _ _ _ (reference_is _ _ _ c.owner-owner.ensures.0 (sym c.is_normal.ensures ∙ not-false _ c.if-not-is_normal.false)) _ _ _ _ _ _ (notes_then _ _ _ _ _ _ _ _ _ _ _ _ c.note_declaring_statements-total.ensures c.note.ensures)
 
-pub note-reference-spec : {M : Type 1} → statement M
-note-reference-spec =
+pub note_reference_spec : {M : Type 1} → statement M
+note_reference_spec =
     tie.close
     (tie.spec
-    owner-requires
-    is-normal-requires
-    returns
-    note-declaring-statements-requires
+    owner-owner-requires
+    is_normal-requires
+    returns-then-not-is_normal
+    note_declaring_statements-total-requires
     note-requires
-    same_length
-    same-length-2
-    returns-2)
+    shape_of-seen
+    shape_of-out
+    returns)

@@ -11,69 +11,69 @@ use native.Mathlib.Omega.{arith}
 use Rattle.own_starts.proofs.note_user_entries.Statement.{statement}
 use Rattle.own_starts.proofs.note_user_entries.Tie as tie
 
-abbrev invariant-loop : tie.invariant-loop
-invariant-loop numbers tables plan users seen₀ out₀ total₀ i₀ seen out total i = (length seen ≡ length seen₀) × (length out ≡ length out₀) × (i ≤ users) × Along (graph_in numbers) (users_starts (graph_in numbers) (user_entries (graph_in numbers))) (users_from (graph_in numbers) i) seen₀ out₀ 0 seen out total
+abbrev invariant-loop-i : tie.invariant-loop-i
+invariant-loop-i numbers tables plan users seen₀ out₀ total₀ i₀ seen out total i = (length seen ≡ length seen₀) × (length out ≡ length out₀) × (i ≤ users) × Along (graph_in numbers) (users_starts (graph_in numbers) (user_entries (graph_in numbers))) (users_from (graph_in numbers) i) seen₀ out₀ 0 seen out total
 
-abbrev decreases-loop : tie.decreases-loop
-decreases-loop numbers tables plan users seen₀ out₀ total₀ i₀ seen out total i = users - i
+abbrev decreases-loop-i : tie.decreases-loop-i
+decreases-loop-i numbers tables plan users seen₀ out₀ total₀ i₀ seen out total i = users - i
 
 -- the plan is longer than there are user-defined entries, and its length is small
-user-few : (c : tie.In-loop invariant-loop decreases-loop) → (c.before.before.before.before.before.before.before.args.users ≤ length c.before.before.before.before.before.before.before.args.plan.now) × (length c.before.before.before.before.before.before.before.args.plan.now < 4294967296)
-user-few c = let p = c.before.before.before.before.before.before.before.requires.1.1 in (omega (arith, p.users_are, p.all, p.long), p.few)
+user-few : (c : tie.In-loop-i invariant-loop-i decreases-loop-i) → (c.args.users ≤ length c.args.plan.now) × (length c.args.plan.now < 4294967296)
+user-few c = let p = c.requires.1.1 in (omega (arith, p.users_are, p.all, p.long), p.few)
 
-loop-holds : tie.Need-loop-init invariant-loop decreases-loop
-loop-holds c = (refl, refl, omega arith, along_start _ _ _ _ _ _ (users_all _) c.before.before.before.before.before.requires.1.0)
+loop-i-init : tie.Need-loop-i-init invariant-loop-i decreases-loop-i
+loop-i-init c = (refl, refl, omega arith, along_start _ _ _ _ _ _ (users_all _) c.requires.1.0)
 
-mul-t11 : tie.Need-overflow-mul-t11 invariant-loop decreases-loop
-mul-t11 c = record { fits = omega (arith, c.loop-test.true, user-few c) }
+offset_bounds-plan-i : tie.Need-offset_bounds-plan-i invariant-loop-i decreases-loop-i
+offset_bounds-plan-i c = record { fits = omega (arith, c.loop-i-test.true, user-few c) }
 
-shared-slice-read-t13 : tie.Need-shared-slice-read-t13 invariant-loop decreases-loop
-shared-slice-read-t13 c = omega (arith, c.before.loop-test.true, user-few c.before)
+bounds-plan-i : tie.Need-bounds-plan-i invariant-loop-i decreases-loop-i
+bounds-plan-i c = omega (arith, c.loop-i-test.true, user-few c.before)
 
-entry-module-requires : tie.Need-entry-module-requires invariant-loop decreases-loop
+entry_module-m-requires : tie.Need-entry_module-m-requires invariant-loop-i decreases-loop-i
 unfolding graph_in
-entry-module-requires c κs = let s = c.before.before.before.before.before.before.before.before in (s.requires.0.loaded, user_inside _ _ _ s.requires.1.1 _ c.before.loop-test.true)
+entry_module-m-requires c κs = (c.requires.0.loaded, user_inside _ _ _ c.requires.1.1 _ c.loop-i-test.true)
 
-note-user-entry-requires : tie.Need-note-user-entry-requires invariant-loop decreases-loop
-note-user-entry-requires c κs = (c.before.before.before.before.before.before.before.before.before.before.before.requires.0, (c.before.before.before.before.before.loop.invariant.3.noted, c.before.before.entry-module.ensures.1))
+note_user_entry-total-requires : tie.Need-note_user_entry-total-requires invariant-loop-i decreases-loop-i
+note_user_entry-total-requires c κs = (c.requires.0, (c.loop-i.invariant.3.noted, c.entry_module-m.ensures.1))
 
-add-i : tie.Need-overflow-add-i invariant-loop decreases-loop
-add-i c = record { fits = omega (arith, c.before.before.before.before.before.before.before.before.before.loop-test.true, c.before.before.before.before.before.before.before.before.before.before.before.before.before.before.before.before.ranges.users.fits) }
+overflow_add-i : tie.Need-overflow_add-i invariant-loop-i decreases-loop-i
+overflow_add-i c = record { fits = omega (arith, c.loop-i-test.true, c.ranges.users.fits) }
 
-loop-less : tie.Need-loop-smaller invariant-loop decreases-loop
-loop-less c = omega (arith, c.before.before.before.before.before.before.before.before.before.loop-test.true)
+loop-i-smaller : tie.Need-loop-i-smaller invariant-loop-i decreases-loop-i
+loop-i-smaller c = omega (arith, c.loop-i-test.true)
 
-loop-again : tie.Need-loop-preserved invariant-loop decreases-loop
+loop-i-preserved : tie.Need-loop-i-preserved invariant-loop-i decreases-loop-i
 unfolding module_of_entry
-loop-again c =
-    let w = c.before.before.before.before.before.before.before.before.before.before.loop.invariant in
-    let l = c.before.before.before.before.before.before.before.before.before.loop-test.true in
-    let t = c.before.before.before.before.note-user-entry in
-    (t.auto.1.1.0 ∙ w.0, t.auto.1.1.1.0 ∙ w.1, omega (arith, l), along_step _ _ _ _ _ _ _ _ _ _ _ (users_next _ _ _ c.before.before.before.before.before.before.before.before.before.before.before.before.before.before.before.before.requires.1.1 _ l _ c.before.before.before.before.before.before.before.entry-module.ensures.0) w.3 _ _ _ t.ensures)
+loop-i-preserved c =
+    let w = c.loop-i.invariant in
+    let l = c.loop-i-test.true in
+    let t = c.note_user_entry-total in
+    (t.auto.1.1.0 ∙ w.0, t.auto.1.1.1.0 ∙ w.1, omega (arith, l), along_step _ _ _ _ _ _ _ _ _ _ _ (users_next _ _ _ c.requires.1.1 _ l _ c.entry_module-m.ensures.0) w.3 _ _ _ t.ensures)
 
-same_length : tie.Need-same-length invariant-loop decreases-loop
-same_length c = search rules
+shape_of-seen : tie.Need-shape_of-seen invariant-loop-i decreases-loop-i
+shape_of-seen c = search rules
 
-same-length-2 : tie.Need-same-length-2 invariant-loop decreases-loop
-same-length-2 c = search rules
+shape_of-out : tie.Need-shape_of-out invariant-loop-i decreases-loop-i
+shape_of-out c = search rules
 
-returns : tie.Need-returns invariant-loop decreases-loop
-returns c = along_done _ _ _ _ _ _ _ _ _ (users_over _ _ _ c.before.before.before.before.before.before.before.requires.1.1 _ c.loop-test.false) c.before.loop.invariant.3
+returns : tie.Need-returns invariant-loop-i decreases-loop-i
+returns c = along_done _ _ _ _ _ _ _ _ _ (users_over _ _ _ c.requires.1.1 _ c.loop-i-test.false) c.loop-i.invariant.3
 
-pub note-user-entries-spec : {M : Type 1} → statement M
-note-user-entries-spec =
+pub note_user_entries_spec : {M : Type 1} → statement M
+note_user_entries_spec =
     tie.close
     (tie.spec
-    invariant-loop
-    decreases-loop
-    loop-holds
-    mul-t11
-    shared-slice-read-t13
-    entry-module-requires
-    note-user-entry-requires
-    add-i
-    loop-less
-    loop-again
-    same_length
-    same-length-2
+    invariant-loop-i
+    decreases-loop-i
+    loop-i-init
+    offset_bounds-plan-i
+    bounds-plan-i
+    entry_module-m-requires
+    note_user_entry-total-requires
+    overflow_add-i
+    loop-i-smaller
+    loop-i-preserved
+    shape_of-seen
+    shape_of-out
     returns)

@@ -7,36 +7,36 @@ use borrow.Author.Rules.{rules}
 use Rattle.own_starts.proofs.note_user_entry.Statement.{statement}
 use Rattle.own_starts.proofs.note_user_entry.Tie as tie
 
-is-normal-requires : tie.Need-is-normal-requires
-is-normal-requires c κs = let s = c.before.before.before.before in (s.requires.0.loaded, s.requires.1.1)
+is_normal-requires : tie.Need-is_normal-requires
+is_normal-requires c κs = (c.requires.0.loaded, c.requires.1.1)
+
+returns-then-not-is_normal : tie.Need-returns-then-not-is_normal
+returns-then-not-is_normal c = notes_none _ _ (user_none _ _ (sym c.is_normal.ensures ∙ not_true _ c.if-not-is_normal.true)) _ _ _
+
+note-total-requires : tie.Need-note-total-requires
+unfolding graph_in
+note-total-requires c κs = (c.requires.0, (c.requires.1.0, c.requires.1.1))
+
+note_entry-requires : tie.Need-note_entry-requires
+note_entry-requires c κs = (c.requires.0, (noted_on _ _ _ _ _ _ _ _ c.requires.1.0 c.note-total.ensures, c.requires.1.1))
+
+shape_of-seen : tie.Need-shape_of-seen
+shape_of-seen c = search rules
+
+shape_of-out : tie.Need-shape_of-out
+shape_of-out c = search rules
 
 returns : tie.Need-returns
-returns c = notes_none _ _ (user_none _ _ (sym c.before.is_normal.ensures ∙ not_true _ c.if1.true)) _ _ _
+returns c = notes_as _ _ _ (user_is _ _ (sym c.is_normal.ensures ∙ not-false _ c.if-not-is_normal.false)) _ _ _ _ _ _ (notes_then _ _ _ _ _ _ _ _ _ _ _ _ c.note-total.ensures c.note_entry.ensures)
 
-note-requires : tie.Need-note-requires
-unfolding graph_in
-note-requires c κs = let s = c.before.before.before.before.before.before.before.before in (s.requires.0, (s.requires.1.0, s.requires.1.1))
-
-note-entry-requires : tie.Need-note-entry-requires
-note-entry-requires c κs = let s = c.before.before.before.before.before.before.before.before.before.before.before.before.before.before.before in (s.requires.0, (noted_on _ _ _ _ _ _ _ _ s.requires.1.0 c.before.before.before.before.before.before.note.ensures, s.requires.1.1))
-
-same_length : tie.Need-same-length
-same_length c = search rules
-
-same-length-2 : tie.Need-same-length-2
-same-length-2 c = search rules
-
-returns-2 : tie.Need-returns-2
-returns-2 c = notes_as _ _ _ (user_is _ _ (sym c.before.before.before.before.before.before.before.before.before.before.before.before.before.before.before.is_normal.ensures ∙ not-false _ c.before.before.before.before.before.before.before.before.before.before.before.before.before.before.if1.false)) _ _ _ _ _ _ (notes_then _ _ _ _ _ _ _ _ _ _ _ _ c.before.before.before.before.before.before.before.before.before.before.before.note.ensures c.before.before.before.before.note-entry.ensures)
-
-pub note-user-entry-spec : {M : Type 1} → statement M
-note-user-entry-spec =
+pub note_user_entry_spec : {M : Type 1} → statement M
+note_user_entry_spec =
     tie.close
     (tie.spec
-    is-normal-requires
-    returns
-    note-requires
-    note-entry-requires
-    same_length
-    same-length-2
-    returns-2)
+    is_normal-requires
+    returns-then-not-is_normal
+    note-total-requires
+    note_entry-requires
+    shape_of-seen
+    shape_of-out
+    returns)

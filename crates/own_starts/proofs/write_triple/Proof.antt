@@ -7,83 +7,83 @@ use borrow.Author.Rules.{rules}
 use Rattle.own_starts.proofs.write_triple.Statement.{statement}
 use Rattle.own_starts.proofs.write_triple.Tie as tie
 
-mul-p : tie.Need-overflow-mul-p
-mul-p c = search rules
+overflow_mul-p : tie.Need-overflow_mul-p
+overflow_mul-p c = search rules
 
-add-if1 : tie.Need-overflow-add-if1
-add-if1 c = search rules
+overflow_add-p : tie.Need-overflow_add-p
+overflow_add-p c = search rules
 
-returns : tie.Need-returns
-returns c = no_triple _ _ _ c.if1.true
+returns-then-out-p : tie.Need-returns-then-out-p
+returns-then-out-p c = no_triple _ _ _ c.if-out-p.true
 
-kind-of-requires : tie.Need-kind-of-requires
-kind-of-requires c κs = search rules
+kind_of-requires : tie.Need-kind_of-requires
+kind_of-requires c κs = search rules
 
 narrow-requires : tie.Need-narrow-requires
-narrow-requires c κs = omega (arith, kind_small c.before.before.before.args.fact, c.kind-of.ensures)
+narrow-requires c κs = omega (arith, kind_small c.args.fact, c.kind_of.ensures)
 
-mul-out : tie.Need-overflow-mul-out
-mul-out c = search rules
+offset_bounds-out-p : tie.Need-offset_bounds-out-p
+offset_bounds-out-p c = search rules
 
-slice-write-out : tie.Need-slice-write-out
-slice-write-out c = search rules
+bounds-out-p : tie.Need-bounds-out-p
+bounds-out-p c = search rules
 
-first-part-requires : tie.Need-first-part-requires
-first-part-requires c κs = search rules
+first_part-requires : tie.Need-first_part-requires
+first_part-requires c κs = search rules
 
 narrow-requires-2 : tie.Need-narrow-requires-2
 narrow-requires-2 c κs = search rules
 
-add-out : tie.Need-overflow-add-out
-add-out c = search rules
+overflow_add-out : tie.Need-overflow_add-out
+overflow_add-out c = search rules
 
-mul-out-2 : tie.Need-overflow-mul-out-2
-mul-out-2 c = search rules
+offset_bounds-out-p-2 : tie.Need-offset_bounds-out-p-2
+offset_bounds-out-p-2 c = search rules
 
-slice-write-out-2 : tie.Need-slice-write-out-2
-slice-write-out-2 c = simp length-set (omega (arith, c.before.before.before.before.if1.false))
+bounds-out-p-2 : tie.Need-bounds-out-p-2
+bounds-out-p-2 c = simp length-set (omega (arith, c.if-out-p.false))
 
-second-part-requires : tie.Need-second-part-requires
-second-part-requires c κs = search rules
+second_part-requires : tie.Need-second_part-requires
+second_part-requires c κs = search rules
 
 narrow-requires-3 : tie.Need-narrow-requires-3
 narrow-requires-3 c κs = search rules
 
-add-out-2 : tie.Need-overflow-add-out-2
-add-out-2 c = search rules
+overflow_add-out-2 : tie.Need-overflow_add-out-2
+overflow_add-out-2 c = search rules
 
-mul-out-3 : tie.Need-overflow-mul-out-3
-mul-out-3 c = search rules
+offset_bounds-out-p-3 : tie.Need-offset_bounds-out-p-3
+offset_bounds-out-p-3 c = search rules
 
-slice-write-out-3 : tie.Need-slice-write-out-3
-slice-write-out-3 c = simp length-set (omega (arith, c.before.before.before.before.before.before.if1.false))
+bounds-out-p-3 : tie.Need-bounds-out-p-3
+bounds-out-p-3 c = simp length-set (omega (arith, c.if-out-p.false))
 
-same_length : tie.Need-same-length
-same_length c = search rules
+shape_of-out : tie.Need-shape_of-out
+shape_of-out c = search rules
 
-returns-2 : tie.Need-returns-2
-returns-2 c = written_triple _ _ _ _ _ _ (omega (arith, c.before.before.before.before.before.before.if1.false)) (c.before.before.before.before.narrow.ensures ∙ c.before.before.before.before.before.kind-of.ensures) (c.before.before.narrow2.ensures ∙ c.before.before.before.first_part.ensures) (c.narrow3.ensures ∙ c.before.second-part.ensures)
+returns : tie.Need-returns
+returns c = written_triple _ _ _ _ _ _ (omega (arith, c.if-out-p.false)) (c.narrow.ensures ∙ c.kind_of.ensures) (c.narrow-2.ensures ∙ c.first_part.ensures) (c.narrow-3.ensures ∙ c.second_part.ensures)
 
-pub write-triple-spec : {M : Type 1} → statement M
-write-triple-spec =
+pub write_triple_spec : {M : Type 1} → statement M
+write_triple_spec =
     tie.close
     (tie.spec
-    mul-p
-    add-if1
-    returns
-    kind-of-requires
+    overflow_mul-p
+    overflow_add-p
+    returns-then-out-p
+    kind_of-requires
     narrow-requires
-    mul-out
-    slice-write-out
-    first-part-requires
+    offset_bounds-out-p
+    bounds-out-p
+    first_part-requires
     narrow-requires-2
-    add-out
-    mul-out-2
-    slice-write-out-2
-    second-part-requires
+    overflow_add-out
+    offset_bounds-out-p-2
+    bounds-out-p-2
+    second_part-requires
     narrow-requires-3
-    add-out-2
-    mul-out-3
-    slice-write-out-3
-    same_length
-    returns-2)
+    overflow_add-out-2
+    offset_bounds-out-p-3
+    bounds-out-p-3
+    shape_of-out
+    returns)

@@ -13,54 +13,54 @@ use native.Mathlib.Omega.{arith}
 use Rattle.passes.proofs.collect_depended_runtime_helpers.Statement.{statement}
 use Rattle.passes.proofs.collect_depended_runtime_helpers.Tie as tie
 
-abbrev invariant-loop : tie.invariant-loop
-invariant-loop numbers tables marks plan h word₀ k₀ word k = (h ≡ header_in numbers) × (k ≤ h.helpers) × (word ≡ word_of (some_need (graph_in numbers) (marked (graph_in numbers) marks) (header_in numbers).modules) k)
+abbrev invariant-loop-k : tie.invariant-loop-k
+invariant-loop-k numbers tables marks plan h word₀ k₀ word k = (h ≡ header_in numbers) × (k ≤ h.helpers) × (word ≡ word_of (some_need (graph_in numbers) (marked (graph_in numbers) marks) (header_in numbers).modules) k)
 
-abbrev decreases-loop : tie.decreases-loop
-decreases-loop numbers tables marks plan h word₀ k₀ word k = h.helpers - k
+abbrev decreases-loop-k : tie.decreases-loop-k
+decreases-loop-k numbers tables marks plan h word₀ k₀ word k = h.helpers - k
 
-header-of-requires : tie.Need-header-of-requires invariant-loop decreases-loop
-header-of-requires c κs = c.before.before.before.before.requires.0.loaded.long
+header_of-h-requires : tie.Need-header_of-h-requires invariant-loop-k decreases-loop-k
+header_of-h-requires c κs = c.requires.0.loaded.long
 
-loop-holds : tie.Need-loop-init invariant-loop decreases-loop
+loop-k-init : tie.Need-loop-k-init invariant-loop-k decreases-loop-k
 unfolding word_of
-loop-holds c = (c.header_of.ensures, omega arith, refl)
+loop-k-init c = (c.header_of-h.ensures, omega arith, refl)
 
-is-needed-requires : tie.Need-is-needed-requires invariant-loop decreases-loop
-is-needed-requires c κs = let s = c.before.before.before.before.before.before.before.before in (s.requires.0, ((s.requires.1.0.0, s.requires.1.0.1, omega (arith, c.if1.true, ap (λ (x : Header). x.helpers) c.before.before.before.header_of.ensures, helpers_few s.requires.0.loaded)), s.requires.1.1))
+is_needed-requires : tie.Need-is_needed-requires invariant-loop-k decreases-loop-k
+is_needed-requires c κs = (c.requires.0, ((c.requires.1.0.0, c.requires.1.0.1, omega (arith, c.loop-k-test.true, ap (λ (x : Header). x.helpers) c.header_of-h.ensures, helpers_few c.requires.0.loaded)), c.requires.1.1))
 
-shl-word : tie.Need-overflow-shl-word invariant-loop decreases-loop
-shl-word c = let s = c.before.before.before.before.before.before.before.before.before.before in omega (arith, c.before.before.if1.true, ap (λ (x : Header). x.helpers) c.before.before.before.before.before.header_of.ensures, helpers_few s.requires.0.loaded)
+overflow_shl-word : tie.Need-overflow_shl-word invariant-loop-k decreases-loop-k
+overflow_shl-word c = omega (arith, c.loop-k-test.true, ap (λ (x : Header). x.helpers) c.header_of-h.ensures, helpers_few c.requires.0.loaded)
 
-add-word : tie.Need-overflow-add-word invariant-loop decreases-loop
-add-word c = let s = c.before.before.before.before.before.before.before.before.before.before in record { fits = word_room _ _ _ (omega (arith, c.before.before.if1.true, ap (λ (x : Header). x.helpers) c.before.before.before.before.before.header_of.ensures, helpers_few s.requires.0.loaded)) c.before.before.before.before.loop.invariant.2 }
+overflow_add-word : tie.Need-overflow_add-word invariant-loop-k decreases-loop-k
+overflow_add-word c = record { fits = word_room _ _ _ (omega (arith, c.loop-k-test.true, ap (λ (x : Header). x.helpers) c.header_of-h.ensures, helpers_few c.requires.0.loaded)) c.loop-k.invariant.2 }
 
-add-k : tie.Need-overflow-add-k invariant-loop decreases-loop
-add-k c = let s = c.before.before.before.before.before.before.before.before.before.before in record { fits = omega (arith, c.before.before.if1.true, ap (λ (x : Header). x.helpers) c.before.before.before.before.before.header_of.ensures, helpers_few s.requires.0.loaded) }
+overflow_add-k : tie.Need-overflow_add-k invariant-loop-k decreases-loop-k
+overflow_add-k c = record { fits = omega (arith, c.loop-k-test.true, ap (λ (x : Header). x.helpers) c.header_of-h.ensures, helpers_few c.requires.0.loaded) }
 
-loop-less : tie.Need-loop-smaller invariant-loop decreases-loop
-loop-less c = omega (arith, c.before.before.if1.true)
+loop-k-smaller : tie.Need-loop-k-smaller invariant-loop-k decreases-loop-k
+loop-k-smaller c = omega (arith, c.loop-k-test.true)
 
-loop-again : tie.Need-loop-preserved invariant-loop decreases-loop
+loop-k-preserved : tie.Need-loop-k-preserved invariant-loop-k decreases-loop-k
 unfolding some_need
-loop-again c = let s = c.before.before.before.before.before.before.before.before.before.before in let v = c.before.before.before.before.loop.invariant in let taken = c.before.before.if1.true in let few = few_bits taken (ap (λ (x : Header). x.helpers) c.before.before.before.before.before.header_of.ensures) (helpers_few s.requires.0.loaded) in let says = c.before.is-needed.ensures in (v.0, omega (arith, taken), ⊎_elim (λ w. word_set _ _ _ few v.2 w.1 (sym says ∙ w.0.taken)) (λ w. word_kept _ _ _ few v.2 w.1 (sym says ∙ w.0.left)) c.if2.branch)
+loop-k-preserved c = let v = c.loop-k.invariant in let taken = c.loop-k-test.true in let few = few_bits taken (ap (λ (x : Header). x.helpers) c.header_of-h.ensures) (helpers_few c.requires.0.loaded) in let says = c.is_needed.ensures in (v.0, omega (arith, taken), ⊎_elim (λ w. word_set _ _ _ few v.2 w.1 (sym says ∙ w.0.taken)) (λ w. word_kept _ _ _ few v.2 w.1 (sym says ∙ w.0.left)) c.if-is_needed.branch)
 
-returns : tie.Need-returns invariant-loop decreases-loop
+returns : tie.Need-returns invariant-loop-k decreases-loop-k
 unfolding graph_in
-returns c = let s = c.before.before.before.before.before.before.before.before in let v = c.before.before.loop.invariant in let q = ap (λ (x : Header). x.helpers) c.before.before.before.header_of.ensures in (word_done _ _ _ _ v.2 (omega (arith, v.1, q)) (omega (arith, c.if1.false, q)) (helpers_few s.requires.0.loaded)).0 ∙ union_is _ _
+returns c = let v = c.loop-k.invariant in let q = ap (λ (x : Header). x.helpers) c.header_of-h.ensures in (word_done _ _ _ _ v.2 (omega (arith, v.1, q)) (omega (arith, c.loop-k-test.false, q)) (helpers_few c.requires.0.loaded)).0 ∙ union_is _ _
 
-pub collect-depended-runtime-helpers-spec : {M : Type 1} → statement M
-collect-depended-runtime-helpers-spec =
+pub collect_depended_runtime_helpers_spec : {M : Type 1} → statement M
+collect_depended_runtime_helpers_spec =
     tie.close
     (tie.spec
-    invariant-loop
-    decreases-loop
-    header-of-requires
-    loop-holds
-    is-needed-requires
-    shl-word
-    add-word
-    add-k
-    loop-less
-    loop-again
+    invariant-loop-k
+    decreases-loop-k
+    header_of-h-requires
+    loop-k-init
+    is_needed-requires
+    overflow_shl-word
+    overflow_add-word
+    overflow_add-k
+    loop-k-smaller
+    loop-k-preserved
     returns)

@@ -13,63 +13,63 @@ use native.Mathlib.Omega.{arith}
 use Rattle.passes.proofs.collect_helpers.Statement.{statement}
 use Rattle.passes.proofs.collect_helpers.Tie as tie
 
-abbrev invariant-loop : tie.invariant-loop
-invariant-loop numbers tables marks plan₀ h at m₀ plan m = (h ≡ header_in numbers) × (at ≡ words_at (header_in numbers)) × (m ≤ h.modules) × Planned (helper_word (graph_in numbers) (marked (graph_in numbers) marks)) (words_at (header_in numbers)) (plan_size (header_in numbers)) m plan₀ plan
+abbrev invariant-loop-m : tie.invariant-loop-m
+invariant-loop-m numbers tables marks plan₀ h at m₀ plan m = (h ≡ header_in numbers) × (at ≡ words_at (header_in numbers)) × (m ≤ h.modules) × Planned (helper_word (graph_in numbers) (marked (graph_in numbers) marks)) (words_at (header_in numbers)) (plan_size (header_in numbers)) m plan₀ plan
 
-abbrev decreases-loop : tie.decreases-loop
-decreases-loop numbers tables marks plan₀ h at m₀ plan m = h.modules - m
+abbrev decreases-loop-m : tie.decreases-loop-m
+decreases-loop-m numbers tables marks plan₀ h at m₀ plan m = h.modules - m
 
-header-of-requires : tie.Need-header-of-requires invariant-loop decreases-loop
-header-of-requires c κs = c.before.before.before.before.requires.0.loaded.long
+header_of-h-requires : tie.Need-header_of-h-requires invariant-loop-m decreases-loop-m
+header_of-h-requires c κs = c.requires.0.loaded.long
 
-words-at-requires : tie.Need-words-at-requires invariant-loop decreases-loop
-words-at-requires c κs = let s = c.before.before.before.before.before in rw c.header_of.ensures (omega (arith, s.requires.0.loaded.few_modules, s.requires.0.loaded.few_entries))
+words_at-at-requires : tie.Need-words_at-at-requires invariant-loop-m decreases-loop-m
+words_at-at-requires c κs = rw c.header_of-h.ensures (omega (arith, c.requires.0.loaded.few_modules, c.requires.0.loaded.few_entries))
 
-loop-holds : tie.Need-loop-init invariant-loop decreases-loop
-loop-holds c = (c.before.header_of.ensures, c.words-at.ensures ∙ ap words_at c.before.header_of.ensures, omega arith, planned_start _ _ _ _)
+loop-m-init : tie.Need-loop-m-init invariant-loop-m decreases-loop-m
+loop-m-init c = (c.header_of-h.ensures, c.words_at-at.ensures ∙ ap words_at c.header_of-h.ensures, omega arith, planned_start _ _ _ _)
 
-helper-word-requires : tie.Need-helper-word-requires invariant-loop decreases-loop
-helper-word-requires c κs = let s = c.before.before.before.before.before.before.before.before.before in (s.requires.0, (word_place c.if1.true (ap (λ (x : Header). x.modules) c.before.before.before.before.header_of.ensures), s.requires.1.0))
+helper_word-requires : tie.Need-helper_word-requires invariant-loop-m decreases-loop-m
+helper_word-requires c κs = (c.requires.0, (word_place c.loop-m-test.true (ap (λ (x : Header). x.modules) c.header_of-h.ensures), c.requires.1.0))
 
-add-plan : tie.Need-overflow-add-plan invariant-loop decreases-loop
-add-plan c = let s = c.before.before.before.before.before.before.before.before.before.before in record { fits = omega (arith, c.before.if1.true, c.before.before.before.before.words-at.ensures, ap (λ (x : Header). x.modules) c.before.before.before.before.before.header_of.ensures, ap (λ (x : Header). x.entries) c.before.before.before.before.before.header_of.ensures, s.requires.0.loaded.few_modules, s.requires.0.loaded.few_entries) }
+overflow_add-plan : tie.Need-overflow_add-plan invariant-loop-m decreases-loop-m
+overflow_add-plan c = record { fits = omega (arith, c.loop-m-test.true, c.words_at-at.ensures, ap (λ (x : Header). x.modules) c.header_of-h.ensures, ap (λ (x : Header). x.entries) c.header_of-h.ensures, c.requires.0.loaded.few_modules, c.requires.0.loaded.few_entries) }
 
-mul-plan : tie.Need-overflow-mul-plan invariant-loop decreases-loop
-mul-plan c = let s = c.before.before.before.before.before.before.before.before.before.before in record { fits = omega (arith, c.before.if1.true, c.before.before.before.before.words-at.ensures, ap (λ (x : Header). x.modules) c.before.before.before.before.before.header_of.ensures, ap (λ (x : Header). x.entries) c.before.before.before.before.before.header_of.ensures, s.requires.0.loaded.few_modules, s.requires.0.loaded.few_entries) }
+offset_bounds-plan-at : tie.Need-offset_bounds-plan-at invariant-loop-m decreases-loop-m
+offset_bounds-plan-at c = record { fits = omega (arith, c.loop-m-test.true, c.words_at-at.ensures, ap (λ (x : Header). x.modules) c.header_of-h.ensures, ap (λ (x : Header). x.entries) c.header_of-h.ensures, c.requires.0.loaded.few_modules, c.requires.0.loaded.few_entries) }
 
-slice-write-plan : tie.Need-slice-write-plan invariant-loop decreases-loop
-slice-write-plan c = let s = c.before.before.before.before.before.before.before.before.before.before in omega (arith, c.before.if1.true, c.before.before.before.before.words-at.ensures, ap (λ (x : Header). x.modules) c.before.before.before.before.before.header_of.ensures, ap (λ (x : Header). x.entries) c.before.before.before.before.before.header_of.ensures, s.requires.1.1, c.before.before.before.loop.invariant.3.untouched.same_length)
+bounds-plan-at : tie.Need-bounds-plan-at invariant-loop-m decreases-loop-m
+bounds-plan-at c = omega (arith, c.loop-m-test.true, c.words_at-at.ensures, ap (λ (x : Header). x.modules) c.header_of-h.ensures, ap (λ (x : Header). x.entries) c.header_of-h.ensures, c.requires.1.1, c.loop-m.invariant.3.untouched.same_length)
 
-add-m : tie.Need-overflow-add-m invariant-loop decreases-loop
-add-m c = let s = c.before.before.before.before.before.before.before.before.before.before in record { fits = omega (arith, c.before.if1.true, ap (λ (x : Header). x.modules) c.before.before.before.before.before.header_of.ensures, s.requires.0.loaded.few_modules) }
+overflow_add-m : tie.Need-overflow_add-m invariant-loop-m decreases-loop-m
+overflow_add-m c = record { fits = omega (arith, c.loop-m-test.true, ap (λ (x : Header). x.modules) c.header_of-h.ensures, c.requires.0.loaded.few_modules) }
 
-loop-less : tie.Need-loop-smaller invariant-loop decreases-loop
-loop-less c = omega (arith, c.before.if1.true)
+loop-m-smaller : tie.Need-loop-m-smaller invariant-loop-m decreases-loop-m
+loop-m-smaller c = omega (arith, c.loop-m-test.true)
 
-loop-again : tie.Need-loop-preserved invariant-loop decreases-loop
-loop-again c = let s = c.before.before.before.before.before.before.before.before.before.before in let v = c.before.before.before.loop.invariant in let taken = c.before.if1.true in (v.0, v.1, omega (arith, taken), planned-step _ _ _ _ _ _ v.3 _ _ v.1 (omega (arith, taken, ap (λ (x : Header). x.modules) c.before.before.before.before.before.header_of.ensures)) s.requires.1.1 c.helper_word.ensures.0 c.helper_word.ensures.1)
+loop-m-preserved : tie.Need-loop-m-preserved invariant-loop-m decreases-loop-m
+loop-m-preserved c = let v = c.loop-m.invariant in let taken = c.loop-m-test.true in (v.0, v.1, omega (arith, taken), planned-step _ _ _ _ _ _ v.3 _ _ v.1 (omega (arith, taken, ap (λ (x : Header). x.modules) c.header_of-h.ensures)) c.requires.1.1 c.helper_word.ensures.0 c.helper_word.ensures.1)
 
-same_length : tie.Need-same-length invariant-loop decreases-loop
-same_length c = c.before.before.loop.invariant.3.untouched.same_length
+shape_of-plan : tie.Need-shape_of-plan invariant-loop-m decreases-loop-m
+shape_of-plan c = c.loop-m.invariant.3.untouched.same_length
 
-returns : tie.Need-returns invariant-loop decreases-loop
-returns c = let v = c.before.before.loop.invariant in (λ m l. v.3.done m (omega (arith, l, c.if1.false, ap (λ (x : Header). x.modules) c.before.before.before.before.header_of.ensures)), v.3.untouched)
+returns : tie.Need-returns invariant-loop-m decreases-loop-m
+returns c = let v = c.loop-m.invariant in (λ m l. v.3.done m (omega (arith, l, c.loop-m-test.false, ap (λ (x : Header). x.modules) c.header_of-h.ensures)), v.3.untouched)
 
-pub collect-helpers-spec : {M : Type 1} → statement M
-collect-helpers-spec =
+pub collect_helpers_spec : {M : Type 1} → statement M
+collect_helpers_spec =
     tie.close
     (tie.spec
-    invariant-loop
-    decreases-loop
-    header-of-requires
-    words-at-requires
-    loop-holds
-    helper-word-requires
-    add-plan
-    mul-plan
-    slice-write-plan
-    add-m
-    loop-less
-    loop-again
-    same_length
+    invariant-loop-m
+    decreases-loop-m
+    header_of-h-requires
+    words_at-at-requires
+    loop-m-init
+    helper_word-requires
+    overflow_add-plan
+    offset_bounds-plan-at
+    bounds-plan-at
+    overflow_add-m
+    loop-m-smaller
+    loop-m-preserved
+    shape_of-plan
     returns)

@@ -8,20 +8,26 @@ use native.Mathlib.Omega.{arith}
 use Rattle.passes.proofs.has_all.Statement.{statement}
 use Rattle.passes.proofs.has_all.Tie as tie
 
-header-of-requires : tie.Need-header-of-requires
-header-of-requires c κs = c.before.before.before.requires.0.loaded.long
+header_of-h-requires : tie.Need-header_of-h-requires
+header_of-h-requires c κs = c.requires.0.loaded.long
 
-returns : tie.Need-returns
+returns-then-m-h : tie.Need-returns-then-m-h
 unfolding graph_in
-returns c = all_runtime _ _ _ (c.if1.true ∙ ap (λ (h : Header). h.runtime) c.before.before.before.header_of.ensures)
+returns-then-m-h c = all_runtime _ _ _ (c.if-m-h.true ∙ ap (λ (h : Header). h.runtime) c.header_of-h.ensures)
 
 test-requires : tie.Need-test-requires
 unfolding graph_in mark_count
-test-requires c κs = let s = c.before.before.before.before.before.before.before in omega (arith, s.requires.1.0, s.requires.1.1)
+test-requires c κs = omega (arith, c.requires.1.0, c.requires.1.1)
 
-returns-2 : tie.Need-returns-2
+returns : tie.Need-returns
 unfolding graph_in
-returns-2 c = ap not (c.test.ensures ∙ module_marked _ _ _) ∙ all_other _ _ _ (λ e. c.before.if1.false (e ∙ sym (ap (λ (h : Header). h.runtime) c.before.before.before.before.header_of.ensures)))
+returns c = ap not (c.test.ensures ∙ module_marked _ _ _) ∙ all_other _ _ _ (λ e. c.if-m-h.false (e ∙ sym (ap (λ (h : Header). h.runtime) c.header_of-h.ensures)))
 
-pub has-all-spec : {M : Type 1} → statement M
-has-all-spec = tie.close (tie.spec header-of-requires returns test-requires returns-2)
+pub has_all_spec : {M : Type 1} → statement M
+has_all_spec =
+    tie.close
+    (tie.spec
+    header_of-h-requires
+    returns-then-m-h
+    test-requires
+    returns)

@@ -14,70 +14,70 @@ use native.Mathlib.Omega.{arith}
 use Rattle.passes.proofs.helper_word.Statement.{statement}
 use Rattle.passes.proofs.helper_word.Tie as tie
 
-abbrev invariant-loop : tie.invariant-loop
-invariant-loop numbers tables marks m h all word₀ k₀ word k = (h ≡ header_in numbers) × (k ≤ h.helpers) × (word ≡ word_of (needs_helper (graph_in numbers) (marked (graph_in numbers) marks) m.0) k)
+abbrev invariant-loop-k : tie.invariant-loop-k
+invariant-loop-k numbers tables marks m h all word₀ k₀ word k = (h ≡ header_in numbers) × (k ≤ h.helpers) × (word ≡ word_of (needs_helper (graph_in numbers) (marked (graph_in numbers) marks) m.0) k)
 
-abbrev decreases-loop : tie.decreases-loop
-decreases-loop numbers tables marks m h all word₀ k₀ word k = h.helpers - k
+abbrev decreases-loop-k : tie.decreases-loop-k
+decreases-loop-k numbers tables marks m h all word₀ k₀ word k = h.helpers - k
 
-header-of-requires : tie.Need-header-of-requires invariant-loop decreases-loop
-header-of-requires c κs = c.before.before.before.requires.0.loaded.long
+header_of-h-requires : tie.Need-header_of-h-requires invariant-loop-k decreases-loop-k
+header_of-h-requires c κs = c.requires.0.loaded.long
 
-returns : tie.Need-returns invariant-loop decreases-loop
+returns-then-h-eq0 : tie.Need-returns-then-h-eq0 invariant-loop-k decreases-loop-k
 unfolding helper_word graph_in word_of
-returns c = let s = c.before.before.before.before.before.before in word_done _ 0 _ 0 refl (omega arith) (omega (arith, c.if1.true, ap (λ (x : Header). x.helpers) c.before.before.header_of.ensures)) (helpers_few s.requires.0.loaded)
+returns-then-h-eq0 c = word_done _ 0 _ 0 refl (omega arith) (omega (arith, c.if-h-eq0.true, ap (λ (x : Header). x.helpers) c.header_of-h.ensures)) (helpers_few c.requires.0.loaded)
 
-helper-count-requires : tie.Need-helper-count-requires invariant-loop decreases-loop
-helper-count-requires c κs = let s = c.before.before.before.before.before.before in (s.requires.0.loaded, s.requires.1.0)
+helper_count-requires : tie.Need-helper_count-requires invariant-loop-k decreases-loop-k
+helper_count-requires c κs = (c.requires.0.loaded, c.requires.1.0)
 
-returns-2 : tie.Need-returns-2 invariant-loop decreases-loop
-returns-2 c = (needs_none _ _ _ _ c.before.helper_count.ensures.0 c.if2.true, omega arith)
+returns-then-helper_count-eq0 : tie.Need-returns-then-helper_count-eq0 invariant-loop-k decreases-loop-k
+returns-then-helper_count-eq0 c = (needs_none _ _ _ _ c.helper_count.ensures.0 c.if-helper_count-eq0.true, omega arith)
 
-has-all-requires : tie.Need-has-all-requires invariant-loop decreases-loop
-has-all-requires c κs = let s = c.before.before.before.before.before.before.before.before in (s.requires.0, s.requires.1)
+has_all-all-requires : tie.Need-has_all-all-requires invariant-loop-k decreases-loop-k
+has_all-all-requires c κs = (c.requires.0, c.requires.1)
 
-loop-holds : tie.Need-loop-init invariant-loop decreases-loop
+loop-k-init : tie.Need-loop-k-init invariant-loop-k decreases-loop-k
 unfolding word_of
-loop-holds c = (c.before.before.before.before.before.header_of.ensures, omega arith, refl)
+loop-k-init c = (c.header_of-h.ensures, omega arith, refl)
 
-needs-helper-requires : tie.Need-needs-helper-requires invariant-loop decreases-loop
-needs-helper-requires c κs = let s = c.before.before.before.before.before.before.before.before.before.before.before.before in (s.requires.0, (s.requires.1, c.before.before.before.Has-All.ensures))
+needs_helper-requires : tie.Need-needs_helper-requires invariant-loop-k decreases-loop-k
+needs_helper-requires c κs = (c.requires.0, (c.requires.1, c.has_all-all.ensures))
 
-shl-word : tie.Need-overflow-shl-word invariant-loop decreases-loop
-shl-word c = let s = c.before.before.before.before.before.before.before.before.before.before.before.before.before.before in omega (arith, c.before.before.if3.true, ap (λ (x : Header). x.helpers) c.before.before.before.before.before.before.before.before.before.before.header_of.ensures, helpers_few s.requires.0.loaded)
+overflow_shl-word : tie.Need-overflow_shl-word invariant-loop-k decreases-loop-k
+overflow_shl-word c = omega (arith, c.loop-k-test.true, ap (λ (x : Header). x.helpers) c.header_of-h.ensures, helpers_few c.requires.0.loaded)
 
-add-word : tie.Need-overflow-add-word invariant-loop decreases-loop
-add-word c = let s = c.before.before.before.before.before.before.before.before.before.before.before.before.before.before in record { fits = word_room _ _ _ (omega (arith, c.before.before.if3.true, ap (λ (x : Header). x.helpers) c.before.before.before.before.before.before.before.before.before.before.header_of.ensures, helpers_few s.requires.0.loaded)) c.before.before.before.before.loop.invariant.2 }
+overflow_add-word : tie.Need-overflow_add-word invariant-loop-k decreases-loop-k
+overflow_add-word c = record { fits = word_room _ _ _ (omega (arith, c.loop-k-test.true, ap (λ (x : Header). x.helpers) c.header_of-h.ensures, helpers_few c.requires.0.loaded)) c.loop-k.invariant.2 }
 
-add-k : tie.Need-overflow-add-k invariant-loop decreases-loop
-add-k c = let s = c.before.before.before.before.before.before.before.before.before.before.before.before.before.before in record { fits = omega (arith, c.before.before.if3.true, ap (λ (x : Header). x.helpers) c.before.before.before.before.before.before.before.before.before.before.header_of.ensures, helpers_few s.requires.0.loaded) }
+overflow_add-k : tie.Need-overflow_add-k invariant-loop-k decreases-loop-k
+overflow_add-k c = record { fits = omega (arith, c.loop-k-test.true, ap (λ (x : Header). x.helpers) c.header_of-h.ensures, helpers_few c.requires.0.loaded) }
 
-loop-less : tie.Need-loop-smaller invariant-loop decreases-loop
-loop-less c = omega (arith, c.before.before.if3.true)
+loop-k-smaller : tie.Need-loop-k-smaller invariant-loop-k decreases-loop-k
+loop-k-smaller c = omega (arith, c.loop-k-test.true)
 
-loop-again : tie.Need-loop-preserved invariant-loop decreases-loop
-loop-again c = let s = c.before.before.before.before.before.before.before.before.before.before.before.before.before.before in let v = c.before.before.before.before.loop.invariant in let taken = c.before.before.if3.true in let few = few_bits taken (ap (λ (x : Header). x.helpers) c.before.before.before.before.before.before.before.before.before.before.header_of.ensures) (helpers_few s.requires.0.loaded) in let says = c.before.needs-helper.ensures in (v.0, omega (arith, taken), ⊎_elim (λ w. word_set _ _ _ few v.2 w.1 (sym says ∙ w.0.taken)) (λ w. word_kept _ _ _ few v.2 w.1 (sym says ∙ w.0.left)) c.if4.branch)
+loop-k-preserved : tie.Need-loop-k-preserved invariant-loop-k decreases-loop-k
+loop-k-preserved c = let v = c.loop-k.invariant in let taken = c.loop-k-test.true in let few = few_bits taken (ap (λ (x : Header). x.helpers) c.header_of-h.ensures) (helpers_few c.requires.0.loaded) in let says = c.needs_helper.ensures in (v.0, omega (arith, taken), ⊎_elim (λ w. word_set _ _ _ few v.2 w.1 (sym says ∙ w.0.taken)) (λ w. word_kept _ _ _ few v.2 w.1 (sym says ∙ w.0.left)) c.if-needs_helper.branch)
 
-returns-3 : tie.Need-returns-3 invariant-loop decreases-loop
+returns : tie.Need-returns invariant-loop-k decreases-loop-k
 unfolding helper_word graph_in
-returns-3 c = let s = c.before.before.before.before.before.before.before.before.before.before.before.before in let v = c.before.before.loop.invariant in let q = ap (λ (x : Header). x.helpers) c.before.before.before.before.before.before.before.before.header_of.ensures in word_done _ _ _ _ v.2 (omega (arith, v.1, q)) (omega (arith, c.if3.false, q)) (helpers_few s.requires.0.loaded)
+returns c = let v = c.loop-k.invariant in let q = ap (λ (x : Header). x.helpers) c.header_of-h.ensures in word_done _ _ _ _ v.2 (omega (arith, v.1, q)) (omega (arith, c.loop-k-test.false, q)) (helpers_few c.requires.0.loaded)
 
-pub helper-word-spec : {M : Type 1} → statement M
-helper-word-spec =
+pub helper_word_spec : {M : Type 1} → statement M
+helper_word_spec =
     tie.close
     (tie.spec
-    invariant-loop
-    decreases-loop
-    header-of-requires
-    returns
-    helper-count-requires
-    returns-2
-    has-all-requires
-    loop-holds
-    needs-helper-requires
-    shl-word
-    add-word
-    add-k
-    loop-less
-    loop-again
-    returns-3)
+    invariant-loop-k
+    decreases-loop-k
+    header_of-h-requires
+    returns-then-h-eq0
+    helper_count-requires
+    returns-then-helper_count-eq0
+    has_all-all-requires
+    loop-k-init
+    needs_helper-requires
+    overflow_shl-word
+    overflow_add-word
+    overflow_add-k
+    loop-k-smaller
+    loop-k-preserved
+    returns)

@@ -17,89 +17,89 @@ use native.Mathlib.Omega.{arith}
 use Rattle.passes.proofs.include_cjs_exports.Statement.{statement}
 use Rattle.passes.proofs.include_cjs_exports.Tie as tie
 
-abbrev invariant-loop : tie.invariant-loop
-invariant-loop numbers tables partners₀ marks₀ lines₀ count m exports total₀ k₀ partners marks lines total k = (length partners ≡ length partners₀) × (length marks ≡ length marks₀) × (length lines ≡ length lines₀) × (k ≤ exports) × Along (graph_in numbers) 0 (drained_all (graph_in numbers) (last_verdicts (graph_in numbers)) 0 (export_starts (resolved_exports (module_of (graph_in numbers) m.0))) (lines_of total₀ lines₀)) (export_starts (drop k (resolved_exports (module_of (graph_in numbers) m.0)))) partners marks lines total
+abbrev invariant-loop-k : tie.invariant-loop-k
+invariant-loop-k numbers tables partners₀ marks₀ lines₀ count m exports total₀ k₀ partners marks lines total k = (length partners ≡ length partners₀) × (length marks ≡ length marks₀) × (length lines ≡ length lines₀) × (k ≤ exports) × Along (graph_in numbers) 0 (drained_all (graph_in numbers) (last_verdicts (graph_in numbers)) 0 (export_starts (resolved_exports (module_of (graph_in numbers) m.0))) (lines_of total₀ lines₀)) (export_starts (drop k (resolved_exports (module_of (graph_in numbers) m.0)))) partners marks lines total
 
-abbrev decreases-loop : tie.decreases-loop
-decreases-loop numbers tables partners₀ marks₀ lines₀ count m exports total₀ k₀ partners marks lines total k = exports - k
+abbrev decreases-loop-k : tie.decreases-loop-k
+decreases-loop-k numbers tables partners₀ marks₀ lines₀ count m exports total₀ k₀ partners marks lines total k = exports - k
 
-resolved-export-count-requires : tie.Need-resolved-export-count-requires invariant-loop decreases-loop
-resolved-export-count-requires c κs = let s = c.before.before.before.before.before in (s.requires.0.loaded, s.requires.1.1)
+resolved_export_count-exports-requires : tie.Need-resolved_export_count-exports-requires invariant-loop-k decreases-loop-k
+resolved_export_count-exports-requires c κs = (c.requires.0.loaded, c.requires.1.1)
 
-loop-holds : tie.Need-loop-init invariant-loop decreases-loop
-loop-holds c = let s = c.before.before.before.before.before.before in (refl, refl, refl, omega arith, exporting_start _ _ _ _ c.resolved-export-count.ensures.0 _ _ _ _ s.requires.1.0)
+loop-k-init : tie.Need-loop-k-init invariant-loop-k decreases-loop-k
+loop-k-init c = (refl, refl, refl, omega arith, exporting_start _ _ _ _ c.resolved_export_count-exports.ensures.0 _ _ _ _ c.requires.1.0)
 
-resolved-export-from-commonjs-requires :
-    tie.Need-resolved-export-from-commonjs-requires invariant-loop decreases-loop
-resolved-export-from-commonjs-requires c κs = let s = c.before.before.before.before.before.before.before.before in (s.requires.0.loaded, (s.requires.1.1, omega (arith, c.loop-test.true, c.before.before.resolved-export-count.ensures.0)))
+resolved_export_from_commonjs-requires :
+    tie.Need-resolved_export_from_commonjs-requires invariant-loop-k decreases-loop-k
+resolved_export_from_commonjs-requires c κs = (c.requires.0.loaded, (c.requires.1.1, omega (arith, c.loop-k-test.true, c.resolved_export_count-exports.ensures.0)))
 
-resolved-export-symbol-requires : tie.Need-resolved-export-symbol-requires invariant-loop decreases-loop
-resolved-export-symbol-requires c κs = let s = c.before.before.before.before.before.before.before.before.before.before in (s.requires.0.loaded, (s.requires.1.1, omega (arith, c.before.before.loop-test.true, c.before.before.before.before.resolved-export-count.ensures.0)))
+resolved_export_symbol-s-requires : tie.Need-resolved_export_symbol-s-requires invariant-loop-k decreases-loop-k
+resolved_export_symbol-s-requires c κs = (c.requires.0.loaded, (c.requires.1.1, omega (arith, c.loop-k-test.true, c.resolved_export_count-exports.ensures.0)))
 
-start-one-requires : tie.Need-start-one-requires invariant-loop decreases-loop
+start_one-requires : tie.Need-start_one-requires invariant-loop-k decreases-loop-k
 unfolding graph_in
-start-one-requires c κs = let s = c.before.before.before.before.before.before.before.before.before.before.before.before.before.before in (s.requires.0, (c.before.before.before.before.before.before.before.loop.invariant.4.working, (c.before.before.before.resolved-export-symbol.ensures.1, omega arith, omega arith)))
+start_one-requires c κs = (c.requires.0, (c.loop-k.invariant.4.working, (c.resolved_export_symbol-s.ensures.1, omega arith, omega arith)))
 
-enum_told : tie.Need-enum-told invariant-loop decreases-loop
-enum_told c = search rules
+enum_told-1 : tie.Need-enum_told-1 invariant-loop-k decreases-loop-k
+enum_told-1 c = search rules
 
-same_length : tie.Need-same-length invariant-loop decreases-loop
-same_length c = search rules
+shape_of-partners-in-Full : tie.Need-shape_of-partners-in-Full invariant-loop-k decreases-loop-k
+shape_of-partners-in-Full c = search rules
 
-same-length-2 : tie.Need-same-length-2 invariant-loop decreases-loop
-same-length-2 c = search rules
+shape_of-marks-in-Full : tie.Need-shape_of-marks-in-Full invariant-loop-k decreases-loop-k
+shape_of-marks-in-Full c = search rules
 
-same-length-3 : tie.Need-same-length-3 invariant-loop decreases-loop
-same-length-3 c = search rules
+shape_of-lines-in-Full : tie.Need-shape_of-lines-in-Full invariant-loop-k decreases-loop-k
+shape_of-lines-in-Full c = search rules
 
-returns : tie.Need-returns invariant-loop decreases-loop
-returns c = exporting-full _ _ _ _ c.before.before.before.before.before.before.before.before.before.before.before.before.before.before.before.before.before.resolved-export-count.ensures.0 _ _ _ _ _ _ _ c.before.before.before.before.before.before.before.before.before.before.before.before.before.before.before.before.loop.invariant.4 c.before.before.before.before.before.before.before.before.before.before.before.before.before.before.before.loop-test.true _ c.before.before.before.before.before.before.before.before.before.before.before.before.before.before.resolved-export-from-commonjs.ensures c.before.before.before.before.before.before.before.before.before.before.before.before.before.if1.true _ c.before.before.before.before.before.before.before.before.before.before.before.before.resolved-export-symbol.ensures.0 _ _ _ (rw c.enum_told.given.1 at c.before.before.before.before.before.before.before.before.start-one.ensures)
+returns-in-Full : tie.Need-returns-in-Full invariant-loop-k decreases-loop-k
+returns-in-Full c = exporting-full _ _ _ _ c.resolved_export_count-exports.ensures.0 _ _ _ _ _ _ _ c.loop-k.invariant.4 c.loop-k-test.true _ c.resolved_export_from_commonjs.ensures c.if-resolved_export_from_commonjs-eq1.true _ c.resolved_export_symbol-s.ensures.0 _ _ _ (rw c.in-Full.is at c.start_one.ensures)
 
-enum-known-n : tie.Need-enum-known-n invariant-loop decreases-loop
-enum-known-n c = search rules
+enum_known-n : tie.Need-enum_known-n invariant-loop-k decreases-loop-k
+enum_known-n c = search rules
 
-add-k : tie.Need-overflow-add-k invariant-loop decreases-loop
-add-k c = record { fits = omega (arith, c.before.before.loop-test.true, c.before.before.before.before.resolved-export-count.ensures.1) }
+overflow_add-k : tie.Need-overflow_add-k invariant-loop-k decreases-loop-k
+overflow_add-k c = record { fits = omega (arith, c.loop-k-test.true, c.resolved_export_count-exports.ensures.1) }
 
-loop-less : tie.Need-loop-smaller invariant-loop decreases-loop
-loop-less c = omega (arith, c.before.before.loop-test.true)
+loop-k-smaller : tie.Need-loop-k-smaller invariant-loop-k decreases-loop-k
+loop-k-smaller c = omega (arith, c.loop-k-test.true)
 
-loop-again : tie.Need-loop-preserved invariant-loop decreases-loop
-loop-again c = let v = c.before.before.before.loop.invariant in let size = c.before.before.before.before.resolved-export-count.ensures.0 in let inside = c.before.before.loop-test.true in let is = c.before.resolved-export-from-commonjs.ensures in ⊎_elim (λ w. (ap length w.15 ∙ w.5.kept.1.1.0 ∙ v.0, ap length w.16 ∙ w.5.kept.1.1.1.0 ∙ v.1, ap length w.17 ∙ w.5.kept.1.1.1.1.0 ∙ v.2, omega (arith, inside), along_same _ _ _ _ _ _ _ _ (exporting-step _ _ _ _ size _ _ _ _ _ _ _ v.4 inside _ is w.0.taken _ w.1.ensures.0 _ _ _ _ (rw w.13.given.1 at w.5.ensures)) w.15 w.16 w.17 w.18)) (λ w. (ap length w.1 ∙ v.0, ap length w.2 ∙ v.1, ap length w.3 ∙ v.2, omega (arith, inside), along_same _ _ _ _ _ _ _ _ (exporting-other _ _ _ _ size _ _ _ _ _ _ _ v.4 inside _ is w.0.left) w.1 w.2 w.3 w.4)) c.if1.branch
+loop-k-preserved : tie.Need-loop-k-preserved invariant-loop-k decreases-loop-k
+loop-k-preserved c = let v = c.loop-k.invariant in let size = c.resolved_export_count-exports.ensures.0 in let inside = c.loop-k-test.true in let is = c.resolved_export_from_commonjs.ensures in ⊎_elim (λ w. (ap length w.15 ∙ w.5.kept.1.1.0 ∙ v.0, ap length w.16 ∙ w.5.kept.1.1.1.0 ∙ v.1, ap length w.17 ∙ w.5.kept.1.1.1.1.0 ∙ v.2, omega (arith, inside), along_same _ _ _ _ _ _ _ _ (exporting-step _ _ _ _ size _ _ _ _ _ _ _ v.4 inside _ is w.0.taken _ w.1.ensures.0 _ _ _ _ (rw w.13.given.1 at w.5.ensures)) w.15 w.16 w.17 w.18)) (λ w. (ap length w.1 ∙ v.0, ap length w.2 ∙ v.1, ap length w.3 ∙ v.2, omega (arith, inside), along_same _ _ _ _ _ _ _ _ (exporting-other _ _ _ _ size _ _ _ _ _ _ _ v.4 inside _ is w.0.left) w.1 w.2 w.3 w.4)) c.if-resolved_export_from_commonjs-eq1.branch
 
-same-length-4 : tie.Need-same-length-4 invariant-loop decreases-loop
-same-length-4 c = search rules
+shape_of-partners : tie.Need-shape_of-partners invariant-loop-k decreases-loop-k
+shape_of-partners c = search rules
 
-same-length-5 : tie.Need-same-length-5 invariant-loop decreases-loop
-same-length-5 c = search rules
+shape_of-marks : tie.Need-shape_of-marks invariant-loop-k decreases-loop-k
+shape_of-marks c = search rules
 
-same-length-6 : tie.Need-same-length-6 invariant-loop decreases-loop
-same-length-6 c = search rules
+shape_of-lines : tie.Need-shape_of-lines invariant-loop-k decreases-loop-k
+shape_of-lines c = search rules
 
-returns-2 : tie.Need-returns-2 invariant-loop decreases-loop
-returns-2 c = exporting-done _ _ _ _ c.before.before.resolved-export-count.ensures.0 _ _ _ _ _ _ _ c.before.loop.invariant.4 c.loop-test.false
+returns : tie.Need-returns invariant-loop-k decreases-loop-k
+returns c = exporting-done _ _ _ _ c.resolved_export_count-exports.ensures.0 _ _ _ _ _ _ _ c.loop-k.invariant.4 c.loop-k-test.false
 
-pub include-cjs-exports-spec : {M : Type 1} → statement M
-include-cjs-exports-spec =
+pub include_cjs_exports_spec : {M : Type 1} → statement M
+include_cjs_exports_spec =
     tie.close
     (tie.spec
-    invariant-loop
-    decreases-loop
-    resolved-export-count-requires
-    loop-holds
-    resolved-export-from-commonjs-requires
-    resolved-export-symbol-requires
-    start-one-requires
-    enum_told
-    same_length
-    same-length-2
-    same-length-3
-    returns
-    enum-known-n
-    add-k
-    loop-less
-    loop-again
-    same-length-4
-    same-length-5
-    same-length-6
-    returns-2)
+    invariant-loop-k
+    decreases-loop-k
+    resolved_export_count-exports-requires
+    loop-k-init
+    resolved_export_from_commonjs-requires
+    resolved_export_symbol-s-requires
+    start_one-requires
+    enum_told-1
+    shape_of-partners-in-Full
+    shape_of-marks-in-Full
+    shape_of-lines-in-Full
+    returns-in-Full
+    enum_known-n
+    overflow_add-k
+    loop-k-smaller
+    loop-k-preserved
+    shape_of-partners
+    shape_of-marks
+    shape_of-lines
+    returns)

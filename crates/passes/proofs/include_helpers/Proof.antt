@@ -17,88 +17,88 @@ use native.Mathlib.Omega.{arith}
 use Rattle.passes.proofs.include_helpers.Statement.{statement}
 use Rattle.passes.proofs.include_helpers.Tie as tie
 
-abbrev invariant-loop : tie.invariant-loop
-invariant-loop numbers tables partners₀ marks₀ lines₀ word h base total₀ k₀ partners marks lines total k = (length partners ≡ length partners₀) × (length marks ≡ length marks₀) × (length lines ≡ length lines₀) × (h ≡ header_in numbers) × (k ≤ h.helpers) × Along (graph_in numbers) base (drained_all (graph_in numbers) (last_verdicts (graph_in numbers)) base (helper_uses (graph_in numbers) word (header_in numbers).helpers) (lines_of total₀ lines₀)) (uses_from (graph_in numbers) word (header_in numbers).helpers k) partners marks lines total
+abbrev invariant-loop-k : tie.invariant-loop-k
+invariant-loop-k numbers tables partners₀ marks₀ lines₀ word h base total₀ k₀ partners marks lines total k = (length partners ≡ length partners₀) × (length marks ≡ length marks₀) × (length lines ≡ length lines₀) × (h ≡ header_in numbers) × (k ≤ h.helpers) × Along (graph_in numbers) base (drained_all (graph_in numbers) (last_verdicts (graph_in numbers)) base (helper_uses (graph_in numbers) word (header_in numbers).helpers) (lines_of total₀ lines₀)) (uses_from (graph_in numbers) word (header_in numbers).helpers k) partners marks lines total
 
-abbrev decreases-loop : tie.decreases-loop
-decreases-loop numbers tables partners₀ marks₀ lines₀ word h base total₀ k₀ partners marks lines total k = h.helpers - k
+abbrev decreases-loop-k : tie.decreases-loop-k
+decreases-loop-k numbers tables partners₀ marks₀ lines₀ word h base total₀ k₀ partners marks lines total k = h.helpers - k
 
-header-of-requires : tie.Need-header-of-requires invariant-loop decreases-loop
-header-of-requires c κs = c.before.before.before.before.before.requires.0.loaded.long
+header_of-h-requires : tie.Need-header_of-h-requires invariant-loop-k decreases-loop-k
+header_of-h-requires c κs = c.requires.0.loaded.long
 
-loop-holds : tie.Need-loop-init invariant-loop decreases-loop
-loop-holds c = let s = c.before.before.before.before.before.before in (refl, refl, refl, c.header_of.ensures, omega arith, using_start _ _ _ _ _ _ _ _ s.requires.1)
+loop-k-init : tie.Need-loop-k-init invariant-loop-k decreases-loop-k
+loop-k-init c = (refl, refl, refl, c.header_of-h.ensures, omega arith, using_start _ _ _ _ _ _ _ _ c.requires.1)
 
-flag-requires : tie.Need-flag-requires invariant-loop decreases-loop
-flag-requires c κs = let s = c.before.before.before.before.before.before.before.before.before in omega (arith, c.if1.true, ap (λ (x : Header). x.helpers) c.before.before.before.header_of.ensures, helpers_few s.requires.0.loaded)
+flag-requires : tie.Need-flag-requires invariant-loop-k decreases-loop-k
+flag-requires c κs = omega (arith, c.loop-k-test.true, ap (λ (x : Header). x.helpers) c.header_of-h.ensures, helpers_few c.requires.0.loaded)
 
-helper-symbol-requires : tie.Need-helper-symbol-requires invariant-loop decreases-loop
-helper-symbol-requires c κs = let s = c.before.before.before.before.before.before.before.before.before.before.before in (s.requires.0.loaded, omega (arith, c.before.before.if1.true, ap (λ (x : Header). x.helpers) c.before.before.before.before.before.header_of.ensures))
+helper_symbol-s-requires : tie.Need-helper_symbol-s-requires invariant-loop-k decreases-loop-k
+helper_symbol-s-requires c κs = (c.requires.0.loaded, omega (arith, c.loop-k-test.true, ap (λ (x : Header). x.helpers) c.header_of-h.ensures))
 
-start-one-requires : tie.Need-start-one-requires invariant-loop decreases-loop
+start_one-requires : tie.Need-start_one-requires invariant-loop-k decreases-loop-k
 unfolding graph_in
-start-one-requires c κs = let s = c.before.before.before.before.before.before.before.before.before.before.before.before.before.before.before in (s.requires.0, (c.before.before.before.before.before.before.before.before.loop.invariant.5.working, (c.before.before.before.helper-symbol.ensures.1, omega arith, omega arith)))
+start_one-requires c κs = (c.requires.0, (c.loop-k.invariant.5.working, (c.helper_symbol-s.ensures.1, omega arith, omega arith)))
 
-enum_told : tie.Need-enum-told invariant-loop decreases-loop
-enum_told c = search rules
+enum_told-1 : tie.Need-enum_told-1 invariant-loop-k decreases-loop-k
+enum_told-1 c = search rules
 
-same_length : tie.Need-same-length invariant-loop decreases-loop
-same_length c = search rules
+shape_of-partners-in-Full : tie.Need-shape_of-partners-in-Full invariant-loop-k decreases-loop-k
+shape_of-partners-in-Full c = search rules
 
-same-length-2 : tie.Need-same-length-2 invariant-loop decreases-loop
-same-length-2 c = search rules
+shape_of-marks-in-Full : tie.Need-shape_of-marks-in-Full invariant-loop-k decreases-loop-k
+shape_of-marks-in-Full c = search rules
 
-same-length-3 : tie.Need-same-length-3 invariant-loop decreases-loop
-same-length-3 c = search rules
+shape_of-lines-in-Full : tie.Need-shape_of-lines-in-Full invariant-loop-k decreases-loop-k
+shape_of-lines-in-Full c = search rules
 
-returns : tie.Need-returns invariant-loop decreases-loop
-returns c = using-full _ _ _ _ _ _ _ _ _ _ _ c.before.before.before.before.before.before.before.before.before.before.before.before.before.before.before.before.before.loop.invariant.5 (omega (arith, c.before.before.before.before.before.before.before.before.before.before.before.before.before.before.before.if1.true, ap (λ (x : Header). x.helpers) c.before.before.before.before.before.before.before.before.before.before.before.before.before.before.before.before.before.before.header_of.ensures)) _ c.before.before.before.before.before.before.before.before.before.before.before.before.before.before.flag.ensures c.before.before.before.before.before.before.before.before.before.before.before.before.before.if2.true _ c.before.before.before.before.before.before.before.before.before.before.before.before.helper-symbol.ensures.0 _ _ _ (rw c.enum_told.given.1 at c.before.before.before.before.before.before.before.before.start-one.ensures)
+returns-in-Full : tie.Need-returns-in-Full invariant-loop-k decreases-loop-k
+returns-in-Full c = using-full _ _ _ _ _ _ _ _ _ _ _ c.loop-k.invariant.5 (omega (arith, c.loop-k-test.true, ap (λ (x : Header). x.helpers) c.header_of-h.ensures)) _ c.flag.ensures c.if-flag.true _ c.helper_symbol-s.ensures.0 _ _ _ (rw c.in-Full.is at c.start_one.ensures)
 
-enum-known-n : tie.Need-enum-known-n invariant-loop decreases-loop
-enum-known-n c = search rules
+enum_known-n : tie.Need-enum_known-n invariant-loop-k decreases-loop-k
+enum_known-n c = search rules
 
-add-k : tie.Need-overflow-add-k invariant-loop decreases-loop
-add-k c = let s = c.before.before.before.before.before.before.before.before.before.before.before in record { fits = omega (arith, c.before.before.if1.true, ap (λ (x : Header). x.helpers) c.before.before.before.before.before.header_of.ensures, helpers_few s.requires.0.loaded) }
+overflow_add-k : tie.Need-overflow_add-k invariant-loop-k decreases-loop-k
+overflow_add-k c = record { fits = omega (arith, c.loop-k-test.true, ap (λ (x : Header). x.helpers) c.header_of-h.ensures, helpers_few c.requires.0.loaded) }
 
-loop-less : tie.Need-loop-smaller invariant-loop decreases-loop
-loop-less c = omega (arith, c.before.before.if1.true)
+loop-k-smaller : tie.Need-loop-k-smaller invariant-loop-k decreases-loop-k
+loop-k-smaller c = omega (arith, c.loop-k-test.true)
 
-loop-again : tie.Need-loop-preserved invariant-loop decreases-loop
-loop-again c = let v = c.before.before.before.before.loop.invariant in let q = ap (λ (x : Header). x.helpers) c.before.before.before.before.before.header_of.ensures in let taken = c.before.before.if1.true in let is = c.before.flag.ensures in ⊎_elim (λ w. (ap length w.15 ∙ w.5.kept.1.1.0 ∙ v.0, ap length w.16 ∙ w.5.kept.1.1.1.0 ∙ v.1, ap length w.17 ∙ w.5.kept.1.1.1.1.0 ∙ v.2, v.3, omega (arith, taken), along_same _ _ _ _ _ _ _ _ (using-step _ _ _ _ _ _ _ _ _ _ _ v.5 (omega (arith, taken, q)) _ is w.0.taken _ w.1.ensures.0 _ _ _ _ (rw w.13.given.1 at w.5.ensures)) w.15 w.16 w.17 w.18)) (λ w. (ap length w.1 ∙ v.0, ap length w.2 ∙ v.1, ap length w.3 ∙ v.2, v.3, omega (arith, taken), along_same _ _ _ _ _ _ _ _ (using-other _ _ _ _ _ _ _ _ _ _ _ v.5 (omega (arith, taken, q)) _ is w.0.left) w.1 w.2 w.3 w.4)) c.if2.branch
+loop-k-preserved : tie.Need-loop-k-preserved invariant-loop-k decreases-loop-k
+loop-k-preserved c = let v = c.loop-k.invariant in let q = ap (λ (x : Header). x.helpers) c.header_of-h.ensures in let taken = c.loop-k-test.true in let is = c.flag.ensures in ⊎_elim (λ w. (ap length w.15 ∙ w.5.kept.1.1.0 ∙ v.0, ap length w.16 ∙ w.5.kept.1.1.1.0 ∙ v.1, ap length w.17 ∙ w.5.kept.1.1.1.1.0 ∙ v.2, v.3, omega (arith, taken), along_same _ _ _ _ _ _ _ _ (using-step _ _ _ _ _ _ _ _ _ _ _ v.5 (omega (arith, taken, q)) _ is w.0.taken _ w.1.ensures.0 _ _ _ _ (rw w.13.given.1 at w.5.ensures)) w.15 w.16 w.17 w.18)) (λ w. (ap length w.1 ∙ v.0, ap length w.2 ∙ v.1, ap length w.3 ∙ v.2, v.3, omega (arith, taken), along_same _ _ _ _ _ _ _ _ (using-other _ _ _ _ _ _ _ _ _ _ _ v.5 (omega (arith, taken, q)) _ is w.0.left) w.1 w.2 w.3 w.4)) c.if-flag.branch
 
-same-length-4 : tie.Need-same-length-4 invariant-loop decreases-loop
-same-length-4 c = search rules
+shape_of-partners : tie.Need-shape_of-partners invariant-loop-k decreases-loop-k
+shape_of-partners c = search rules
 
-same-length-5 : tie.Need-same-length-5 invariant-loop decreases-loop
-same-length-5 c = search rules
+shape_of-marks : tie.Need-shape_of-marks invariant-loop-k decreases-loop-k
+shape_of-marks c = search rules
 
-same-length-6 : tie.Need-same-length-6 invariant-loop decreases-loop
-same-length-6 c = search rules
+shape_of-lines : tie.Need-shape_of-lines invariant-loop-k decreases-loop-k
+shape_of-lines c = search rules
 
-returns-2 : tie.Need-returns-2 invariant-loop decreases-loop
-returns-2 c = using-done _ _ _ _ _ _ _ _ _ _ _ c.before.before.loop.invariant.5 (omega (arith, c.if1.false, ap (λ (x : Header). x.helpers) c.before.before.before.header_of.ensures))
+returns : tie.Need-returns invariant-loop-k decreases-loop-k
+returns c = using-done _ _ _ _ _ _ _ _ _ _ _ c.loop-k.invariant.5 (omega (arith, c.loop-k-test.false, ap (λ (x : Header). x.helpers) c.header_of-h.ensures))
 
-pub include-helpers-spec : {M : Type 1} → statement M
-include-helpers-spec =
+pub include_helpers_spec : {M : Type 1} → statement M
+include_helpers_spec =
     tie.close
     (tie.spec
-    invariant-loop
-    decreases-loop
-    header-of-requires
-    loop-holds
+    invariant-loop-k
+    decreases-loop-k
+    header_of-h-requires
+    loop-k-init
     flag-requires
-    helper-symbol-requires
-    start-one-requires
-    enum_told
-    same_length
-    same-length-2
-    same-length-3
-    returns
-    enum-known-n
-    add-k
-    loop-less
-    loop-again
-    same-length-4
-    same-length-5
-    same-length-6
-    returns-2)
+    helper_symbol-s-requires
+    start_one-requires
+    enum_told-1
+    shape_of-partners-in-Full
+    shape_of-marks-in-Full
+    shape_of-lines-in-Full
+    returns-in-Full
+    enum_known-n
+    overflow_add-k
+    loop-k-smaller
+    loop-k-preserved
+    shape_of-partners
+    shape_of-marks
+    shape_of-lines
+    returns)

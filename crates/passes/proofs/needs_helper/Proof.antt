@@ -13,60 +13,60 @@ use native.Mathlib.Omega.{arith}
 use Rattle.passes.proofs.needs_helper.Statement.{statement}
 use Rattle.passes.proofs.needs_helper.Tie as tie
 
-abbrev invariant-loop : tie.invariant-loop
-invariant-loop numbers tables marks m helper all rows k₀ k = (k ≤ rows) × (some (row_needs (graph_in numbers) (marked (graph_in numbers) marks) m.0 helper) (drop k (module_helpers (module_of (graph_in numbers) m.0))) ≡ needs_helper (graph_in numbers) (marked (graph_in numbers) marks) m.0 helper)
+abbrev invariant-loop-k : tie.invariant-loop-k
+invariant-loop-k numbers tables marks m helper all rows k₀ k = (k ≤ rows) × (some (row_needs (graph_in numbers) (marked (graph_in numbers) marks) m.0 helper) (drop k (module_helpers (module_of (graph_in numbers) m.0))) ≡ needs_helper (graph_in numbers) (marked (graph_in numbers) marks) m.0 helper)
 
-abbrev decreases-loop : tie.decreases-loop
-decreases-loop numbers tables marks m helper all rows k₀ k = rows - k
+abbrev decreases-loop-k : tie.decreases-loop-k
+decreases-loop-k numbers tables marks m helper all rows k₀ k = rows - k
 
-helper-count-requires : tie.Need-helper-count-requires invariant-loop decreases-loop
-helper-count-requires c κs = let s = c.before.before.before in (s.requires.0.loaded, s.requires.1.0.0)
+helper_count-rows-requires : tie.Need-helper_count-rows-requires invariant-loop-k decreases-loop-k
+helper_count-rows-requires c κs = (c.requires.0.loaded, c.requires.1.0.0)
 
-loop-holds : tie.Need-loop-init invariant-loop decreases-loop
-loop-holds c = (omega arith, needing_start _ _ _ _ _ c.helper_count.ensures.0)
+loop-k-init : tie.Need-loop-k-init invariant-loop-k decreases-loop-k
+loop-k-init c = (omega arith, needing_start _ _ _ _ _ c.helper_count-rows.ensures.0)
 
-helper-requires : tie.Need-helper-requires invariant-loop decreases-loop
-helper-requires c κs = let s = c.before.before.before.before.before.before in (s.requires.0.loaded, (s.requires.1.0.0, omega (arith, c.loop-test.true, c.before.before.helper_count.ensures.0)))
+helper-requires : tie.Need-helper-requires invariant-loop-k decreases-loop-k
+helper-requires c κs = (c.requires.0.loaded, (c.requires.1.0.0, omega (arith, c.loop-k-test.true, c.helper_count-rows.ensures.0)))
 
-returns : tie.Need-returns invariant-loop decreases-loop
-returns c = let s = c.before.before.before.before.before.before.before.before.before in needing-all _ _ _ _ _ c.before.before.before.before.before.helper_count.ensures.0 _ c.before.before.before.before.loop.invariant.1 c.before.before.before.loop-test.true _ c.before.before.helper.ensures.0 c.before.if1.true (sym s.requires.1.1 ∙ c.if2.true)
+returns-then-all : tie.Need-returns-then-all invariant-loop-k decreases-loop-k
+returns-then-all c = needing-all _ _ _ _ _ c.helper_count-rows.ensures.0 _ c.loop-k.invariant.1 c.loop-k-test.true _ c.helper.ensures.0 c.if-helper.true (sym c.requires.1.1 ∙ c.if-all.true)
 
-helper-statement-requires : tie.Need-helper-statement-requires invariant-loop decreases-loop
-helper-statement-requires c κs = let s = c.before.before.before.before.before.before.before.before.before in (s.requires.0.loaded, (s.requires.1.0.0, omega (arith, c.before.before.before.loop-test.true, c.before.before.before.before.before.helper_count.ensures.0)))
+helper_statement-i-requires : tie.Need-helper_statement-i-requires invariant-loop-k decreases-loop-k
+helper_statement-i-requires c κs = (c.requires.0.loaded, (c.requires.1.0.0, omega (arith, c.loop-k-test.true, c.helper_count-rows.ensures.0)))
 
-is-marked-requires : tie.Need-is-marked-requires invariant-loop decreases-loop
+is_marked-requires : tie.Need-is_marked-requires invariant-loop-k decreases-loop-k
 unfolding graph_in
-is-marked-requires c κs = let s = c.before.before.before.before.before.before.before.before.before.before in (s.requires.0.loaded, ((s.requires.1.0.0, c.helper-statement.ensures.1), s.requires.1.0.1))
+is_marked-requires c κs = (c.requires.0.loaded, ((c.requires.1.0.0, c.helper_statement-i.ensures.1), c.requires.1.0.1))
 
-returns-2 : tie.Need-returns-2 invariant-loop decreases-loop
-returns-2 c = needing-kept _ _ _ _ _ c.before.before.before.before.before.before.before.before.helper_count.ensures.0 _ c.before.before.before.before.before.before.before.loop.invariant.1 c.before.before.before.before.before.before.loop-test.true _ c.before.before.before.before.before.helper.ensures.0 c.before.before.before.before.if1.true _ c.before.before.helper-statement.ensures.0 _ c.before.is-marked.ensures c.if3.true
+returns-then-is_marked : tie.Need-returns-then-is_marked invariant-loop-k decreases-loop-k
+returns-then-is_marked c = needing-kept _ _ _ _ _ c.helper_count-rows.ensures.0 _ c.loop-k.invariant.1 c.loop-k-test.true _ c.helper.ensures.0 c.if-helper.true _ c.helper_statement-i.ensures.0 _ c.is_marked.ensures c.if-is_marked.true
 
-add-k : tie.Need-overflow-add-k invariant-loop decreases-loop
-add-k c = record { fits = omega (arith, c.before.before.loop-test.true, c.before.before.before.before.helper_count.ensures.1) }
+overflow_add-k : tie.Need-overflow_add-k invariant-loop-k decreases-loop-k
+overflow_add-k c = record { fits = omega (arith, c.loop-k-test.true, c.helper_count-rows.ensures.1) }
 
-loop-less : tie.Need-loop-smaller invariant-loop decreases-loop
-loop-less c = omega (arith, c.before.before.loop-test.true)
+loop-k-smaller : tie.Need-loop-k-smaller invariant-loop-k decreases-loop-k
+loop-k-smaller c = omega (arith, c.loop-k-test.true)
 
-loop-again : tie.Need-loop-preserved invariant-loop decreases-loop
-loop-again c = let s = c.before.before.before.before.before.before.before.before in let size = c.before.before.before.before.helper_count.ensures.0 in let left = c.before.before.before.loop.invariant.1 in let inside = c.before.before.loop-test.true in let is = c.before.helper.ensures.0 in (omega arith, ⊎_elim (λ w. needing-not _ _ _ _ _ size _ left inside _ is w.0.taken _ w.2.ensures.0 _ w.3.ensures (sym s.requires.1.1 ∙ w.1.left) w.4.left) (λ w. needing-other _ _ _ _ _ size _ left inside _ is w.left) c.if1.branch)
+loop-k-preserved : tie.Need-loop-k-preserved invariant-loop-k decreases-loop-k
+loop-k-preserved c = let size = c.helper_count-rows.ensures.0 in let left = c.loop-k.invariant.1 in let inside = c.loop-k-test.true in let is = c.helper.ensures.0 in (omega arith, ⊎_elim (λ w. needing-not _ _ _ _ _ size _ left inside _ is w.0.taken _ w.2.ensures.0 _ w.3.ensures (sym c.requires.1.1 ∙ w.1.left) w.4.left) (λ w. needing-other _ _ _ _ _ size _ left inside _ is w.left) c.if-helper.branch)
 
-returns-3 : tie.Need-returns-3 invariant-loop decreases-loop
-returns-3 c = needing-over _ _ _ _ _ c.before.before.helper_count.ensures.0 _ c.before.loop.invariant.1 c.loop-test.false
+returns : tie.Need-returns invariant-loop-k decreases-loop-k
+returns c = needing-over _ _ _ _ _ c.helper_count-rows.ensures.0 _ c.loop-k.invariant.1 c.loop-k-test.false
 
-pub needs-helper-spec : {M : Type 1} → statement M
-needs-helper-spec =
+pub needs_helper_spec : {M : Type 1} → statement M
+needs_helper_spec =
     tie.close
     (tie.spec
-    invariant-loop
-    decreases-loop
-    helper-count-requires
-    loop-holds
+    invariant-loop-k
+    decreases-loop-k
+    helper_count-rows-requires
+    loop-k-init
     helper-requires
-    returns
-    helper-statement-requires
-    is-marked-requires
-    returns-2
-    add-k
-    loop-less
-    loop-again
-    returns-3)
+    returns-then-all
+    helper_statement-i-requires
+    is_marked-requires
+    returns-then-is_marked
+    overflow_add-k
+    loop-k-smaller
+    loop-k-preserved
+    returns)

@@ -2,11 +2,15 @@ use Rattle.record_form.proofs.Forms.{earlier_none, earlier_some}
 use Rattle.record_form.proofs.is_earlier.Statement.{statement}
 use Rattle.record_form.proofs.is_earlier.Tie as tie
 
+returns-then-n-eq0 : tie.Need-returns-then-n-eq0
+returns-then-n-eq0 c = earlier_none _ _ c.if-n-eq0.true
+
 returns : tie.Need-returns
-returns c = earlier_none _ _ c.if1.true
+returns c = earlier_some _ _ c.if-n-eq0.false
 
-returns-2 : tie.Need-returns-2
-returns-2 c = earlier_some _ _ c.if1.false
-
-pub is-earlier-spec : {M : Type 1} → statement M
-is-earlier-spec = tie.close (tie.spec returns returns-2)
+pub is_earlier_spec : {M : Type 1} → statement M
+is_earlier_spec =
+    tie.close
+    (tie.spec
+    returns-then-n-eq0
+    returns)

@@ -5,123 +5,123 @@ use borrow.Author.Rules.{rules}
 use Rattle.record_form.proofs.is_in_form.Statement.{statement}
 use Rattle.record_form.proofs.is_in_form.Tie as tie
 
-mul-p : tie.Need-overflow-mul-p
-mul-p c = search rules
+overflow_mul-p : tie.Need-overflow_mul-p
+overflow_mul-p c = search rules
 
-mul_wide : tie.Need-overflow-mul-wide
-mul_wide c = search rules
+offset_bounds-lines-p : tie.Need-offset_bounds-lines-p
+offset_bounds-lines-p c = search rules
 
-shared-slice-read-wide : tie.Need-shared-slice-read-wide
-shared-slice-read-wide c = search rules
+bounds-lines-p : tie.Need-bounds-lines-p
+bounds-lines-p c = search rules
+
+wide-kind-requires : tie.Need-wide-kind-requires
+wide-kind-requires c κs = search rules
+
+overflow_add-p : tie.Need-overflow_add-p
+overflow_add-p c = search rules
+
+offset_bounds-lines-p-2 : tie.Need-offset_bounds-lines-p-2
+offset_bounds-lines-p-2 c = search rules
+
+bounds-lines-p-2 : tie.Need-bounds-lines-p-2
+bounds-lines-p-2 c = search rules
+
+wide-a-requires : tie.Need-wide-a-requires
+wide-a-requires c κs = search rules
+
+overflow_add-p-2 : tie.Need-overflow_add-p-2
+overflow_add-p-2 c = search rules
+
+offset_bounds-lines-p-3 : tie.Need-offset_bounds-lines-p-3
+offset_bounds-lines-p-3 c = search rules
+
+bounds-lines-p-3 : tie.Need-bounds-lines-p-3
+bounds-lines-p-3 c = search rules
+
+wide-b-requires : tie.Need-wide-b-requires
+wide-b-requires c κs = search rules
+
+parts_fit-requires : tie.Need-parts_fit-requires
+parts_fit-requires c κs = search rules
+
+returns-then-not-parts_fit : tie.Need-returns-then-not-parts_fit
+returns-then-not-parts_fit c = parts_out _ _ _ _ _ _ c.wide-kind.ensures c.wide-a.ensures c.wide-b.ensures _ c.parts_fit.ensures (not_true _ c.if-not-parts_fit.true)
+
+overflow_add-p-3 : tie.Need-overflow_add-p-3
+overflow_add-p-3 c = search rules
+
+offset_bounds-lines-p-4 : tie.Need-offset_bounds-lines-p-4
+offset_bounds-lines-p-4 c = search rules
+
+bounds-lines-p-4 : tie.Need-bounds-lines-p-4
+bounds-lines-p-4 c = search rules
+
+wide-rule-requires : tie.Need-wide-rule-requires
+wide-rule-requires c κs = search rules
+
+returns-then-rule-ge15 : tie.Need-returns-then-rule-ge15
+returns-then-rule-ge15 c = rule-out _ _ _ _ _ _ c.wide-kind.ensures c.wide-a.ensures c.wide-b.ensures _ c.parts_fit.ensures (not-false _ c.if-not-parts_fit.false) _ c.wide-rule.ensures c.if-rule-ge15.true
+
+overflow_add-p-4 : tie.Need-overflow_add-p-4
+overflow_add-p-4 c = search rules
+
+offset_bounds-lines-p-5 : tie.Need-offset_bounds-lines-p-5
+offset_bounds-lines-p-5 c = search rules
+
+bounds-lines-p-5 : tie.Need-bounds-lines-p-5
+bounds-lines-p-5 c = search rules
 
 wide-requires : tie.Need-wide-requires
 wide-requires c κs = search rules
 
-add_wide : tie.Need-overflow-add-wide
-add_wide c = search rules
+overflow_add-p-5 : tie.Need-overflow_add-p-5
+overflow_add-p-5 c = search rules
 
-mul-wide-2 : tie.Need-overflow-mul-wide-2
-mul-wide-2 c = search rules
+offset_bounds-lines-p-6 : tie.Need-offset_bounds-lines-p-6
+offset_bounds-lines-p-6 c = search rules
 
-shared-slice-read-wide-2 : tie.Need-shared-slice-read-wide-2
-shared-slice-read-wide-2 c = search rules
+bounds-lines-p-6 : tie.Need-bounds-lines-p-6
+bounds-lines-p-6 c = search rules
 
 wide-requires-2 : tie.Need-wide-requires-2
 wide-requires-2 c κs = search rules
 
-add-wide-2 : tie.Need-overflow-add-wide-2
-add-wide-2 c = search rules
-
-mul-wide-3 : tie.Need-overflow-mul-wide-3
-mul-wide-3 c = search rules
-
-shared-slice-read-wide-3 : tie.Need-shared-slice-read-wide-3
-shared-slice-read-wide-3 c = search rules
-
-wide-requires-3 : tie.Need-wide-requires-3
-wide-requires-3 c κs = search rules
-
-parts-fit-requires : tie.Need-parts-fit-requires
-parts-fit-requires c κs = search rules
+names_fit-requires : tie.Need-names_fit-requires
+names_fit-requires c κs = search rules
 
 returns : tie.Need-returns
-returns c = parts_out _ _ _ _ _ _ c.before.before.before.before.before.before.wide.ensures c.before.before.before.before.wide2.ensures c.before.before.wide3.ensures _ c.before.parts-fit.ensures (not_true _ c.if1.true)
+returns c = names-last _ _ _ _ _ _ c.wide-kind.ensures c.wide-a.ensures c.wide-b.ensures _ c.parts_fit.ensures (not-false _ c.if-not-parts_fit.false) _ c.wide-rule.ensures (omega (arith, c.if-rule-ge15.false)) _ _ c.wide.ensures c.wide-2.ensures _ c.names_fit.ensures
 
-add-wide-3 : tie.Need-overflow-add-wide-3
-add-wide-3 c = search rules
-
-mul-wide-4 : tie.Need-overflow-mul-wide-4
-mul-wide-4 c = search rules
-
-shared-slice-read-wide-4 : tie.Need-shared-slice-read-wide-4
-shared-slice-read-wide-4 c = search rules
-
-wide-requires-4 : tie.Need-wide-requires-4
-wide-requires-4 c κs = search rules
-
-returns-2 : tie.Need-returns-2
-returns-2 c = rule-out _ _ _ _ _ _ c.before.before.before.before.before.before.before.before.before.wide.ensures c.before.before.before.before.before.before.before.wide2.ensures c.before.before.before.before.before.wide3.ensures _ c.before.before.before.before.parts-fit.ensures (not-false _ c.before.before.before.if1.false) _ c.before.wide4.ensures c.if2.true
-
-add-wide-4 : tie.Need-overflow-add-wide-4
-add-wide-4 c = search rules
-
-mul-wide-5 : tie.Need-overflow-mul-wide-5
-mul-wide-5 c = search rules
-
-shared-slice-read-wide-5 : tie.Need-shared-slice-read-wide-5
-shared-slice-read-wide-5 c = search rules
-
-wide-requires-5 : tie.Need-wide-requires-5
-wide-requires-5 c κs = search rules
-
-add-wide-5 : tie.Need-overflow-add-wide-5
-add-wide-5 c = search rules
-
-mul-wide-6 : tie.Need-overflow-mul-wide-6
-mul-wide-6 c = search rules
-
-shared-slice-read-wide-6 : tie.Need-shared-slice-read-wide-6
-shared-slice-read-wide-6 c = search rules
-
-wide-requires-6 : tie.Need-wide-requires-6
-wide-requires-6 c κs = search rules
-
-names-fit-requires : tie.Need-names-fit-requires
-names-fit-requires c κs = search rules
-
-returns-3 : tie.Need-returns-3
-returns-3 c = names-last _ _ _ _ _ _ c.before.before.before.before.before.before.before.before.before.before.before.before.before.before.wide.ensures c.before.before.before.before.before.before.before.before.before.before.before.before.wide2.ensures c.before.before.before.before.before.before.before.before.before.before.wide3.ensures _ c.before.before.before.before.before.before.before.before.before.parts-fit.ensures (not-false _ c.before.before.before.before.before.before.before.before.if1.false) _ c.before.before.before.before.before.before.wide4.ensures (omega (arith, c.before.before.before.before.before.if2.false)) _ _ c.before.before.before.wide5.ensures c.before.wide6.ensures _ c.names_fit.ensures
-
-pub is-in-form-spec : {M : Type 1} → statement M
-is-in-form-spec =
+pub is_in_form_spec : {M : Type 1} → statement M
+is_in_form_spec =
     tie.close
     (tie.spec
-    mul-p
-    mul_wide
-    shared-slice-read-wide
+    overflow_mul-p
+    offset_bounds-lines-p
+    bounds-lines-p
+    wide-kind-requires
+    overflow_add-p
+    offset_bounds-lines-p-2
+    bounds-lines-p-2
+    wide-a-requires
+    overflow_add-p-2
+    offset_bounds-lines-p-3
+    bounds-lines-p-3
+    wide-b-requires
+    parts_fit-requires
+    returns-then-not-parts_fit
+    overflow_add-p-3
+    offset_bounds-lines-p-4
+    bounds-lines-p-4
+    wide-rule-requires
+    returns-then-rule-ge15
+    overflow_add-p-4
+    offset_bounds-lines-p-5
+    bounds-lines-p-5
     wide-requires
-    add_wide
-    mul-wide-2
-    shared-slice-read-wide-2
+    overflow_add-p-5
+    offset_bounds-lines-p-6
+    bounds-lines-p-6
     wide-requires-2
-    add-wide-2
-    mul-wide-3
-    shared-slice-read-wide-3
-    wide-requires-3
-    parts-fit-requires
-    returns
-    add-wide-3
-    mul-wide-4
-    shared-slice-read-wide-4
-    wide-requires-4
-    returns-2
-    add-wide-4
-    mul-wide-5
-    shared-slice-read-wide-5
-    wide-requires-5
-    add-wide-5
-    mul-wide-6
-    shared-slice-read-wide-6
-    wide-requires-6
-    names-fit-requires
-    returns-3)
+    names_fit-requires
+    returns)

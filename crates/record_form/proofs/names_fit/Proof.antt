@@ -5,35 +5,35 @@ use borrow.Author.Rules.{rules}
 use Rattle.record_form.proofs.names_fit.Statement.{statement}
 use Rattle.record_form.proofs.names_fit.Tie as tie
 
+returns-then-a-ne0 : tie.Need-returns-then-a-ne0
+returns-then-a-ne0 c = start_named _ _ _ _ c.if-rule-eq0.true c.if-a-ne0.true
+
+returns-then-rule-eq0 : tie.Need-returns-then-rule-eq0
+returns-then-rule-eq0 c = start_names _ _ _ _ c.if-rule-eq0.true c.if-a-ne0.false
+
+is_earlier-requires : tie.Need-is_earlier-requires
+is_earlier-requires c κs = search rules
+
+returns-then-not-is_earlier : tie.Need-returns-then-not-is_earlier
+returns-then-not-is_earlier c = first-late _ _ _ _ c.if-rule-eq0.false (sym c.is_earlier.ensures ∙ not_true _ c.if-not-is_earlier.true)
+
+is_earlier-requires-then-rule-eq1 : tie.Need-is_earlier-requires-then-rule-eq1
+is_earlier-requires-then-rule-eq1 c κs = search rules
+
+returns-then-rule-eq1 : tie.Need-returns-then-rule-eq1
+returns-then-rule-eq1 c = two-names _ _ _ _ c.if-rule-eq0.false (sym c.is_earlier.ensures ∙ not-false _ c.if-not-is_earlier.false) c.if-rule-eq1.true _ c.is_earlier-then-rule-eq1.ensures
+
 returns : tie.Need-returns
-returns c = start_named _ _ _ _ c.before.if1.true c.if2.true
+returns c = one_name _ _ _ _ c.if-rule-eq0.false (sym c.is_earlier.ensures ∙ not-false _ c.if-not-is_earlier.false) c.if-rule-eq1.false
 
-returns-2 : tie.Need-returns-2
-returns-2 c = start_names _ _ _ _ c.before.if1.true c.if2.false
-
-is-earlier-requires : tie.Need-is-earlier-requires
-is-earlier-requires c κs = search rules
-
-returns-3 : tie.Need-returns-3
-returns-3 c = first-late _ _ _ _ c.before.before.if1.false (sym c.before.is-earlier.ensures ∙ not_true _ c.if3.true)
-
-is-earlier-requires-2 : tie.Need-is-earlier-requires-2
-is-earlier-requires-2 c κs = search rules
-
-returns-4 : tie.Need-returns-4
-returns-4 c = two-names _ _ _ _ c.before.before.before.before.if1.false (sym c.before.before.before.is-earlier.ensures ∙ not-false _ c.before.before.if3.false) c.before.if4.true _ c.is-earlier2.ensures
-
-returns-5 : tie.Need-returns-5
-returns-5 c = one_name _ _ _ _ c.before.before.before.if1.false (sym c.before.before.is-earlier.ensures ∙ not-false _ c.before.if3.false) c.if4.false
-
-pub names-fit-spec : {M : Type 1} → statement M
-names-fit-spec =
+pub names_fit_spec : {M : Type 1} → statement M
+names_fit_spec =
     tie.close
     (tie.spec
-    returns
-    returns-2
-    is-earlier-requires
-    returns-3
-    is-earlier-requires-2
-    returns-4
-    returns-5)
+    returns-then-a-ne0
+    returns-then-rule-eq0
+    is_earlier-requires
+    returns-then-not-is_earlier
+    is_earlier-requires-then-rule-eq1
+    returns-then-rule-eq1
+    returns)

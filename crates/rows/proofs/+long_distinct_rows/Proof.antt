@@ -34,25 +34,25 @@ abbrev claims : ℕ → long-distinct-rows-lts.Claims
 claims t = (chained-rows-reads.Asked, chained-rows-reads.Learnt, long-distinct-rows-below t, long-distinct-rows.Post)
 
 long-distinct-rows-chained-rows-requires :
-    (t : ℕ) → long-distinct-rows-lts.Need-chained-rows-requires (claims t) (long-distinct-rows-at t) long-distinct-rows.Post
-long-distinct-rows-chained-rows-requires t c κs = let p = c.before.before.before.requires.1 in (p.0, p.1, p.2, chains_none _ _ _)
+    (t : ℕ) → long-distinct-rows-lts.Need-chained_rows-end-requires (claims t) (long-distinct-rows-at t) long-distinct-rows.Post
+long-distinct-rows-chained-rows-requires t c κs = let p = c.requires.1 in (p.0, p.1, p.2, chains_none _ _ _)
 
 long-distinct-rows-sub-long-distinct-rows :
-    (t : ℕ) → long-distinct-rows-lts.Need-overflow-sub-long-distinct-rows (claims t) (long-distinct-rows-at t) long-distinct-rows.Post
+    (t : ℕ) → long-distinct-rows-lts.Need-overflow_sub-again (claims t) (long-distinct-rows-at t) long-distinct-rows.Post
 long-distinct-rows-sub-long-distinct-rows t c = search rules
 
 long-distinct-rows-long-distinct-rows-requires :
-    (t : ℕ) → long-distinct-rows-lts.Need-long-distinct-rows-requires (claims t) (long-distinct-rows-at t) long-distinct-rows.Post
-long-distinct-rows-long-distinct-rows-requires t c κs = let s = c.before.before.before.before.before in (omega (arith, s.requires.0, c.if1.true), s.requires.1)
+    (t : ℕ) → long-distinct-rows-lts.Need-long_distinct_rows-requires (claims t) (long-distinct-rows-at t) long-distinct-rows.Post
+long-distinct-rows-long-distinct-rows-requires t c κs = (omega (arith, c.requires.0, c.if-again-gt0.true), c.requires.1)
 
-long-distinct-rows-returns : (t : ℕ) → long-distinct-rows-lts.Need-returns (claims t) (long-distinct-rows-at t) long-distinct-rows.Post
+long-distinct-rows-returns : (t : ℕ) → long-distinct-rows-lts.Need-returns-then-again-gt0 (claims t) (long-distinct-rows-at t) long-distinct-rows.Post
 long-distinct-rows-returns t c = search rules
 
-long-distinct-rows-returns-2 : (t : ℕ) → long-distinct-rows-lts.Need-returns-2 (claims t) (long-distinct-rows-at t) long-distinct-rows.Post
+long-distinct-rows-returns-2 : (t : ℕ) → long-distinct-rows-lts.Need-returns (claims t) (long-distinct-rows-at t) long-distinct-rows.Post
 long-distinct-rows-returns-2 t c = search rules
 
-pub +long-distinct-rows-spec : {M : Type 1} → statement M
-+long-distinct-rows-spec = close μ-long-distinct-rows λ t. long-distinct-rows-lts.spec (claims t) (long-distinct-rows-at t)
+pub +long_distinct_rows_spec : {M : Type 1} → statement M
++long_distinct_rows_spec = close μ-long-distinct-rows λ t. long-distinct-rows-lts.spec (claims t) (long-distinct-rows-at t)
     long-distinct-rows.Post
     (long-distinct-rows-chained-rows-requires t)
     (long-distinct-rows-sub-long-distinct-rows t)

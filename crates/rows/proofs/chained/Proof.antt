@@ -10,119 +10,115 @@ use Rattle.rows.proofs.chained.Tie as tie
 use Rattle.rows.proofs.chained.Reads as reads
 use Rattle.rows.proofs.chained.Lts as lts
 
-abbrev invariant-loop : tie.invariant-loop
-invariant-loop numbers at count width nexts x v₀ v = Back numbers at width count x v
+abbrev invariant-loop-v : tie.invariant-loop-v
+invariant-loop-v numbers at count width nexts x v₀ v = Back numbers at width count x v
 
-abbrev decreases-loop : tie.decreases-loop
-decreases-loop numbers at count width nexts x v₀ v = v
+abbrev decreases-loop-v : tie.decreases-loop-v
+decreases-loop-v numbers at count width nexts x v₀ v = v
 
 -- the place that a turn reads
-inside : (c : tie.In-loop invariant-loop decreases-loop) → let s = c.before.before.before.before in s.args.at + s.args.width * (c.before.loop.v - 1) < length s.args.numbers.now
-inside c = let s = c.before.before.before.before in
-    let l : s.args.at + s.args.width * s.args.count ≤ length s.args.numbers.now = omega (arith, s.requires.1) in
-    let i : c.before.loop.v - 1 < s.args.count = omega (arith, c.before.loop.invariant.low, c.loop-test.true) in
-    place_in _ _ _ _ _ l i s.requires.0
+inside : (c : tie.In-loop-v invariant-loop-v decreases-loop-v) → c.args.at + c.args.width * (c.loop-v.v - 1) < length c.args.numbers.now
+inside c = let l : c.args.at + c.args.width * c.args.count ≤ length c.args.numbers.now = omega (arith, c.requires.1) in
+    let i : c.loop-v.v - 1 < c.args.count = omega (arith, c.loop-v.invariant.low, c.loop-v-test.true) in
+    place_in _ _ _ _ _ l i c.requires.0
 
 -- the row before in the chain is before
-stepped : (c : tie.After-v2 invariant-loop decreases-loop) → let s = c.before.before.before.before.before.before.before in let l = c.before.before.before.before.loop in get_or s.args.nexts.now (l.v - 1) 0 ≤ l.v - 1
-stepped c = let s = c.before.before.before.before.before.before.before in
-    let l = c.before.before.before.before.loop in
-    let h : l.v - 1 < s.args.count + 1 = omega (arith, l.invariant.low) in
-    link_below s.args.numbers.now s.args.at s.args.width (s.args.count + 1) s.args.nexts.now s.requires.3 (l.v - 1) h
+stepped : (c : tie.After-v-in-loop-v-1 invariant-loop-v decreases-loop-v) → let l = c.loop-v in get_or c.args.nexts.now (l.v - 1) 0 ≤ l.v - 1
+stepped c = let l = c.loop-v in
+    let h : l.v - 1 < c.args.count + 1 = omega (arith, l.invariant.low) in
+    link_below c.args.numbers.now c.args.at c.args.width (c.args.count + 1) c.args.nexts.now c.requires.3 (l.v - 1) h
 
-mul-x : tie.Need-overflow-mul-x invariant-loop decreases-loop
-mul-x c = omega arith
+overflow_mul-x : tie.Need-overflow_mul-x invariant-loop-v decreases-loop-v
+overflow_mul-x c = omega arith
 
-add-x : tie.Need-overflow-add-x invariant-loop decreases-loop
-add-x c = omega arith
+overflow_add-x : tie.Need-overflow_add-x invariant-loop-v decreases-loop-v
+overflow_add-x c = omega arith
 
-mul-x-2 : tie.Need-overflow-mul-x-2 invariant-loop decreases-loop
-mul-x-2 c = omega arith
+offset_bounds-numbers-at : tie.Need-offset_bounds-numbers-at invariant-loop-v decreases-loop-v
+offset_bounds-numbers-at c = omega arith
 
-shared-slice-read-x : tie.Need-shared-slice-read-x invariant-loop decreases-loop
-shared-slice-read-x c = c.before.requires.1
+bounds-numbers-at : tie.Need-bounds-numbers-at invariant-loop-v decreases-loop-v
+bounds-numbers-at c = c.requires.1
 
-mul-v : tie.Need-overflow-mul-v invariant-loop decreases-loop
-mul-v c = omega arith
+offset_bounds-nexts-count : tie.Need-offset_bounds-nexts-count invariant-loop-v decreases-loop-v
+offset_bounds-nexts-count c = omega arith
 
-element-copy-out-v : tie.Need-element-copy-out-v invariant-loop decreases-loop
-element-copy-out-v c = c.before.requires.2
+bounds-nexts-count : tie.Need-bounds-nexts-count invariant-loop-v decreases-loop-v
+bounds-nexts-count c = c.requires.2
 
-cast-v : tie.Need-overflow-cast-v invariant-loop decreases-loop
-cast-v c =
-    let s = c.before.before in
-    omega (arith, s.requires.2, link_below s.args.numbers.now s.args.at s.args.width (s.args.count + 1) s.args.nexts.now s.requires.3 s.args.count (omega arith))
+overflow_cast-v : tie.Need-overflow_cast-v invariant-loop-v decreases-loop-v
+overflow_cast-v c =
+    omega (arith, c.requires.2, link_below c.args.numbers.now c.args.at c.args.width (c.args.count + 1) c.args.nexts.now c.requires.3 c.args.count (omega arith))
 
-loop-holds : tie.Need-loop-init invariant-loop decreases-loop
-loop-holds c = let s = c.before.before in back_start _ _ _ _ _ _ (s.requires.3 s.args.count (omega arith))
+loop-v-init : tie.Need-loop-v-init invariant-loop-v decreases-loop-v
+loop-v-init c = back_start _ _ _ _ _ _ (c.requires.3 c.args.count (omega arith))
 
-sub-j : tie.Need-overflow-sub-j invariant-loop decreases-loop
-sub-j c = search rules
+overflow_sub-j : tie.Need-overflow_sub-j invariant-loop-v decreases-loop-v
+overflow_sub-j c = search rules
 
-mul-if1 : tie.Need-overflow-mul-if1 invariant-loop decreases-loop
-mul-if1 c = omega (arith, inside c)
+overflow_mul-width : tie.Need-overflow_mul-width invariant-loop-v decreases-loop-v
+overflow_mul-width c = omega (arith, inside c)
 
-add-if1 : tie.Need-overflow-add-if1 invariant-loop decreases-loop
-add-if1 c = omega (arith, inside c)
+overflow_add-at : tie.Need-overflow_add-at invariant-loop-v decreases-loop-v
+overflow_add-at c = omega (arith, inside c)
 
-mul-if1-2 : tie.Need-overflow-mul-if1-2 invariant-loop decreases-loop
-mul-if1-2 c = omega (arith, inside c)
+offset_bounds-numbers-at-in-loop-v : tie.Need-offset_bounds-numbers-at-in-loop-v invariant-loop-v decreases-loop-v
+offset_bounds-numbers-at-in-loop-v c = omega (arith, inside c)
 
-shared-slice-read-if1 : tie.Need-shared-slice-read-if1 invariant-loop decreases-loop
-shared-slice-read-if1 c = inside c.before
+bounds-numbers-at-in-loop-v : tie.Need-bounds-numbers-at-in-loop-v invariant-loop-v decreases-loop-v
+bounds-numbers-at-in-loop-v c = inside c.before
 
-returns : tie.Need-returns invariant-loop decreases-loop
-returns c =
-    let l = c.before.before.before.loop in
-    let p : 0 < l.v = omega (arith, c.before.before.loop-test.true) in
-    sym (seen_hit _ _ _ _ _ p c.if1.true) ∙ l.invariant.left
+returns-then-numbers-at : tie.Need-returns-then-numbers-at invariant-loop-v decreases-loop-v
+returns-then-numbers-at c =
+    let l = c.loop-v in
+    let p : 0 < l.v = omega (arith, c.loop-v-test.true) in
+    sym (seen_hit _ _ _ _ _ p c.if-numbers-at.true) ∙ l.invariant.left
 
-mul-v-2 : tie.Need-overflow-mul-v-2 invariant-loop decreases-loop
-mul-v-2 c = let s = c.before.before.before.before.before.before in omega (arith, s.requires.2, c.before.before.before.loop.invariant.low)
+offset_bounds-nexts-j : tie.Need-offset_bounds-nexts-j invariant-loop-v decreases-loop-v
+offset_bounds-nexts-j c = omega (arith, c.requires.2, c.loop-v.invariant.low)
 
-element-copy-out-v-2 : tie.Need-element-copy-out-v-2 invariant-loop decreases-loop
-element-copy-out-v-2 c = let s = c.before.before.before.before.before.before in omega (arith, s.requires.2, c.before.before.before.loop.invariant.low)
+bounds-nexts-j : tie.Need-bounds-nexts-j invariant-loop-v decreases-loop-v
+bounds-nexts-j c = omega (arith, c.requires.2, c.loop-v.invariant.low)
 
-cast-v-2 : tie.Need-overflow-cast-v-2 invariant-loop decreases-loop
-cast-v-2 c = let s = c.before.before.before.before.before.before.before in omega (arith, s.requires.2, c.before.before.before.before.loop.invariant.low, stepped c)
+overflow_cast-v-in-loop-v : tie.Need-overflow_cast-v-in-loop-v invariant-loop-v decreases-loop-v
+overflow_cast-v-in-loop-v c = omega (arith, c.requires.2, c.loop-v.invariant.low, stepped c)
 
-loop-less : tie.Need-loop-smaller invariant-loop decreases-loop
-loop-less c = omega (arith, c.before.before.before.loop-test.true, stepped c)
+loop-v-smaller : tie.Need-loop-v-smaller invariant-loop-v decreases-loop-v
+loop-v-smaller c = omega (arith, c.loop-v-test.true, stepped c)
 
-loop-again : tie.Need-loop-preserved invariant-loop decreases-loop
-loop-again c =
-    let s = c.before.before.before.before.before.before.before in
-    let l = c.before.before.before.before.loop in
-    let p : 0 < l.v = omega (arith, c.before.before.before.loop-test.true) in
-    let h : l.v - 1 < s.args.count + 1 = omega (arith, l.invariant.low) in
-    back_step _ _ _ l.invariant p c.before.if1.false (s.requires.3 (l.v - 1) h)
+loop-v-preserved : tie.Need-loop-v-preserved invariant-loop-v decreases-loop-v
+loop-v-preserved c =
+    let l = c.loop-v in
+    let p : 0 < l.v = omega (arith, c.loop-v-test.true) in
+    let h : l.v - 1 < c.args.count + 1 = omega (arith, l.invariant.low) in
+    back_step _ _ _ l.invariant p c.if-numbers-at.false (c.requires.3 (l.v - 1) h)
 
-returns-2 : tie.Need-returns-2 invariant-loop decreases-loop
-returns-2 c = sym (seen_none _ _ _ _ _ c.loop-test.false) ∙ c.before.loop.invariant.left
+returns : tie.Need-returns invariant-loop-v decreases-loop-v
+returns c = sym (seen_none _ _ _ _ _ c.loop-v-test.false) ∙ c.loop-v.invariant.left
 
-pub chained-spec : {M : Type 1} → statement M
-chained-spec =
+pub chained_spec : {M : Type 1} → statement M
+chained_spec =
     tie.close
     (tie.spec
-    invariant-loop
-    decreases-loop
-    mul-x
-    add-x
-    mul-x-2
-    shared-slice-read-x
-    mul-v
-    element-copy-out-v
-    cast-v
-    loop-holds
-    sub-j
-    mul-if1
-    add-if1
-    mul-if1-2
-    shared-slice-read-if1
-    returns
-    mul-v-2
-    element-copy-out-v-2
-    cast-v-2
-    loop-less
-    loop-again
-    returns-2)
+    invariant-loop-v
+    decreases-loop-v
+    overflow_mul-x
+    overflow_add-x
+    offset_bounds-numbers-at
+    bounds-numbers-at
+    offset_bounds-nexts-count
+    bounds-nexts-count
+    overflow_cast-v
+    loop-v-init
+    overflow_sub-j
+    overflow_mul-width
+    overflow_add-at
+    offset_bounds-numbers-at-in-loop-v
+    bounds-numbers-at-in-loop-v
+    returns-then-numbers-at
+    offset_bounds-nexts-j
+    bounds-nexts-j
+    overflow_cast-v-in-loop-v
+    loop-v-smaller
+    loop-v-preserved
+    returns)

@@ -11,8 +11,8 @@ use Rattle.rows.proofs.chained_repeats.Lts as lts
 use Rattle.rows.proofs.chained.Reads as chained-reads
 use Rattle.rows.proofs.link.Reads as link-reads
 
-returns : tie.Need-returns
-returns c = (sym (repeated_past _ _ _ c.if1.true), λ h. absurd (omega (arith, c.if1.true)))
+returns-then-q-numbers : tie.Need-returns-then-q-numbers
+returns-then-q-numbers c = (sym (repeated_past _ _ _ c.if-q-numbers.true), λ h. absurd (omega (arith, c.if-q-numbers.true)))
 
 link-requires : tie.Need-link-requires
 link-requires c κs = search rules
@@ -20,8 +20,14 @@ link-requires c κs = search rules
 chained-requires : tie.Need-chained-requires
 chained-requires c κs = search rules
 
-returns-2 : tie.Need-returns-2
-returns-2 c = let s = c.before.before.before.before.before.before.before in (c.chained.ensures ∙ repeated_at _ _ _ _ _ s.requires.1 c.before.before.before.before.before.if1.false, λ h. c.before.before.link.ensures)
+returns : tie.Need-returns
+returns c = (c.chained.ensures ∙ repeated_at _ _ _ _ _ c.requires.1 c.if-q-numbers.false, λ h. c.link.ensures)
 
-pub chained-repeats-spec : {M : Type 1} → statement M
-chained-repeats-spec = tie.close (tie.spec returns link-requires chained-requires returns-2)
+pub chained_repeats_spec : {M : Type 1} → statement M
+chained_repeats_spec =
+    tie.close
+    (tie.spec
+    returns-then-q-numbers
+    link-requires
+    chained-requires
+    returns)

@@ -16,74 +16,73 @@ use Rattle.rows.proofs.chained_rows.Lts as lts
 use Rattle.rows.proofs.chained_repeats.Reads as chained-repeats-reads
 use Rattle.rows.proofs.row.Reads as row_reads
 
-abbrev invariant-loop : tie.invariant-loop
-invariant-loop numbers at count width a b c heads₀ nexts₀ k₀ place₀ heads nexts k place = (done : List (List ℕ)) × (place ≡ at + width * k) × Going (distinct_row (columns_of width a b c) numbers) firsts count [] at k place (firsts_at numbers at width k) done × Chained numbers at width k heads nexts
+abbrev invariant-loop-k : tie.invariant-loop-k
+invariant-loop-k numbers at count width a b c heads₀ nexts₀ k₀ place₀ heads nexts k place = (done : List (List ℕ)) × (place ≡ at + width * k) × Going (distinct_row (columns_of width a b c) numbers) firsts count [] at k place (firsts_at numbers at width k) done × Chained numbers at width k heads nexts
 
-abbrev decreases-loop : tie.decreases-loop
-decreases-loop numbers at count width a b c heads₀ nexts₀ k₀ place₀ heads nexts k place = count - k
+abbrev decreases-loop-k : tie.decreases-loop-k
+decreases-loop-k numbers at count width a b c heads₀ nexts₀ k₀ place₀ heads nexts k place = count - k
 
 -- the row that a turn read
-turned : (c : tie.After-known-told2 invariant-loop decreases-loop) → let s = c.before.before.before.before.before.before.before.before.before.before.before in (row : List ℕ) × (plain_row (columns_of s.args.width s.args.a s.args.b s.args.c) s.args.numbers.now [] c.before.before.before.before.before.before.before.before.before.loop.place ≡ got row c.before.next.given.0.0)
-turned c = at_got _ _ (sym c.before.before.before.row.ensures ∙ c.before.next.given.1)
+turned : (c : tie.In-At invariant-loop-k decreases-loop-k) → (row : List ℕ) × (plain_row (columns_of c.args.width c.args.a c.args.b c.args.c) c.args.numbers.now [] c.loop-k.place ≡ got row c.in-At.next)
+turned c = at_got _ _ (sym c.row.ensures ∙ c.in-At.is)
 
-loop-holds : tie.Need-loop-init invariant-loop decreases-loop
+loop-k-init : tie.Need-loop-k-init invariant-loop-k decreases-loop-k
 unfolding firsts_at
-loop-holds c = ([], omega (arith, mul-zero c.before.args.width), going_start _ _ _ _ _, c.before.requires.3)
+loop-k-init c = ([], omega (arith, mul-zero c.args.width), going_start _ _ _ _ _, c.requires.3)
 
-chained-repeats-requires : tie.Need-chained-repeats-requires invariant-loop decreases-loop
-chained-repeats-requires c κs = let s = c.before.before.before.before.before in let l = c.before.before.before.loop.invariant in (s.requires.0, l.1, omega (arith, s.requires.2, c.before.before.loop-test.true), l.3)
+chained_repeats-requires : tie.Need-chained_repeats-requires invariant-loop-k decreases-loop-k
+chained_repeats-requires c κs = let l = c.loop-k.invariant in (c.requires.0, l.1, omega (arith, c.requires.2, c.loop-k-test.true), l.3)
 
-returns : tie.Need-returns invariant-loop decreases-loop
+returns-then-chained_repeats : tie.Need-returns-then-chained_repeats invariant-loop-k decreases-loop-k
 unfolding walk_of
-returns c = let l = c.before.before.before.before.before.loop.invariant in going_stop _ _ _ _ _ l.2 c.before.before.before.before.loop-test.true (ap walk_of (distinct_hit _ _ _ _ (sym c.before.chained-repeats.ensures.0 ∙ c.if1.true)))
+returns-then-chained_repeats c = let l = c.loop-k.invariant in going_stop _ _ _ _ _ l.2 c.loop-k-test.true (ap walk_of (distinct_hit _ _ _ _ (sym c.chained_repeats.ensures.value ∙ c.if-chained_repeats.true)))
 
-row-requires : tie.Need-row-requires invariant-loop decreases-loop
+row-requires : tie.Need-row-requires invariant-loop-k decreases-loop-k
 row-requires c κs = search rules
 
-enum-known-n : tie.Need-enum-known-n invariant-loop decreases-loop
-enum-known-n c = search rules
+enum_known-n : tie.Need-enum_known-n invariant-loop-k decreases-loop-k
+enum_known-n c = search rules
 
-returns-2 : tie.Need-returns-2 invariant-loop decreases-loop
-returns-2 c = let l = c.before.before.before.before.before.before.before.before.before.loop.invariant in going_stop _ _ _ _ _ l.2 c.before.before.before.before.before.before.before.before.loop-test.true (ap walk_of (distinct_miss _ _ _ _ (sym c.before.before.before.before.before.chained-repeats.ensures.0 ∙ c.before.before.before.before.if1.false)) ∙ sym c.before.before.before.row.ensures ∙ c.before.n.given.1)
+returns-in-Fault : tie.Need-returns-in-Fault invariant-loop-k decreases-loop-k
+returns-in-Fault c = let l = c.loop-k.invariant in going_stop _ _ _ _ _ l.2 c.loop-k-test.true (ap walk_of (distinct_miss _ _ _ _ (sym c.chained_repeats.ensures.value ∙ c.if-chained_repeats.false)) ∙ sym c.row.ensures ∙ c.in-Fault.is)
 
-enum-known-next : tie.Need-enum-known-next invariant-loop decreases-loop
-enum-known-next c = search rules
+enum_known-next : tie.Need-enum_known-next invariant-loop-k decreases-loop-k
+enum_known-next c = search rules
 
-add-k : tie.Need-overflow-add-k invariant-loop decreases-loop
-add-k c = search rules
+overflow_add-k : tie.Need-overflow_add-k invariant-loop-k decreases-loop-k
+overflow_add-k c = search rules
 
-loop-less : tie.Need-loop-smaller invariant-loop decreases-loop
-loop-less c = search rules
+loop-k-smaller : tie.Need-loop-k-smaller invariant-loop-k decreases-loop-k
+loop-k-smaller c = search rules
 
-loop-again : tie.Need-loop-preserved invariant-loop decreases-loop
-loop-again c = let l = c.before.before.before.before.before.before.before.before.before.loop.invariant in
-    let s = c.before.before.before.before.before.before.before.before.before.before.before in
+loop-k-preserved : tie.Need-loop-k-preserved invariant-loop-k decreases-loop-k
+loop-k-preserved c = let l = c.loop-k.invariant in
     let t = turned c in
-    let m = distinct_miss _ _ _ _ (sym c.before.before.before.before.before.chained-repeats.ensures.0 ∙ c.before.before.before.before.if1.false) in
-    let g = going_step _ _ _ _ _ l.2 c.before.before.before.before.before.before.before.before.loop-test.true (m ∙ t.1) in (
+    let m = distinct_miss _ _ _ _ (sym c.chained_repeats.ensures.value ∙ c.if-chained_repeats.false) in
+    let g = going_step _ _ _ _ _ l.2 c.loop-k-test.true (m ∙ t.1) in (
       l.0 ++ (t.0 ∷ []),
-      row_ends _ _ _ _ _ _ _ _ _ _ s.requires.0 s.requires.1 l.1 t.1,
-      rw (row_first _ _ _ _ _ _ _ _ _ _ s.requires.0 s.requires.1 l.1 t.1) at g,
-      c.before.before.before.before.before.chained-repeats.ensures.1 (row_inside _ _ _ _ _ _ _ _ _ _ s.requires.0 s.requires.1 l.1 t.1),
+      row_ends _ _ _ _ _ _ _ _ _ _ c.requires.0 c.requires.1 l.1 t.1,
+      rw (row_first _ _ _ _ _ _ _ _ _ _ c.requires.0 c.requires.1 l.1 t.1) at g,
+      c.chained_repeats.ensures.chained (row_inside _ _ _ _ _ _ _ _ _ _ c.requires.0 c.requires.1 l.1 t.1),
     )
 
-returns-3 : tie.Need-returns-3 invariant-loop decreases-loop
-returns-3 c = going_end _ _ _ _ _ c.before.loop.invariant.2 c.loop-test.false
+returns : tie.Need-returns invariant-loop-k decreases-loop-k
+returns c = going_end _ _ _ _ _ c.loop-k.invariant.2 c.loop-k-test.false
 
-pub chained-rows-spec : {M : Type 1} → statement M
-chained-rows-spec =
+pub chained_rows_spec : {M : Type 1} → statement M
+chained_rows_spec =
     tie.close
     (tie.spec
-    invariant-loop
-    decreases-loop
-    loop-holds
-    chained-repeats-requires
-    returns
+    invariant-loop-k
+    decreases-loop-k
+    loop-k-init
+    chained_repeats-requires
+    returns-then-chained_repeats
     row-requires
-    enum-known-n
-    returns-2
-    enum-known-next
-    add-k
-    loop-less
-    loop-again
-    returns-3)
+    enum_known-n
+    returns-in-Fault
+    enum_known-next
+    overflow_add-k
+    loop-k-smaller
+    loop-k-preserved
+    returns)

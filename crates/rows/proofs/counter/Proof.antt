@@ -11,28 +11,34 @@ use Rattle.rows.proofs.counter.Lts as lts
 use Rattle.rows.proofs.wide.Reads as wide-reads
 use Rattle.rows.proofs.within.Reads as within-reads
 
-mul_wide : tie.Need-overflow-mul-wide
-mul_wide c = search rules
+offset_bounds-numbers-at : tie.Need-offset_bounds-numbers-at
+offset_bounds-numbers-at c = search rules
 
-shared-slice-read-wide : tie.Need-shared-slice-read-wide
-shared-slice-read-wide c = search rules
+bounds-numbers-at : tie.Need-bounds-numbers-at
+bounds-numbers-at c = search rules
 
 wide-requires : tie.Need-wide-requires
 wide-requires c κs = search rules
 
-returns : tie.Need-returns
+returns-then-wide-most : tie.Need-returns-then-wide-most
 unfolding walk_of
-returns c = sym (ap walk_of (count_over _ _ _ c.before.wide.ensures _ _ _ c.before.before.before.if1.true c.if2.true))
+returns-then-wide-most c = sym (ap walk_of (count_over _ _ _ c.wide.ensures _ _ _ c.if-at-numbers.true c.if-wide-most.true))
 
 within-requires : tie.Need-within-requires
 within-requires c κs = search rules
 
-returns-2 : tie.Need-returns-2
-returns-2 c =
+returns : tie.Need-returns
+returns c =
     c.within.ensures
-    ∙ sym (ap walk_of (⊎_elim (λ w. count_value _ _ _ w.2.ensures _ _ _ w.0.taken w.3.left) (λ w. count_missing _ _ _ refl _ _ _ w.left) c.before.if1.branch))
+    ∙ sym (ap walk_of (⊎_elim (λ w. count_value _ _ _ w.2.ensures _ _ _ w.0.taken w.3.left) (λ w. count_missing _ _ _ refl _ _ _ w.left) c.if-at-numbers.branch))
 
-pub counter-spec : {M : Type 1} → statement M
-counter-spec =
+pub counter_spec : {M : Type 1} → statement M
+counter_spec =
     tie.close
-    (tie.spec mul_wide shared-slice-read-wide wide-requires returns within-requires returns-2)
+    (tie.spec
+    offset_bounds-numbers-at
+    bounds-numbers-at
+    wide-requires
+    returns-then-wide-most
+    within-requires
+    returns)

@@ -6,63 +6,63 @@ use Rattle.rows.proofs.link.Tie as tie
 use Rattle.rows.proofs.link.Reads as reads
 use Rattle.rows.proofs.link.Lts as lts
 
-mul-h : tie.Need-overflow-mul-h
-mul-h c = omega arith
+overflow_mul-h : tie.Need-overflow_mul-h
+overflow_mul-h c = omega arith
 
-add-h : tie.Need-overflow-add-h
-add-h c = omega arith
+overflow_add-h : tie.Need-overflow_add-h
+overflow_add-h c = omega arith
 
-mul-h-2 : tie.Need-overflow-mul-h-2
-mul-h-2 c = omega arith
+offset_bounds-numbers-at : tie.Need-offset_bounds-numbers-at
+offset_bounds-numbers-at c = omega arith
 
-shared-slice-read-h : tie.Need-shared-slice-read-h
-shared-slice-read-h c = omega arith
+bounds-numbers-at : tie.Need-bounds-numbers-at
+bounds-numbers-at c = omega arith
 
-cast-h : tie.Need-overflow-cast-h
-cast-h c = omega arith
+overflow_cast-h : tie.Need-overflow_cast-h
+overflow_cast-h c = omega arith
 
-mul-nexts : tie.Need-overflow-mul-nexts
-mul-nexts c = omega arith
+offset_bounds-heads-h : tie.Need-offset_bounds-heads-h
+offset_bounds-heads-h c = omega arith
 
-element-copy-out-nexts : tie.Need-element-copy-out-nexts
-element-copy-out-nexts c = omega arith
+bounds-heads-h : tie.Need-bounds-heads-h
+bounds-heads-h c = omega arith
 
-mul-nexts-2 : tie.Need-overflow-mul-nexts-2
-mul-nexts-2 c = omega arith
+offset_bounds-nexts-count : tie.Need-offset_bounds-nexts-count
+offset_bounds-nexts-count c = omega arith
 
-element-write-nexts : tie.Need-element-write-nexts
-element-write-nexts c = omega arith
+bounds-nexts-count : tie.Need-bounds-nexts-count
+bounds-nexts-count c = omega arith
 
-add-heads : tie.Need-overflow-add-heads
-add-heads c = omega arith
+overflow_add-heads : tie.Need-overflow_add-heads
+overflow_add-heads c = omega arith
 
-cast-heads : tie.Need-overflow-cast-heads
-cast-heads c = omega arith
+overflow_cast-heads : tie.Need-overflow_cast-heads
+overflow_cast-heads c = omega arith
 
-mul-heads : tie.Need-overflow-mul-heads
-mul-heads c = omega arith
+offset_bounds-heads-h-2 : tie.Need-offset_bounds-heads-h-2
+offset_bounds-heads-h-2 c = omega arith
 
-element-write-heads : tie.Need-element-write-heads
-element-write-heads c = omega arith
+bounds-heads-h-2 : tie.Need-bounds-heads-h-2
+bounds-heads-h-2 c = omega arith
 
 returns : tie.Need-returns
-returns c = let s = c.before.before in chains_more _ _ _ _ _ _ _ refl s.requires.1 s.requires.2
+returns c = chains_more _ _ _ _ _ _ _ refl c.requires.1 c.requires.2
 
-pub link-spec : {M : Type 1} → statement M
-link-spec =
+pub link_spec : {M : Type 1} → statement M
+link_spec =
     tie.close
     (tie.spec
-    mul-h
-    add-h
-    mul-h-2
-    shared-slice-read-h
-    cast-h
-    mul-nexts
-    element-copy-out-nexts
-    mul-nexts-2
-    element-write-nexts
-    add-heads
-    cast-heads
-    mul-heads
-    element-write-heads
+    overflow_mul-h
+    overflow_add-h
+    offset_bounds-numbers-at
+    bounds-numbers-at
+    overflow_cast-h
+    offset_bounds-heads-h
+    bounds-heads-h
+    offset_bounds-nexts-count
+    bounds-nexts-count
+    overflow_add-heads
+    overflow_cast-heads
+    offset_bounds-heads-h-2
+    bounds-heads-h-2
     returns)

@@ -12,53 +12,53 @@ use Rattle.rows.proofs.plain_rows.Reads as reads
 use Rattle.rows.proofs.plain_rows.Lts as lts
 use Rattle.rows.proofs.row.Reads as row_reads
 
-abbrev invariant-loop : tie.invariant-loop
-invariant-loop numbers at count width a b c i₀ q₀ i q = (s : List ℕ) × (done : List (List ℕ)) × Going (plain_row (columns_of width a b c) numbers) firsts count [] at i q s done
+abbrev invariant-loop-i : tie.invariant-loop-i
+invariant-loop-i numbers at count width a b c i₀ q₀ i q = (s : List ℕ) × (done : List (List ℕ)) × Going (plain_row (columns_of width a b c) numbers) firsts count [] at i q s done
 
-abbrev decreases-loop : tie.decreases-loop
-decreases-loop numbers at count width a b c i₀ q₀ i q = count - i
+abbrev decreases-loop-i : tie.decreases-loop-i
+decreases-loop-i numbers at count width a b c i₀ q₀ i q = count - i
 
-loop-holds : tie.Need-loop-init invariant-loop decreases-loop
-loop-holds c = ([], [], going_start _ _ _ _ _)
+loop-i-init : tie.Need-loop-i-init invariant-loop-i decreases-loop-i
+loop-i-init c = ([], [], going_start _ _ _ _ _)
 
-row-requires : tie.Need-row-requires invariant-loop decreases-loop
+row-requires : tie.Need-row-requires invariant-loop-i decreases-loop-i
 row-requires c κs = search rules
 
-enum-known-n : tie.Need-enum-known-n invariant-loop decreases-loop
-enum-known-n c = search rules
+enum_known-n : tie.Need-enum_known-n invariant-loop-i decreases-loop-i
+enum_known-n c = search rules
 
-returns : tie.Need-returns invariant-loop decreases-loop
+returns-in-Fault : tie.Need-returns-in-Fault invariant-loop-i decreases-loop-i
 unfolding plain_row
-returns c = let l = c.before.before.before.before.before.loop.invariant in going_stop _ _ _ _ _ l.2 c.before.before.before.before.loop-test.true (sym c.before.before.before.row.ensures ∙ c.before.n.given.1)
+returns-in-Fault c = let l = c.loop-i.invariant in going_stop _ _ _ _ _ l.2 c.loop-i-test.true (sym c.row.ensures ∙ c.in-Fault.is)
 
-enum-known-next : tie.Need-enum-known-next invariant-loop decreases-loop
-enum-known-next c = search rules
+enum_known-next : tie.Need-enum_known-next invariant-loop-i decreases-loop-i
+enum_known-next c = search rules
 
-add-i : tie.Need-overflow-add-i invariant-loop decreases-loop
-add-i c = search rules
+overflow_add-i : tie.Need-overflow_add-i invariant-loop-i decreases-loop-i
+overflow_add-i c = search rules
 
-loop-less : tie.Need-loop-smaller invariant-loop decreases-loop
-loop-less c = search rules
+loop-i-smaller : tie.Need-loop-i-smaller invariant-loop-i decreases-loop-i
+loop-i-smaller c = search rules
 
-loop-again : tie.Need-loop-preserved invariant-loop decreases-loop
+loop-i-preserved : tie.Need-loop-i-preserved invariant-loop-i decreases-loop-i
 unfolding plain_row
-loop-again c = let l = c.before.before.before.before.before.loop.invariant in let g = at_got _ _ (sym c.before.before.before.row.ensures ∙ c.before.next.given.1) in (firsts l.0 g.0, l.1 ++ (g.0 ∷ []), going_step _ _ _ _ _ l.2 c.before.before.before.before.loop-test.true g.1)
+loop-i-preserved c = let l = c.loop-i.invariant in let g = at_got _ _ (sym c.row.ensures ∙ c.in-At.is) in (firsts l.0 g.0, l.1 ++ (g.0 ∷ []), going_step _ _ _ _ _ l.2 c.loop-i-test.true g.1)
 
-returns-2 : tie.Need-returns-2 invariant-loop decreases-loop
-returns-2 c = going_end _ _ _ _ _ c.before.loop.invariant.2 c.loop-test.false
+returns : tie.Need-returns invariant-loop-i decreases-loop-i
+returns c = going_end _ _ _ _ _ c.loop-i.invariant.2 c.loop-i-test.false
 
-pub plain-rows-spec : {M : Type 1} → statement M
-plain-rows-spec =
+pub plain_rows_spec : {M : Type 1} → statement M
+plain_rows_spec =
     tie.close
     (tie.spec
-    invariant-loop
-    decreases-loop
-    loop-holds
+    invariant-loop-i
+    decreases-loop-i
+    loop-i-init
     row-requires
-    enum-known-n
-    returns
-    enum-known-next
-    add-i
-    loop-less
-    loop-again
-    returns-2)
+    enum_known-n
+    returns-in-Fault
+    enum_known-next
+    overflow_add-i
+    loop-i-smaller
+    loop-i-preserved
+    returns)

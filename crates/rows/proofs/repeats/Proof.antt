@@ -9,20 +9,27 @@ use Rattle.rows.proofs.repeats.Reads as reads
 use Rattle.rows.proofs.repeats.Lts as lts
 use Rattle.rows.proofs.seen.Reads as seen-reads
 
-returns : tie.Need-returns
-returns c = sym (repeated_past _ _ _ c.if1.true)
+returns-then-q-numbers : tie.Need-returns-then-q-numbers
+returns-then-q-numbers c = sym (repeated_past _ _ _ c.if-q-numbers.true)
 
-mul-seen : tie.Need-overflow-mul-seen
-mul-seen c = search rules
+offset_bounds-numbers-q : tie.Need-offset_bounds-numbers-q
+offset_bounds-numbers-q c = search rules
 
-shared-slice-read-seen : tie.Need-shared-slice-read-seen
-shared-slice-read-seen c = search rules
+bounds-numbers-q : tie.Need-bounds-numbers-q
+bounds-numbers-q c = search rules
 
 seen-requires : tie.Need-seen-requires
-seen-requires c κs = let s = c.before.before.before in (omega (arith, s.requires.1, c.before.if1.false), s.requires.0)
+seen-requires c κs = (omega (arith, c.requires.1, c.if-q-numbers.false), c.requires.0)
 
-returns-2 : tie.Need-returns-2
-returns-2 c = c.seen.ensures ∙ sym (repeated_in _ _ _ c.before.before.if1.false)
+returns : tie.Need-returns
+returns c = c.seen.ensures ∙ sym (repeated_in _ _ _ c.if-q-numbers.false)
 
-pub repeats-spec : {M : Type 1} → statement M
-repeats-spec = tie.close (tie.spec returns mul-seen shared-slice-read-seen seen-requires returns-2)
+pub repeats_spec : {M : Type 1} → statement M
+repeats_spec =
+    tie.close
+    (tie.spec
+    returns-then-q-numbers
+    offset_bounds-numbers-q
+    bounds-numbers-q
+    seen-requires
+    returns)

@@ -10,59 +10,59 @@ use Rattle.rows.proofs.row.Reads as reads
 use Rattle.rows.proofs.row.Lts as lts
 use Rattle.rows.proofs.within.Reads as within-reads
 
-returns : tie.Need-returns
-returns c = sym (row_none _ _ _ _ _ _ _ c.if1.true)
+returns-then-width-eq0 : tie.Need-returns-then-width-eq0
+returns-then-width-eq0 c = sym (row_none _ _ _ _ _ _ _ c.if-width-eq0.true)
 
 within-requires : tie.Need-within-requires
 within-requires c κs = search rules
 
-enum-known-n : tie.Need-enum-known-n
-enum-known-n c = search rules
+enum_known-n : tie.Need-enum_known-n
+enum_known-n c = search rules
 
-enum-known-q : tie.Need-enum-known-q
-enum-known-q c = search rules
+enum_known-q : tie.Need-enum_known-q
+enum_known-q c = search rules
 
-returns-2 : tie.Need-returns-2
-returns-2 c = sym (row_one _ _ _ _ _ _ _ c.if2.true (sym c.before.before.before.before.within.ensures ∙ c.before.before.q.given.1))
+returns-then-width-eq1 : tie.Need-returns-then-width-eq1
+returns-then-width-eq1 c = sym (row_one _ _ _ _ _ _ _ c.if-width-eq1.true (sym c.within.ensures ∙ c.in-At.is))
 
-within-requires-2 : tie.Need-within-requires-2
-within-requires-2 c κs = search rules
+within-requires-in-At : tie.Need-within-requires-in-At
+within-requires-in-At c κs = search rules
 
-enum-known-n-2 : tie.Need-enum-known-n-2
-enum-known-n-2 c = search rules
+enum_known-n-in-Fault-within-2 : tie.Need-enum_known-n-in-Fault-within-2
+enum_known-n-in-Fault-within-2 c = search rules
 
-enum-known-s : tie.Need-enum-known-s
-enum-known-s c = search rules
+enum_known-s : tie.Need-enum_known-s
+enum_known-s c = search rules
 
-returns-3 : tie.Need-returns-3
-returns-3 c = sym (row_two _ _ _ _ _ _ _ c.if3.true (sym c.before.before.before.before.before.before.before.before.before.within.ensures ∙ c.before.before.before.before.before.before.before.q.given.1) (sym c.before.before.before.before.within2.ensures ∙ c.before.before.s.given.1))
+returns-then-width-eq2 : tie.Need-returns-then-width-eq2
+returns-then-width-eq2 c = sym (row_two _ _ _ _ _ _ _ c.if-width-eq2.true (sym c.within.ensures ∙ c.in-At.is) (sym c.within-in-At.ensures ∙ c.in-At-within.is))
 
-within-requires-3 : tie.Need-within-requires-3
-within-requires-3 c κs = search rules
+within-requires-in-At-within : tie.Need-within-requires-in-At-within
+within-requires-in-At-within c κs = search rules
 
-returns-4 : tie.Need-returns-4
-returns-4 c = sym (row_stop_first _ _ _ _ _ _ _ c.before.before.before.before.if1.false (sym c.before.before.before.within.ensures ∙ c.before.n.given.1))
+returns-in-Fault : tie.Need-returns-in-Fault
+returns-in-Fault c = sym (row_stop_first _ _ _ _ _ _ _ c.if-width-eq0.false (sym c.within.ensures ∙ c.in-Fault.is))
 
-returns-5 : tie.Need-returns-5
-returns-5 c = sym (row_stop_second _ _ _ _ _ _ _ c.before.before.before.before.before.before.before.before.before.if1.false c.before.before.before.before.if2.false (sym c.before.before.before.before.before.before.before.before.within.ensures ∙ c.before.before.before.before.before.before.q.given.1) (sym c.before.before.before.within2.ensures ∙ c.before.n2.given.1))
+returns-in-Fault-within : tie.Need-returns-in-Fault-within
+returns-in-Fault-within c = sym (row_stop_second _ _ _ _ _ _ _ c.if-width-eq0.false c.if-width-eq1.false (sym c.within.ensures ∙ c.in-At.is) (sym c.within-in-At.ensures ∙ c.in-Fault-within.is))
 
-returns-6 : tie.Need-returns-6
-returns-6 c = c.within3.ensures ∙ sym (row_three _ _ _ _ _ _ _ c.before.before.before.before.before.before.before.before.before.before.before.if1.false c.before.before.before.before.before.before.if2.false c.before.if3.false (sym c.before.before.before.before.before.before.before.before.before.before.within.ensures ∙ c.before.before.before.before.before.before.before.before.q.given.1) (sym c.before.before.before.before.before.within2.ensures ∙ c.before.before.before.s.given.1))
+returns-else-width-eq2 : tie.Need-returns-else-width-eq2
+returns-else-width-eq2 c = c.within-in-At-within.ensures ∙ sym (row_three _ _ _ _ _ _ _ c.if-width-eq0.false c.if-width-eq1.false c.if-width-eq2.false (sym c.within.ensures ∙ c.in-At.is) (sym c.within-in-At.ensures ∙ c.in-At-within.is))
 
-pub row-spec : {M : Type 1} → statement M
-row-spec =
+pub row_spec : {M : Type 1} → statement M
+row_spec =
     tie.close
     (tie.spec
-    returns
+    returns-then-width-eq0
     within-requires
-    enum-known-n
-    enum-known-q
-    returns-2
-    within-requires-2
-    enum-known-n-2
-    enum-known-s
-    returns-3
-    within-requires-3
-    returns-4
-    returns-5
-    returns-6)
+    enum_known-n
+    enum_known-q
+    returns-then-width-eq1
+    within-requires-in-At
+    enum_known-n-in-Fault-within-2
+    enum_known-s
+    returns-then-width-eq2
+    within-requires-in-At-within
+    returns-in-Fault
+    returns-in-Fault-within
+    returns-else-width-eq2)

@@ -16,64 +16,60 @@ use Rattle.rows.proofs.some_rows.Reads as some-rows-reads
 use Rattle.rows.proofs.wide.Reads as wide-reads
 
 -- the count that was read
-counted : (c : tie.After-known-told2) → let s = c.before.before.before.before.before in (x : ℕ) × (number (count 16384 0 s.args.counts) s.args.numbers.now s.args.at ≡ got x c.before.q.given.0.0)
-counted c = at_got _ _ (sym c.before.before.before.counter.ensures ∙ c.before.q.given.1)
+counted : (c : tie.In-At) → (x : ℕ) × (number (count 16384 0 c.args.counts) c.args.numbers.now c.args.at ≡ got x c.in-At.q)
+counted c = at_got _ _ (sym c.counter.ensures ∙ c.in-At.is)
 
-there : (c : tie.After-known-told2) → let s = c.before.before.before.before.before in Number (count 16384 0 s.args.counts) s.args.numbers.now s.args.at (counted c).0 c.before.q.given.0.0
+there : (c : tie.In-At) → Number (count 16384 0 c.args.counts) c.args.numbers.now c.args.at (counted c).0 c.in-At.q
 there c = number_got _ _ _ (counted c).1
 
 -- the list is as many rows as the count says
-all-rows : (c : tie.After-wide) → let s = c.before.before.before.before.before.before.before in let d = c.before.before in
-    walk_of (list (record { counts = s.args.counts; row = row_of s.args.distinct (columns_of s.args.width s.args.a s.args.b s.args.c) s.args.numbers.now }) s.args.numbers.now s.args.at)
-    ≡ walk_of (many (row_of s.args.distinct (columns_of s.args.width s.args.a s.args.b s.args.c) s.args.numbers.now) firsts c.wide.result [] d.before.q.given.0.0)
+all-rows : (c : tie.After-wide-count) → walk_of (list (record { counts = c.args.counts; row = row_of c.args.distinct (columns_of c.args.width c.args.a c.args.b c.args.c) c.args.numbers.now }) c.args.numbers.now c.args.at)
+    ≡ walk_of (many (row_of c.args.distinct (columns_of c.args.width c.args.a c.args.b c.args.c) c.args.numbers.now) firsts c.wide-count.result [] c.in-At.q)
 all-rows c =
-    let d = c.before.before in
-    ap walk_of (list_go _ _ _ (counted d).1 ((there d).same ∙ sym c.wide.ensures))
+    ap walk_of (list_go _ _ _ (counted c.before.before).1 ((there c.before.before).same ∙ sym c.wide-count.ensures))
 
 counter-requires : tie.Need-counter-requires
 counter-requires c κs = search rules
 
-enum-known-n : tie.Need-enum-known-n
-enum-known-n c = search rules
+enum_known-n : tie.Need-enum_known-n
+enum_known-n c = search rules
 
-enum-known-q : tie.Need-enum-known-q
-enum-known-q c = search rules
+enum_known-q : tie.Need-enum_known-q
+enum_known-q c = search rules
 
-mul_wide : tie.Need-overflow-mul-wide
-mul_wide c = omega (arith, (there c).inside)
+offset_bounds-numbers-at : tie.Need-offset_bounds-numbers-at
+offset_bounds-numbers-at c = omega (arith, (there c).inside)
 
-shared-slice-read-wide : tie.Need-shared-slice-read-wide
-shared-slice-read-wide c = (there c.before).inside
+bounds-numbers-at : tie.Need-bounds-numbers-at
+bounds-numbers-at c = (there c.before).inside
 
-wide-requires : tie.Need-wide-requires
-wide-requires c κs = search rules
+wide-count-requires : tie.Need-wide-count-requires
+wide-count-requires c κs = search rules
 
-returns : tie.Need-returns
-returns c = no_rows _ _ _ c.if1.true ∙ sym (all-rows c.before)
+returns-then-count-eq0 : tie.Need-returns-then-count-eq0
+returns-then-count-eq0 c = no_rows _ _ _ c.if-count-eq0.true ∙ sym (all-rows c.before)
 
-some-rows-requires : tie.Need-some-rows-requires
-some-rows-requires c κs =
-    let w = c.before in
-    let s = w.before.before.before.before.before.before.before in
-    let t = there w.before.before in (s.requires.0, s.requires.1, omega (arith, t.good.0, t.same, w.wide.ensures))
+some_rows-requires : tie.Need-some_rows-requires
+some_rows-requires c κs =
+    let t = there c.before.before.before in (c.requires.0, c.requires.1, omega (arith, t.good.0, t.same, c.wide-count.ensures))
 
-returns-2 : tie.Need-returns-2
-returns-2 c = sym (list_stop _ _ _ (sym c.before.before.before.counter.ensures ∙ c.before.n.given.1))
+returns-in-Fault : tie.Need-returns-in-Fault
+returns-in-Fault c = sym (list_stop _ _ _ (sym c.counter.ensures ∙ c.in-Fault.is))
 
-returns-3 : tie.Need-returns-3
-returns-3 c = c.some-rows.ensures ∙ sym (all-rows c.before.before)
+returns-else-count-eq0 : tie.Need-returns-else-count-eq0
+returns-else-count-eq0 c = c.some_rows.ensures ∙ sym (all-rows c.before.before)
 
-pub rows-spec : {M : Type 1} → statement M
-rows-spec =
+pub rows_spec : {M : Type 1} → statement M
+rows_spec =
     tie.close
     (tie.spec
     counter-requires
-    enum-known-n
-    enum-known-q
-    mul_wide
-    shared-slice-read-wide
-    wide-requires
-    returns
-    some-rows-requires
-    returns-2
-    returns-3)
+    enum_known-n
+    enum_known-q
+    offset_bounds-numbers-at
+    bounds-numbers-at
+    wide-count-requires
+    returns-then-count-eq0
+    some_rows-requires
+    returns-in-Fault
+    returns-else-count-eq0)

@@ -10,59 +10,59 @@ use Rattle.rows.proofs.seen.Tie as tie
 use Rattle.rows.proofs.seen.Reads as reads
 use Rattle.rows.proofs.seen.Lts as lts
 
-abbrev invariant-loop : tie.invariant-loop
-invariant-loop numbers at count width x k₀ k = (k ≤ count) × (elem x (firsts_at numbers at width k) ≡ elem x (firsts_at numbers at width count))
+abbrev invariant-loop-k : tie.invariant-loop-k
+invariant-loop-k numbers at count width x k₀ k = (k ≤ count) × (elem x (firsts_at numbers at width k) ≡ elem x (firsts_at numbers at width count))
 
-abbrev decreases-loop : tie.decreases-loop
-decreases-loop numbers at count width x k₀ k = k
+abbrev decreases-loop-k : tie.decreases-loop-k
+decreases-loop-k numbers at count width x k₀ k = k
 
 -- the place that a turn reads
-inside : (c : tie.In-loop invariant-loop decreases-loop) → c.before.before.args.at + c.before.before.args.width * (c.before.loop.k - 1) < length c.before.before.args.numbers.now
-inside c = place_in _ _ _ (c.before.loop.k - 1) _ c.before.before.requires.0 (omega arith) c.before.before.requires.1
+inside : (c : tie.In-loop-k invariant-loop-k decreases-loop-k) → c.args.at + c.args.width * (c.loop-k.k - 1) < length c.args.numbers.now
+inside c = place_in _ _ _ (c.loop-k.k - 1) _ c.requires.0 (omega arith) c.requires.1
 
-loop-holds : tie.Need-loop-init invariant-loop decreases-loop
-loop-holds c = (omega arith, refl)
+loop-k-init : tie.Need-loop-k-init invariant-loop-k decreases-loop-k
+loop-k-init c = (omega arith, refl)
 
-sub-k : tie.Need-overflow-sub-k invariant-loop decreases-loop
-sub-k c = search rules
+overflow_sub-k : tie.Need-overflow_sub-k invariant-loop-k decreases-loop-k
+overflow_sub-k c = search rules
 
-mul-if1 : tie.Need-overflow-mul-if1 invariant-loop decreases-loop
-mul-if1 c = omega (arith, inside c)
+overflow_mul-width : tie.Need-overflow_mul-width invariant-loop-k decreases-loop-k
+overflow_mul-width c = omega (arith, inside c)
 
-add-if1 : tie.Need-overflow-add-if1 invariant-loop decreases-loop
-add-if1 c = omega (arith, inside c)
+overflow_add-at : tie.Need-overflow_add-at invariant-loop-k decreases-loop-k
+overflow_add-at c = omega (arith, inside c)
 
-mul-if1-2 : tie.Need-overflow-mul-if1-2 invariant-loop decreases-loop
-mul-if1-2 c = omega (arith, inside c)
+offset_bounds-numbers-at : tie.Need-offset_bounds-numbers-at invariant-loop-k decreases-loop-k
+offset_bounds-numbers-at c = omega (arith, inside c)
 
-shared-slice-read-if1 : tie.Need-shared-slice-read-if1 invariant-loop decreases-loop
-shared-slice-read-if1 c = inside c.before
+bounds-numbers-at : tie.Need-bounds-numbers-at invariant-loop-k decreases-loop-k
+bounds-numbers-at c = inside c.before
 
-returns : tie.Need-returns invariant-loop decreases-loop
-returns c = let l = c.before.before.before.loop in sym (seen_hit _ _ _ _ _ c.before.before.loop-test.true c.if1.true) ∙ l.invariant.1
+returns-then-numbers-at : tie.Need-returns-then-numbers-at invariant-loop-k decreases-loop-k
+returns-then-numbers-at c = let l = c.loop-k in sym (seen_hit _ _ _ _ _ c.loop-k-test.true c.if-numbers-at.true) ∙ l.invariant.1
 
-loop-less : tie.Need-loop-smaller invariant-loop decreases-loop
-loop-less c = search rules
+loop-k-smaller : tie.Need-loop-k-smaller invariant-loop-k decreases-loop-k
+loop-k-smaller c = search rules
 
-loop-again : tie.Need-loop-preserved invariant-loop decreases-loop
-loop-again c = let l = c.before.before.before.loop in (omega arith, seen_miss _ _ _ _ _ c.before.before.loop-test.true c.if1.false ∙ l.invariant.1)
+loop-k-preserved : tie.Need-loop-k-preserved invariant-loop-k decreases-loop-k
+loop-k-preserved c = let l = c.loop-k in (omega arith, seen_miss _ _ _ _ _ c.loop-k-test.true c.if-numbers-at.false ∙ l.invariant.1)
 
-returns-2 : tie.Need-returns-2 invariant-loop decreases-loop
-returns-2 c = sym (seen_none _ _ _ _ _ c.loop-test.false) ∙ c.before.loop.invariant.1
+returns : tie.Need-returns invariant-loop-k decreases-loop-k
+returns c = sym (seen_none _ _ _ _ _ c.loop-k-test.false) ∙ c.loop-k.invariant.1
 
-pub seen-spec : {M : Type 1} → statement M
-seen-spec =
+pub seen_spec : {M : Type 1} → statement M
+seen_spec =
     tie.close
     (tie.spec
-    invariant-loop
-    decreases-loop
-    loop-holds
-    sub-k
-    mul-if1
-    add-if1
-    mul-if1-2
-    shared-slice-read-if1
-    returns
-    loop-less
-    loop-again
-    returns-2)
+    invariant-loop-k
+    decreases-loop-k
+    loop-k-init
+    overflow_sub-k
+    overflow_mul-width
+    overflow_add-at
+    offset_bounds-numbers-at
+    bounds-numbers-at
+    returns-then-numbers-at
+    loop-k-smaller
+    loop-k-preserved
+    returns)

@@ -3,17 +3,23 @@ use borrow.Author.Rules.{rules}
 use Rattle.rows.proofs.some_rows.Statement.{statement}
 use Rattle.rows.proofs.some_rows.Tie as tie
 
-distinct-rows-requires : tie.Need-distinct-rows-requires
-distinct-rows-requires c κs = search rules
+distinct_rows-requires : tie.Need-distinct_rows-requires
+distinct_rows-requires c κs = search rules
 
-plain-rows-requires : tie.Need-plain-rows-requires
-plain-rows-requires c κs = search rules
+plain_rows-requires : tie.Need-plain_rows-requires
+plain_rows-requires c κs = search rules
 
-returns : tie.Need-returns
-returns c = by_distinct _ _ _ _ _ _ c.before.if1.true c.distinct_rows.ensures
+returns-then-distinct : tie.Need-returns-then-distinct
+returns-then-distinct c = by_distinct _ _ _ _ _ _ c.if-distinct.true c.distinct_rows.ensures
 
-returns-2 : tie.Need-returns-2
-returns-2 c = by_plain _ _ _ _ _ _ c.before.if1.false c.plain_rows.ensures
+returns-else-distinct : tie.Need-returns-else-distinct
+returns-else-distinct c = by_plain _ _ _ _ _ _ c.if-distinct.false c.plain_rows.ensures
 
-pub some-rows-spec : {M : Type 1} → statement M
-some-rows-spec = tie.close (tie.spec distinct-rows-requires plain-rows-requires returns returns-2)
+pub some_rows_spec : {M : Type 1} → statement M
+some_rows_spec =
+    tie.close
+    (tie.spec
+    distinct_rows-requires
+    plain_rows-requires
+    returns-then-distinct
+    returns-else-distinct)

@@ -10,46 +10,45 @@ use Rattle.rows.proofs.within.Reads as reads
 use Rattle.rows.proofs.within.Lts as lts
 use Rattle.rows.proofs.wide.Reads as wide-reads
 
+returns-then-at-numbers : tie.Need-returns-then-at-numbers
+unfolding walk_of
+returns-then-at-numbers c = sym (ap walk_of (number_missing _ _ _ refl _ c.if-at-numbers.true))
+
+offset_bounds-numbers-at : tie.Need-offset_bounds-numbers-at
+offset_bounds-numbers-at c = search rules
+
+bounds-numbers-at : tie.Need-bounds-numbers-at
+bounds-numbers-at c = search rules
+
+wide-x-requires : tie.Need-wide-x-requires
+wide-x-requires c κs = search rules
+
+returns-then-x-low : tie.Need-returns-then-x-low
+unfolding walk_of
+returns-then-x-low c = sym (ap walk_of (value_low _ _ _ c.wide-x.ensures _ _ c.if-at-numbers.false c.if-x-low.true))
+
+returns-then-x-limit : tie.Need-returns-then-x-limit
+unfolding walk_of
+returns-then-x-limit c =
+    let h : c.args.limit ≤ c.wide-x.result = omega (arith, c.if-x-limit.true) in
+    sym (ap walk_of (value_high _ _ _ c.wide-x.ensures _ _ c.if-at-numbers.false c.if-x-low.false h))
+
+overflow_add-result : tie.Need-overflow_add-result
+overflow_add-result c = search rules
+
 returns : tie.Need-returns
 unfolding walk_of
-returns c = sym (ap walk_of (number_missing _ _ _ refl _ c.if1.true))
+returns c = sym (ap walk_of (value_good _ _ _ c.wide-x.ensures _ _ c.if-at-numbers.false c.if-x-low.false c.if-x-limit.false))
 
-mul_wide : tie.Need-overflow-mul-wide
-mul_wide c = search rules
-
-shared-slice-read-wide : tie.Need-shared-slice-read-wide
-shared-slice-read-wide c = search rules
-
-wide-requires : tie.Need-wide-requires
-wide-requires c κs = search rules
-
-returns-2 : tie.Need-returns-2
-unfolding walk_of
-returns-2 c = sym (ap walk_of (value_low _ _ _ c.before.wide.ensures _ _ c.before.before.before.if1.false c.if2.true))
-
-returns-3 : tie.Need-returns-3
-unfolding walk_of
-returns-3 c =
-    let w = c.before.before in
-    let h : c.before.before.before.before.before.before.args.limit ≤ w.wide.result = omega (arith, c.if3.true) in
-    sym (ap walk_of (value_high _ _ _ w.wide.ensures _ _ w.before.before.if1.false c.before.if2.false h))
-
-add-t6 : tie.Need-overflow-add-t6
-add-t6 c = search rules
-
-returns-4 : tie.Need-returns-4
-unfolding walk_of
-returns-4 c = sym (ap walk_of (value_good _ _ _ c.before.before.wide.ensures _ _ c.before.before.before.before.if1.false c.before.if2.false c.if3.false))
-
-pub within-spec : {M : Type 1} → statement M
-within-spec =
+pub within_spec : {M : Type 1} → statement M
+within_spec =
     tie.close
     (tie.spec
-    returns
-    mul_wide
-    shared-slice-read-wide
-    wide-requires
-    returns-2
-    returns-3
-    add-t6
-    returns-4)
+    returns-then-at-numbers
+    offset_bounds-numbers-at
+    bounds-numbers-at
+    wide-x-requires
+    returns-then-x-low
+    returns-then-x-limit
+    overflow_add-result
+    returns)

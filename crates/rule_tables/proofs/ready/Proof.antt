@@ -6,38 +6,38 @@ use Rattle.rule_tables.proofs.ready.Statement.{statement}
 use Rattle.rule_tables.proofs.ready.Tie as tie
 
 load-requires : tie.Need-load-requires
-load-requires c κs = let s = c.before.before.before in (s.requires.0, (places_fit _ _ s.requires.1.0, s.requires.1.1))
+load-requires c κs = (c.requires.0, (places_fit _ _ c.requires.1.0, c.requires.1.1))
 
-enum-known-n : tie.Need-enum-known-n
-enum-known-n c = search rules
+enum_known-n : tie.Need-enum_known-n
+enum_known-n c = search rules
 
-enum_told : tie.Need-enum-told
-enum_told c = search rules
+enum_told-1 : tie.Need-enum_told-1
+enum_told-1 c = search rules
 
 fill-requires : tie.Need-fill-requires
-fill-requires c κs = let s = c.before.before.before.before.before.before.before.before.before in let l = c.before.before.before.before.before.load.ensures.1.known c.before.enum_told.given.1 in (l, all_laid _ _ _ _ s.requires.0.is l c.before.before.before.before.before.load.auto.1.1.0 s.requires.1.0)
+fill-requires c κs = let l = c.load.ensures.1.known c.in-Accepted.is in (l, all_laid _ _ _ _ c.requires.0.is l c.load.auto.1.1.0 c.requires.1.0)
 
-same_length : tie.Need-same-length
-same_length c = search rules
+shape_of-tables-in-Refused : tie.Need-shape_of-tables-in-Refused
+shape_of-tables-in-Refused c = search rules
 
-returns : tie.Need-returns
-returns c = (sym c.before.n.given.1 ∙ c.before.before.before.before.before.load.ensures.0, once_refused _)
+returns-in-Refused : tie.Need-returns-in-Refused
+returns-in-Refused c = (sym c.in-Refused.is ∙ c.load.ensures.0, once_refused _)
 
-same-length-2 : tie.Need-same-length-2
-same-length-2 c = search rules
+shape_of-tables-in-Accepted : tie.Need-shape_of-tables-in-Accepted
+shape_of-tables-in-Accepted c = search rules
 
-returns-2 : tie.Need-returns-2
-returns-2 c = (sym c.before.before.before.before.enum_told.given.1 ∙ c.before.before.before.before.before.before.before.before.load.ensures.0, record { known = λ e. c.before.before.fill.ensures })
+returns-in-Accepted : tie.Need-returns-in-Accepted
+returns-in-Accepted c = (sym c.in-Accepted.is ∙ c.load.ensures.0, record { known = λ e. c.fill.ensures })
 
-pub ready-spec : {M : Type 1} → statement M
-ready-spec =
+pub ready_spec : {M : Type 1} → statement M
+ready_spec =
     tie.close
     (tie.spec
     load-requires
-    enum-known-n
-    enum_told
+    enum_known-n
+    enum_told-1
     fill-requires
-    same_length
-    returns
-    same-length-2
-    returns-2)
+    shape_of-tables-in-Refused
+    returns-in-Refused
+    shape_of-tables-in-Accepted
+    returns-in-Accepted)

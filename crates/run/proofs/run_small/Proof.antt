@@ -6,71 +6,71 @@ use Rattle.run_parts.proofs.Tiers.{partners_long, plan_long}
 use Rattle.run.proofs.run_small.Statement.{statement}
 use Rattle.run.proofs.run_small.Tie as tie
 
-slice-aggregate-run-in : tie.Need-slice-aggregate-run-in
-slice-aggregate-run-in c = refl
+slice_bounds-run_in-end : tie.Need-slice_bounds-run_in-end
+slice_bounds-run_in-end c = refl
 
-slice-aggregate-run-in-2 : tie.Need-slice-aggregate-run-in-2
-slice-aggregate-run-in-2 c = refl
+slice_bounds-run_in-end-2 : tie.Need-slice_bounds-run_in-end-2
+slice_bounds-run_in-end-2 c = refl
 
-slice-aggregate-run-in-3 : tie.Need-slice-aggregate-run-in-3
-slice-aggregate-run-in-3 c = refl
+slice_bounds-run_in-end-3 : tie.Need-slice_bounds-run_in-end-3
+slice_bounds-run_in-end-3 c = refl
 
-run-in-requires : tie.Need-run-in-requires
-run-in-requires c κs = let s = c.before.before.before.before.before.before.before.before.before.before.before.before.before.before.before.before.before.before.before.before.before.before.before.before.before.before in (s.requires.0, (tables_long s.args.h Small 363 refl (omega arith) s.requires.1, (partners_long s.args.h 16 64 112 (omega arith) s.requires.1.0 s.requires.1.1 s.requires.1.2 s.requires.1.3, plan_long s.args.h 16 80 (omega arith) (omega arith) s.requires.1.0 s.requires.1.3)))
+run_in-requires : tie.Need-run_in-requires
+run_in-requires c κs = (c.requires.0, (tables_long c.args.h Small 363 refl (omega arith) c.requires.1, (partners_long c.args.h 16 64 112 (omega arith) c.requires.1.0 c.requires.1.1 c.requires.1.2 c.requires.1.3, plan_long c.args.h 16 80 (omega arith) (omega arith) c.requires.1.0 c.requires.1.3)))
 
-same_length : tie.Need-same-length
-same_length c = c.before.before.before.before.before.before.before.before.before.before.before.before.before.before.before.before.before.before.before.before.before.before.before.before.before.run_in.auto.1.1.1.1.1.0
+shape_of-marks : tie.Need-shape_of-marks
+shape_of-marks c = c.run_in.auto.1.1.1.1.1.0
 
-same-length-2 : tie.Need-same-length-2
-same-length-2 c = c.before.before.before.before.before.before.before.before.before.before.before.before.before.before.before.before.before.before.before.before.before.before.before.before.before.run_in.auto.1.1.1.1.1.1.0
+shape_of-lines : tie.Need-shape_of-lines
+shape_of-lines c = c.run_in.auto.1.1.1.1.1.1.0
 
-same-length-3 : tie.Need-same-length-3
-same-length-3 c = c.before.before.before.before.before.before.before.before.before.before.before.before.before.before.before.before.before.before.before.before.before.before.before.before.before.run_in.auto.1.1.1.1.1.1.1.0
+shape_of-modules_row : tie.Need-shape_of-modules_row
+shape_of-modules_row c = c.run_in.auto.1.1.1.1.1.1.1.0
 
-same-length-4 : tie.Need-same-length-4
-same-length-4 c = c.before.before.before.before.before.before.before.before.before.before.before.before.before.before.before.before.before.before.before.before.before.before.before.before.before.run_in.auto.1.1.1.1.1.1.1.1.0
+shape_of-statements_row : tie.Need-shape_of-statements_row
+shape_of-statements_row c = c.run_in.auto.1.1.1.1.1.1.1.1.0
 
-same-length-5 : tie.Need-same-length-5
-same-length-5 c = c.before.before.before.before.before.before.before.before.before.before.before.before.before.before.before.before.before.before.before.before.before.before.before.before.before.run_in.auto.1.1.1.1.1.1.1.1.1.0
+shape_of-used : tie.Need-shape_of-used
+shape_of-used c = c.run_in.auto.1.1.1.1.1.1.1.1.1.0
 
-same-length-6 : tie.Need-same-length-6
-same-length-6 c = c.before.before.before.before.before.before.before.before.before.before.before.before.before.before.before.before.before.before.before.before.before.before.before.before.before.run_in.auto.1.1.1.1.1.1.1.1.1.1.0
+shape_of-external : tie.Need-shape_of-external
+shape_of-external c = c.run_in.auto.1.1.1.1.1.1.1.1.1.1.0
 
-same-length-7 : tie.Need-same-length-7
-same-length-7 c = c.before.before.before.before.before.before.before.before.before.before.before.before.before.before.before.before.before.before.before.before.before.before.before.before.before.run_in.auto.1.1.1.1.1.1.1.1.1.1.1.0
+shape_of-json : tie.Need-shape_of-json
+shape_of-json c = c.run_in.auto.1.1.1.1.1.1.1.1.1.1.1.0
 
-same-length-8 : tie.Need-same-length-8
-same-length-8 c = c.before.before.before.before.before.before.before.before.before.before.before.before.before.before.before.before.before.before.before.before.before.before.before.before.before.run_in.auto.1.1.1.1.1.1.1.1.1.1.1.1.0
+shape_of-reason : tie.Need-shape_of-reason
+shape_of-reason c = c.run_in.auto.1.1.1.1.1.1.1.1.1.1.1.1.0
 
-same-length-9 : tie.Need-same-length-9
-same-length-9 c = c.before.before.before.before.before.before.before.before.before.before.before.before.before.before.before.before.before.before.before.before.before.before.before.before.before.run_in.auto.1.1.1.1.1.1.1.1.1.1.1.1.1.0
+shape_of-dead : tie.Need-shape_of-dead
+shape_of-dead c = c.run_in.auto.1.1.1.1.1.1.1.1.1.1.1.1.1.0
 
-same-length-10 : tie.Need-same-length-10
-same-length-10 c = c.before.before.before.before.before.before.before.before.before.before.before.before.before.before.before.before.before.before.before.before.before.before.before.before.before.run_in.auto.1.1.1.1.1.1.1.1.1.1.1.1.1.1.0
+shape_of-helpers : tie.Need-shape_of-helpers
+shape_of-helpers c = c.run_in.auto.1.1.1.1.1.1.1.1.1.1.1.1.1.1.0
 
-same-length-11 : tie.Need-same-length-11
-same-length-11 c = c.before.before.before.before.before.before.before.before.before.before.before.before.before.before.before.before.before.before.before.before.before.before.before.before.before.run_in.auto.1.1.1.1.1.1.1.1.1.1.1.1.1.1.1.0
+shape_of-entries : tie.Need-shape_of-entries
+shape_of-entries c = c.run_in.auto.1.1.1.1.1.1.1.1.1.1.1.1.1.1.1.0
 
 returns : tie.Need-returns
-returns c = c.before.before.before.before.before.before.before.before.before.before.before.before.before.before.before.before.before.before.before.before.before.before.before.before.before.run_in.ensures
+returns c = c.run_in.ensures
 
-pub run-small-spec : {M : Type 1} → statement M
-run-small-spec =
+pub run_small_spec : {M : Type 1} → statement M
+run_small_spec =
     tie.close
     (tie.spec
-    slice-aggregate-run-in
-    slice-aggregate-run-in-2
-    slice-aggregate-run-in-3
-    run-in-requires
-    same_length
-    same-length-2
-    same-length-3
-    same-length-4
-    same-length-5
-    same-length-6
-    same-length-7
-    same-length-8
-    same-length-9
-    same-length-10
-    same-length-11
+    slice_bounds-run_in-end
+    slice_bounds-run_in-end-2
+    slice_bounds-run_in-end-3
+    run_in-requires
+    shape_of-marks
+    shape_of-lines
+    shape_of-modules_row
+    shape_of-statements_row
+    shape_of-used
+    shape_of-external
+    shape_of-json
+    shape_of-reason
+    shape_of-dead
+    shape_of-helpers
+    shape_of-entries
     returns)

@@ -7,53 +7,53 @@ use Rattle.run_parts.proofs.Readying.{marks_short, rows_short, dead-short, helpe
 use Rattle.run_parts.proofs.are_enough.Statement.{statement}
 use Rattle.run_parts.proofs.are_enough.Tie as tie
 
-header-of-requires : tie.Need-header-of-requires
-header-of-requires c κs = c.before.before.requires.0.long
+header_of-h-requires : tie.Need-header_of-h-requires
+header_of-h-requires c κs = c.requires.0.long
 
-mark-count-requires : tie.Need-mark-count-requires
-mark-count-requires c κs = c.before.before.before.requires.0
+mark_count-requires : tie.Need-mark_count-requires
+mark_count-requires c κs = c.requires.0
 
-bytes-for-requires : tie.Need-bytes-for-requires
-bytes-for-requires c κs = omega (arith, c.mark-count.ensures, few_marks _ _ c.before.before.before.before.requires.0)
+bytes_for-requires : tie.Need-bytes_for-requires
+bytes_for-requires c κs = omega (arith, c.mark_count.ensures, few_marks _ _ c.requires.0)
+
+returns-then-l-bytes_for : tie.Need-returns-then-l-bytes_for
+returns-then-l-bytes_for c = marks_short _ c.args.l c.mark_count.ensures c.bytes_for.ensures c.if-l-bytes_for.true
+
+are_long_enough-requires : tie.Need-are_long_enough-requires
+are_long_enough-requires c κs = c.requires
+
+returns-then-not-are_long_enough : tie.Need-returns-then-not-are_long_enough
+returns-then-not-are_long_enough c = rows_short _ c.args.l c.mark_count.ensures c.bytes_for.ensures c.if-l-bytes_for.false c.are_long_enough.ensures (not_true _ c.if-not-are_long_enough.true)
+
+record_count-requires : tie.Need-record_count-requires
+record_count-requires c κs = c.requires.0
+
+bytes_for-requires-2 : tie.Need-bytes_for-requires-2
+bytes_for-requires-2 c κs = omega (arith, c.record_count.ensures.1)
+
+returns-then-l-bytes_for-2 : tie.Need-returns-then-l-bytes_for-2
+returns-then-l-bytes_for-2 c = dead-short _ c.args.l c.mark_count.ensures c.bytes_for.ensures c.if-l-bytes_for.false c.are_long_enough.ensures (not-false _ c.if-not-are_long_enough.false) c.record_count.ensures.0 c.bytes_for-2.ensures c.if-l-bytes_for-2.true
+
+returns-then-l-h : tie.Need-returns-then-l-h
+unfolding graph_in
+returns-then-l-h c = helpers-short _ c.args.l c.mark_count.ensures c.bytes_for.ensures c.if-l-bytes_for.false c.are_long_enough.ensures (not-false _ c.if-not-are_long_enough.false) c.record_count.ensures.0 c.bytes_for-2.ensures c.if-l-bytes_for-2.false (ap (λ w. w.modules) c.header_of-h.ensures) (ap (λ w. w.entries) c.header_of-h.ensures) c.if-l-h.true
 
 returns : tie.Need-returns
-returns c = marks_short _ c.before.before.before.before.before.before.before.args.l c.before.before.before.mark-count.ensures c.before.before.bytes-for.ensures c.if1.true
-
-are-long-enough-requires : tie.Need-are-long-enough-requires
-are-long-enough-requires c κs = c.before.before.before.before.before.before.before.requires
-
-returns-2 : tie.Need-returns-2
-returns-2 c = rows_short _ c.before.before.before.before.before.before.before.before.before.args.l c.before.before.before.before.before.mark-count.ensures c.before.before.before.before.bytes-for.ensures c.before.before.if1.false c.before.are-long-enough.ensures (not_true _ c.if2.true)
-
-record-count-requires : tie.Need-record-count-requires
-record-count-requires c κs = c.before.before.before.before.before.before.before.before.before.requires.0
-
-bytes-for-requires-2 : tie.Need-bytes-for-requires-2
-bytes-for-requires-2 c κs = omega (arith, c.record-count.ensures.1)
-
-returns-3 : tie.Need-returns-3
-returns-3 c = dead-short _ c.before.before.before.before.before.before.before.before.before.before.before.before.before.args.l c.before.before.before.before.before.before.before.before.before.mark-count.ensures c.before.before.before.before.before.before.before.before.bytes-for.ensures c.before.before.before.before.before.before.if1.false c.before.before.before.before.before.are-long-enough.ensures (not-false _ c.before.before.before.before.if2.false) c.before.before.before.record-count.ensures.0 c.before.before.bytes-for2.ensures c.if3.true
-
-returns-4 : tie.Need-returns-4
 unfolding graph_in
-returns-4 c = helpers-short _ c.before.before.before.before.before.before.before.before.before.before.before.before.before.before.before.before.args.l c.before.before.before.before.before.before.before.before.before.before.before.before.mark-count.ensures c.before.before.before.before.before.before.before.before.before.before.before.bytes-for.ensures c.before.before.before.before.before.before.before.before.before.if1.false c.before.before.before.before.before.before.before.before.are-long-enough.ensures (not-false _ c.before.before.before.before.before.before.before.if2.false) c.before.before.before.before.before.before.record-count.ensures.0 c.before.before.before.before.before.bytes-for2.ensures c.before.before.before.if3.false (ap (λ w. w.modules) c.before.before.before.before.before.before.before.before.before.before.before.before.before.header_of.ensures) (ap (λ w. w.entries) c.before.before.before.before.before.before.before.before.before.before.before.before.before.header_of.ensures) c.if4.true
+returns c = entries-left _ c.args.l c.mark_count.ensures c.bytes_for.ensures c.if-l-bytes_for.false c.are_long_enough.ensures (not-false _ c.if-not-are_long_enough.false) c.record_count.ensures.0 c.bytes_for-2.ensures c.if-l-bytes_for-2.false (ap (λ w. w.modules) c.header_of-h.ensures) (ap (λ w. w.entries) c.header_of-h.ensures) c.if-l-h.false
 
-returns-5 : tie.Need-returns-5
-unfolding graph_in
-returns-5 c = entries-left _ c.before.before.before.before.before.before.before.before.before.before.before.before.before.before.before.before.before.before.args.l c.before.before.before.before.before.before.before.before.before.before.before.before.before.before.mark-count.ensures c.before.before.before.before.before.before.before.before.before.before.before.before.before.bytes-for.ensures c.before.before.before.before.before.before.before.before.before.before.before.if1.false c.before.before.before.before.before.before.before.before.before.before.are-long-enough.ensures (not-false _ c.before.before.before.before.before.before.before.before.before.if2.false) c.before.before.before.before.before.before.before.before.record-count.ensures.0 c.before.before.before.before.before.before.before.bytes-for2.ensures c.before.before.before.before.before.if3.false (ap (λ w. w.modules) c.before.before.before.before.before.before.before.before.before.before.before.before.before.before.before.header_of.ensures) (ap (λ w. w.entries) c.before.before.before.before.before.before.before.before.before.before.before.before.before.before.before.header_of.ensures) c.before.before.if4.false
-
-pub are-enough-spec : {M : Type 1} → statement M
-are-enough-spec =
+pub are_enough_spec : {M : Type 1} → statement M
+are_enough_spec =
     tie.close
     (tie.spec
-    header-of-requires
-    mark-count-requires
-    bytes-for-requires
-    returns
-    are-long-enough-requires
-    returns-2
-    record-count-requires
-    bytes-for-requires-2
-    returns-3
-    returns-4
-    returns-5)
+    header_of-h-requires
+    mark_count-requires
+    bytes_for-requires
+    returns-then-l-bytes_for
+    are_long_enough-requires
+    returns-then-not-are_long_enough
+    record_count-requires
+    bytes_for-requires-2
+    returns-then-l-bytes_for-2
+    returns-then-l-h
+    returns)

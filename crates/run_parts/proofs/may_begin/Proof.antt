@@ -8,44 +8,44 @@ use Rattle.run_parts.proofs.may_begin.Tie as tie
 ready-requires : tie.Need-ready-requires
 ready-requires c κs = search rules
 
-enum-known-n : tie.Need-enum-known-n
-enum-known-n c = search rules
+enum_known-n : tie.Need-enum_known-n
+enum_known-n c = search rules
 
-enum_told : tie.Need-enum-told
-enum_told c = search rules
+enum_told-1 : tie.Need-enum_told-1
+enum_told-1 c = search rules
 
-are-enough-requires : tie.Need-are-enough-requires
-are-enough-requires c κs = ((c.before.before.before.before.before.ready.ensures.1.known c.before.enum_told.given.1).0.loaded, (c.before.before.before.before.before.ready.ensures.1.known c.before.enum_told.given.1).1)
+are_enough-requires : tie.Need-are_enough-requires
+are_enough-requires c κs = ((c.ready.ensures.1.known c.in-Accepted.is).0.loaded, (c.ready.ensures.1.known c.in-Accepted.is).1)
 
-same_length : tie.Need-same-length
-same_length c = search rules
+shape_of-tables-then-not-are_enough : tie.Need-shape_of-tables-then-not-are_enough
+shape_of-tables-then-not-are_enough c = search rules
 
-returns : tie.Need-returns
-returns c = begins-short _ _ _ (sym c.before.before.before.before.before.before.before.ready.ensures.0 ∙ c.before.before.before.enum_told.given.1) c.before.are-enough.ensures (not_true _ c.if1.true)
+returns-then-not-are_enough : tie.Need-returns-then-not-are_enough
+returns-then-not-are_enough c = begins-short _ _ _ (sym c.ready.ensures.0 ∙ c.in-Accepted.is) c.are_enough.ensures (not_true _ c.if-not-are_enough.true)
 
-same-length-2 : tie.Need-same-length-2
-same-length-2 c = search rules
+shape_of-tables-in-Refused : tie.Need-shape_of-tables-in-Refused
+shape_of-tables-in-Refused c = search rules
 
-returns-2 : tie.Need-returns-2
-returns-2 c = begins_rejected _ _ _ (sym c.before.before.before.before.before.ready.ensures.0 ∙ c.before.n.given.1)
+returns-in-Refused : tie.Need-returns-in-Refused
+returns-in-Refused c = begins_rejected _ _ _ (sym c.ready.ensures.0 ∙ c.in-Refused.is)
 
-same-length-3 : tie.Need-same-length-3
-same-length-3 c = search rules
+shape_of-tables-else-not-are_enough : tie.Need-shape_of-tables-else-not-are_enough
+shape_of-tables-else-not-are_enough c = search rules
 
-returns-3 : tie.Need-returns-3
-returns-3 c = begins-good _ _ _ (sym c.before.before.before.before.before.before.before.ready.ensures.0 ∙ c.before.before.before.enum_told.given.1) c.before.are-enough.ensures (not-false _ c.if1.false) (c.before.before.before.before.before.before.before.ready.ensures.1.known c.before.before.before.enum_told.given.1)
+returns-else-not-are_enough : tie.Need-returns-else-not-are_enough
+returns-else-not-are_enough c = begins-good _ _ _ (sym c.ready.ensures.0 ∙ c.in-Accepted.is) c.are_enough.ensures (not-false _ c.if-not-are_enough.false) (c.ready.ensures.1.known c.in-Accepted.is)
 
-pub may-begin-spec : {M : Type 1} → statement M
-may-begin-spec =
+pub may_begin_spec : {M : Type 1} → statement M
+may_begin_spec =
     tie.close
     (tie.spec
     ready-requires
-    enum-known-n
-    enum_told
-    are-enough-requires
-    same_length
-    returns
-    same-length-2
-    returns-2
-    same-length-3
-    returns-3)
+    enum_known-n
+    enum_told-1
+    are_enough-requires
+    shape_of-tables-then-not-are_enough
+    returns-then-not-are_enough
+    shape_of-tables-in-Refused
+    returns-in-Refused
+    shape_of-tables-else-not-are_enough
+    returns-else-not-are_enough)

@@ -4,53 +4,50 @@ use borrow.Author.Rules.{rules}
 use Rattle.run_parts.proofs.show_run.Statement.{statement}
 use Rattle.run_parts.proofs.show_run.Tie as tie
 
-show-dead-requires : tie.Need-show-dead-requires
+show_dead-requires : tie.Need-show_dead-requires
 unfolding graph_in
-show-dead-requires c κs =
-    let s = c.before.before.before.before.before.before.before.before.before.before.before.before in
-    (s.requires.0, (after_stages _ _ _ _ _ s.requires.1.0, (s.requires.1.1.0.kept, s.requires.1.1.1.dead_fit)))
+show_dead-requires c κs =
+    (c.requires.0, (after_stages _ _ _ _ _ c.requires.1.0, (c.requires.1.1.0.kept, c.requires.1.1.1.dead_fit)))
 
-show-helpers-requires : tie.Need-show-helpers-requires
+show_helpers-requires : tie.Need-show_helpers-requires
 unfolding graph_in
-show-helpers-requires c κs =
-    let s = c.before.before.before.before.before.before.before.before.before.before.before.before.before.before.before.before.before.before.before in
-    ((s.requires.0.loaded.long, s.requires.1.0.leaves.planned.long, s.requires.1.1.1.helpers_fit), λ m l. (s.requires.1.0.words m l).1)
+show_helpers-requires c κs =
+    ((c.requires.0.loaded.long, c.requires.1.0.leaves.planned.long, c.requires.1.1.1.helpers_fit), λ m l. (c.requires.1.0.words m l).1)
 
-show-entries-requires : tie.Need-show-entries-requires
+show_entries-requires : tie.Need-show_entries-requires
 unfolding graph_in
-show-entries-requires c κs =
-    let s = c.before.before.before.before.before.before.before.before.before.before.before.before.before.before.before.before.before.before.before.before.before.before.before.before.before in
-    (s.requires.0.loaded, (s.requires.1.0.leaves.planned, ((still_fits c.before.before.before.before.before.before.before.before.before.before.before.before.show-dead.auto.1.1.1.1.1.1.1.0 s.requires.1.1.0).chain, s.requires.1.1.1.entries_fit)))
+show_entries-requires c κs =
+    (c.requires.0.loaded, (c.requires.1.0.leaves.planned, ((still_fits c.show_dead.auto.1.1.1.1.1.1.1.0 c.requires.1.1.0).chain, c.requires.1.1.1.entries_fit)))
 
-same_length : tie.Need-same-length
-same_length c = search rules
+shape_of-plan : tie.Need-shape_of-plan
+shape_of-plan c = search rules
 
-same-length-2 : tie.Need-same-length-2
-same-length-2 c = search rules
+shape_of-scratch : tie.Need-shape_of-scratch
+shape_of-scratch c = search rules
 
-same-length-3 : tie.Need-same-length-3
-same-length-3 c = search rules
+shape_of-dead : tie.Need-shape_of-dead
+shape_of-dead c = search rules
 
-same-length-4 : tie.Need-same-length-4
-same-length-4 c = search rules
+shape_of-helpers : tie.Need-shape_of-helpers
+shape_of-helpers c = search rules
 
-same-length-5 : tie.Need-same-length-5
-same-length-5 c = search rules
+shape_of-entries : tie.Need-shape_of-entries
+shape_of-entries c = search rules
 
 returns : tie.Need-returns
 unfolding graph_in
-returns c = run-shown _ _ _ _ _ c.before.before.before.before.before.before.before.before.before.before.before.before.before.before.before.before.before.before.before.before.before.before.before.before.before.before.before.before.before.before.before.before.requires.1.0 _ _ _ _ _ _ c.before.before.before.before.before.before.before.before.before.before.before.before.before.before.before.before.before.before.before.show-dead.ensures c.before.before.before.before.before.before.before.before.before.before.before.before.show-helpers.ensures c.before.before.before.before.before.before.show-entries.ensures.1 c.before.before.before.before.before.before.show-entries.ensures.0
+returns c = run-shown _ _ _ _ _ c.requires.1.0 _ _ _ _ _ _ c.show_dead.ensures c.show_helpers.ensures c.show_entries.ensures.1 c.show_entries.ensures.0
 
-pub show-run-spec : {M : Type 1} → statement M
-show-run-spec =
+pub show_run_spec : {M : Type 1} → statement M
+show_run_spec =
     tie.close
     (tie.spec
-    show-dead-requires
-    show-helpers-requires
-    show-entries-requires
-    same_length
-    same-length-2
-    same-length-3
-    same-length-4
-    same-length-5
+    show_dead-requires
+    show_helpers-requires
+    show_entries-requires
+    shape_of-plan
+    shape_of-scratch
+    shape_of-dead
+    shape_of-helpers
+    shape_of-entries
     returns)

@@ -5,124 +5,124 @@ use borrow.Author.Rules.{rules}
 use Rattle.run_parts.proofs.stages.Statement.{statement}
 use Rattle.run_parts.proofs.stages.Tie as tie
 
-order-entries-requires : tie.Need-order-entries-requires
-order-entries-requires c κs = search rules
+order_entries-users-requires : tie.Need-order_entries-users-requires
+order_entries-users-requires c κs = search rules
 
-main-part-requires : tie.Need-main-part-requires
-main-part-requires c κs = search rules
+main_part-requires : tie.Need-main_part-requires
+main_part-requires c κs = search rules
 
-enum_told : tie.Need-enum-told
-enum_told c = search rules
+enum_told-1 : tie.Need-enum_told-1
+enum_told-1 c = search rules
 
-enum-known-x : tie.Need-enum-known-x
-enum-known-x c = search rules
+enum_known-x : tie.Need-enum_known-x
+enum_known-x c = search rules
 
-enum-told-2 : tie.Need-enum-told-2
-enum-told-2 c = search rules
+enum_told-in-Main : tie.Need-enum_told-in-Main
+enum_told-in-Main c = search rules
 
-enum-told-3 : tie.Need-enum-told-3
-enum-told-3 c = search rules
+enum_told-in-Whole : tie.Need-enum_told-in-Whole
+enum_told-in-Whole c = search rules
 
-runtime-stage-requires : tie.Need-runtime-stage-requires
+runtime_stage-requires : tie.Need-runtime_stage-requires
 unfolding graph_in
-runtime-stage-requires c κs = (c.before.before.before.before.before.before.before.before.before.before.before.before.before.before.before.before.before.before.before.before.before.before.before.before.before.before.before.before.before.before.before.before.requires.0, (c.before.before.before.before.before.before.before.before.before.before.before.before.before.before.before.before.before.main-part.ensures.working _ c.before.before.before.before.before.before.before.x.given.1, (c.before.before.before.before.before.before.before.before.before.before.before.before.before.before.before.before.before.main-part.ensures.planned _ c.before.before.before.before.before.before.before.x.given.1).long))
+runtime_stage-requires c κs = (c.requires.0, (c.main_part.ensures.working _ c.in-Done.is, (c.main_part.ensures.planned _ c.in-Done.is).long))
 
-enum-told-4 : tie.Need-enum-told-4
-enum-told-4 c = search rules
+enum_told-in-Full-runtime_stage : tie.Need-enum_told-in-Full-runtime_stage
+enum_told-in-Full-runtime_stage c = search rules
 
-enum-known-total : tie.Need-enum-known-total
-enum-known-total c = search rules
+enum_known-total : tie.Need-enum_known-total
+enum_known-total c = search rules
 
-same_length : tie.Need-same-length
-same_length c = search rules
+shape_of-partners-in-Full : tie.Need-shape_of-partners-in-Full
+shape_of-partners-in-Full c = search rules
 
-same-length-2 : tie.Need-same-length-2
-same-length-2 c = search rules
+shape_of-marks-in-Full : tie.Need-shape_of-marks-in-Full
+shape_of-marks-in-Full c = search rules
 
-same-length-3 : tie.Need-same-length-3
-same-length-3 c = search rules
+shape_of-lines-in-Full : tie.Need-shape_of-lines-in-Full
+shape_of-lines-in-Full c = search rules
 
-same-length-4 : tie.Need-same-length-4
-same-length-4 c = search rules
+shape_of-plan-in-Full : tie.Need-shape_of-plan-in-Full
+shape_of-plan-in-Full c = search rules
 
-returns : tie.Need-returns
-returns c = main_short _ _ _ _ _ _ _ c.before.before.before.before.before.before.before.before.before.before.main-part.ensures _ c.enum_told.given.1
+returns-in-Full : tie.Need-returns-in-Full
+returns-in-Full c = main_short _ _ _ _ _ _ _ c.main_part.ensures _ c.in-Full.is
 
-same-length-5 : tie.Need-same-length-5
-same-length-5 c = search rules
+shape_of-partners-in-Main : tie.Need-shape_of-partners-in-Main
+shape_of-partners-in-Main c = search rules
 
-same-length-6 : tie.Need-same-length-6
-same-length-6 c = search rules
+shape_of-marks-in-Main : tie.Need-shape_of-marks-in-Main
+shape_of-marks-in-Main c = search rules
 
-same-length-7 : tie.Need-same-length-7
-same-length-7 c = search rules
+shape_of-lines-in-Main : tie.Need-shape_of-lines-in-Main
+shape_of-lines-in-Main c = search rules
 
-same-length-8 : tie.Need-same-length-8
-same-length-8 c = search rules
+shape_of-plan-in-Main : tie.Need-shape_of-plan-in-Main
+shape_of-plan-in-Main c = search rules
 
-returns-2 : tie.Need-returns-2
-returns-2 c = stages_of c.enum-told2.given.1 (main-done _ _ _ _ _ _ _ c.before.before.before.before.before.before.before.before.before.before.before.before.before.main-part.ensures c.before.before.before.x.given.1)
+returns-in-Main : tie.Need-returns-in-Main
+returns-in-Main c = stages_of c.in-Main.is (main-done _ _ _ _ _ _ _ c.main_part.ensures c.in-Done.is)
 
-same-length-9 : tie.Need-same-length-9
-same-length-9 c = search rules
+shape_of-partners-in-Full-runtime_stage : tie.Need-shape_of-partners-in-Full-runtime_stage
+shape_of-partners-in-Full-runtime_stage c = search rules
 
-same-length-10 : tie.Need-same-length-10
-same-length-10 c = search rules
+shape_of-marks-in-Full-runtime_stage : tie.Need-shape_of-marks-in-Full-runtime_stage
+shape_of-marks-in-Full-runtime_stage c = search rules
 
-same-length-11 : tie.Need-same-length-11
-same-length-11 c = search rules
+shape_of-lines-in-Full-runtime_stage : tie.Need-shape_of-lines-in-Full-runtime_stage
+shape_of-lines-in-Full-runtime_stage c = search rules
 
-same-length-12 : tie.Need-same-length-12
-same-length-12 c = (c.before.before.before.before.before.before.before.before.before.before.runtime-stage.auto.1.1.1.1.1.0 ∙ c.before.before.before.before.before.before.before.before.before.before.before.before.before.before.before.before.before.before.before.before.before.before.before.before.before.before.before.before.main-part.auto.1.1.1.1.1.0) ∙ c.before.before.before.before.before.before.before.before.before.before.before.before.before.before.before.before.before.before.before.before.before.before.before.before.before.before.before.before.before.before.before.before.before.before.before.order-entries.auto.1.1.0
+shape_of-plan-in-Full-runtime_stage : tie.Need-shape_of-plan-in-Full-runtime_stage
+shape_of-plan-in-Full-runtime_stage c = (c.runtime_stage.auto.1.1.1.1.1.0 ∙ c.main_part.auto.1.1.1.1.1.0) ∙ c.order_entries-users.auto.1.1.0
 
-returns-3 : tie.Need-returns-3
-returns-3 c = stages_of c.before.before.before.before.before.before.before.before.before.before.before.before.before.before.before.enum-told3.given.1 (stage-short _ _ _ _ _ _ _ c.before.before.before.before.before.before.before.before.before.before.before.before.before.before.before.before.before.before.before.before.before.before.before.before.before.before.before.before.main-part.ensures c.before.before.before.before.before.before.before.before.before.before.before.before.before.before.before.before.before.before.x.given.1 _ _ _ _ _ c.before.before.before.before.before.before.before.before.before.before.runtime-stage.ensures c.enum-told4.given.1)
+returns-in-Full-runtime_stage : tie.Need-returns-in-Full-runtime_stage
+returns-in-Full-runtime_stage c = stages_of c.in-Whole.is (stage-short _ _ _ _ _ _ _ c.main_part.ensures c.in-Done.is _ _ _ _ _ c.runtime_stage.ensures c.in-Full-runtime_stage.is)
 
-same-length-13 : tie.Need-same-length-13
-same-length-13 c = search rules
+shape_of-partners-in-Lines : tie.Need-shape_of-partners-in-Lines
+shape_of-partners-in-Lines c = search rules
 
-same-length-14 : tie.Need-same-length-14
-same-length-14 c = search rules
+shape_of-marks-in-Lines : tie.Need-shape_of-marks-in-Lines
+shape_of-marks-in-Lines c = search rules
 
-same-length-15 : tie.Need-same-length-15
-same-length-15 c = search rules
+shape_of-lines-in-Lines : tie.Need-shape_of-lines-in-Lines
+shape_of-lines-in-Lines c = search rules
 
-same-length-16 : tie.Need-same-length-16
-same-length-16 c = (c.before.before.before.before.before.before.before.before.before.before.before.runtime-stage.auto.1.1.1.1.1.0 ∙ c.before.before.before.before.before.before.before.before.before.before.before.before.before.before.before.before.before.before.before.before.before.before.before.before.before.before.before.before.before.main-part.auto.1.1.1.1.1.0) ∙ c.before.before.before.before.before.before.before.before.before.before.before.before.before.before.before.before.before.before.before.before.before.before.before.before.before.before.before.before.before.before.before.before.before.before.before.before.order-entries.auto.1.1.0
+shape_of-plan-in-Lines : tie.Need-shape_of-plan-in-Lines
+shape_of-plan-in-Lines c = (c.runtime_stage.auto.1.1.1.1.1.0 ∙ c.main_part.auto.1.1.1.1.1.0) ∙ c.order_entries-users.auto.1.1.0
 
-returns-4 : tie.Need-returns-4
-returns-4 c = stages_of c.before.before.before.before.before.before.before.before.before.before.before.before.before.before.before.before.enum-told3.given.1 (stages-done _ _ _ _ _ _ _ c.before.before.before.before.before.before.before.before.before.before.before.before.before.before.before.before.before.before.before.before.before.before.before.before.before.before.before.before.before.main-part.ensures c.before.before.before.before.before.before.before.before.before.before.before.before.before.before.before.before.before.before.before.x.given.1 _ _ _ _ _ c.before.before.before.before.before.before.before.before.before.before.before.runtime-stage.ensures c.before.total.given.1)
+returns-in-Lines : tie.Need-returns-in-Lines
+returns-in-Lines c = stages_of c.in-Whole.is (stages-done _ _ _ _ _ _ _ c.main_part.ensures c.in-Done.is _ _ _ _ _ c.runtime_stage.ensures c.in-Lines.is)
 
-pub stages-spec : {M : Type 1} → statement M
-stages-spec =
+pub stages_spec : {M : Type 1} → statement M
+stages_spec =
     tie.close
     (tie.spec
-    order-entries-requires
-    main-part-requires
-    enum_told
-    enum-known-x
-    enum-told-2
-    enum-told-3
-    runtime-stage-requires
-    enum-told-4
-    enum-known-total
-    same_length
-    same-length-2
-    same-length-3
-    same-length-4
-    returns
-    same-length-5
-    same-length-6
-    same-length-7
-    same-length-8
-    returns-2
-    same-length-9
-    same-length-10
-    same-length-11
-    same-length-12
-    returns-3
-    same-length-13
-    same-length-14
-    same-length-15
-    same-length-16
-    returns-4)
+    order_entries-users-requires
+    main_part-requires
+    enum_told-1
+    enum_known-x
+    enum_told-in-Main
+    enum_told-in-Whole
+    runtime_stage-requires
+    enum_told-in-Full-runtime_stage
+    enum_known-total
+    shape_of-partners-in-Full
+    shape_of-marks-in-Full
+    shape_of-lines-in-Full
+    shape_of-plan-in-Full
+    returns-in-Full
+    shape_of-partners-in-Main
+    shape_of-marks-in-Main
+    shape_of-lines-in-Main
+    shape_of-plan-in-Main
+    returns-in-Main
+    shape_of-partners-in-Full-runtime_stage
+    shape_of-marks-in-Full-runtime_stage
+    shape_of-lines-in-Full-runtime_stage
+    shape_of-plan-in-Full-runtime_stage
+    returns-in-Full-runtime_stage
+    shape_of-partners-in-Lines
+    shape_of-marks-in-Lines
+    shape_of-lines-in-Lines
+    shape_of-plan-in-Lines
+    returns-in-Lines)

@@ -10,63 +10,63 @@ clear-requires c κs = search rules
 
 stages-requires : tie.Need-stages-requires
 unfolding graph_in
-stages-requires c κs = (c.before.before.before.before.before.before.before.before.before.before.before.before.before.before.before.before.before.requires.0, (working_start _ c.before.before.before.before.before.before.before.before.before.before.before.before.before.before.before.before.before.args.marks.now c.before.before.before.before.before.before.before.before.before.before.before.before.before.before.before.before.before.args.lines.now _ _ _ c.before.before.before.before.before.before.before.before.before.before.before.before.before.before.before.before.before.requires.1.0.0 c.before.before.before.before.before.before.before.before.before.before.before.before.before.before.before.before.before.requires.1.0.1 c.before.before.before.before.before.before.before.before.before.before.before.before.before.before.before.before.before.requires.1.0.2 c.before.before.before.before.before.before.before.before.clear.ensures.0 c.before.before.before.before.before.before.before.before.clear.ensures.1, c.before.before.before.before.before.before.before.before.before.before.before.before.before.before.before.before.before.requires.1.1))
+stages-requires c κs = (c.requires.0, (working_start _ c.args.marks.now c.args.lines.now _ _ _ c.requires.1.0.0 c.requires.1.0.1 c.requires.1.0.2 c.clear.ensures.0 c.clear.ensures.1, c.requires.1.1))
 
-enum_told : tie.Need-enum-told
-enum_told c = search rules
+enum_told-1 : tie.Need-enum_told-1
+enum_told-1 c = search rules
 
-clear-requires-2 : tie.Need-clear-requires-2
-clear-requires-2 c κs = search rules
+clear-requires-in-Full : tie.Need-clear-requires-in-Full
+clear-requires-in-Full c κs = search rules
 
-enum-known-x : tie.Need-enum-known-x
-enum-known-x c = search rules
+enum_known-x : tie.Need-enum_known-x
+enum_known-x c = search rules
 
-same_length : tie.Need-same-length
-same_length c = search rules
+shape_of-partners-in-Full : tie.Need-shape_of-partners-in-Full
+shape_of-partners-in-Full c = search rules
 
-same-length-2 : tie.Need-same-length-2
-same-length-2 c = search rules
+shape_of-marks-in-Full : tie.Need-shape_of-marks-in-Full
+shape_of-marks-in-Full c = search rules
 
-same-length-3 : tie.Need-same-length-3
-same-length-3 c = search rules
+shape_of-lines-in-Full : tie.Need-shape_of-lines-in-Full
+shape_of-lines-in-Full c = search rules
 
-same-length-4 : tie.Need-same-length-4
-same-length-4 c = search rules
+shape_of-plan-in-Full : tie.Need-shape_of-plan-in-Full
+shape_of-plan-in-Full c = search rules
 
-returns : tie.Need-returns
-returns c = work_short _ _ _ _ _ _ _ _ c.before.before.before.before.before.before.before.before.before.before.before.before.before.before.before.before.before.stages.ensures _ _ c.before.before.before.before.before.before.before.enum_told.given.1 (c.before.before.before.before.before.before.before.before.before.before.before.before.before.before.before.before.before.stages.auto.1.1.1.0 ∙ c.before.before.before.before.before.before.before.before.before.before.before.before.before.before.before.before.before.before.before.before.before.before.before.before.before.before.clear.auto.0) (c.before.before.before.before.before.before.before.before.before.before.before.before.before.before.before.before.before.stages.auto.1.1.1.1.0 ∙ c.before.before.before.before.before.before.before.before.before.before.before.before.before.before.before.before.before.before.before.before.before.before.before.before.before.before.clear.auto.1.0) c.before.before.before.before.clear2.ensures.0 c.before.before.before.before.clear2.ensures.1
+returns-in-Full : tie.Need-returns-in-Full
+returns-in-Full c = work_short _ _ _ _ _ _ _ _ c.stages.ensures _ _ c.in-Full.is (c.stages.auto.1.1.1.0 ∙ c.clear.auto.0) (c.stages.auto.1.1.1.1.0 ∙ c.clear.auto.1.0) c.clear-in-Full.ensures.0 c.clear-in-Full.ensures.1
 
-same-length-5 : tie.Need-same-length-5
-same-length-5 c = search rules
+shape_of-partners-in-Done : tie.Need-shape_of-partners-in-Done
+shape_of-partners-in-Done c = search rules
 
-same-length-6 : tie.Need-same-length-6
-same-length-6 c = search rules
+shape_of-marks-in-Done : tie.Need-shape_of-marks-in-Done
+shape_of-marks-in-Done c = search rules
 
-same-length-7 : tie.Need-same-length-7
-same-length-7 c = search rules
+shape_of-lines-in-Done : tie.Need-shape_of-lines-in-Done
+shape_of-lines-in-Done c = search rules
 
-same-length-8 : tie.Need-same-length-8
-same-length-8 c = search rules
+shape_of-plan-in-Done : tie.Need-shape_of-plan-in-Done
+shape_of-plan-in-Done c = search rules
 
-returns-2 : tie.Need-returns-2
-returns-2 c = work_holds _ _ _ _ _ _ _ _ c.before.before.before.before.before.before.before.before.before.before.before.stages.ensures c.before.x.given.1
+returns-in-Done : tie.Need-returns-in-Done
+returns-in-Done c = work_holds _ _ _ _ _ _ _ _ c.stages.ensures c.in-Done.is
 
-pub work-spec : {M : Type 1} → statement M
-work-spec =
+pub work_spec : {M : Type 1} → statement M
+work_spec =
     tie.close
     (tie.spec
     clear-requires
     stages-requires
-    enum_told
-    clear-requires-2
-    enum-known-x
-    same_length
-    same-length-2
-    same-length-3
-    same-length-4
-    returns
-    same-length-5
-    same-length-6
-    same-length-7
-    same-length-8
-    returns-2)
+    enum_told-1
+    clear-requires-in-Full
+    enum_known-x
+    shape_of-partners-in-Full
+    shape_of-marks-in-Full
+    shape_of-lines-in-Full
+    shape_of-plan-in-Full
+    returns-in-Full
+    shape_of-partners-in-Done
+    shape_of-marks-in-Done
+    shape_of-lines-in-Done
+    shape_of-plan-in-Done
+    returns-in-Done)

@@ -8,93 +8,90 @@ use native.Mathlib.Omega.{arith}
 use Rattle.run_rows.proofs.keep_final.Statement.{statement}
 use Rattle.run_rows.proofs.keep_final.Tie as tie
 
-abbrev invariant-loop : tie.invariant-loop
-invariant-loop numbers tables plan₀ users h splits n₀ i₀ plan n i = Keeping (graph_in numbers) splits users plan₀ plan n i
+abbrev invariant-loop-i : tie.invariant-loop-i
+invariant-loop-i numbers tables plan₀ users h splits n₀ i₀ plan n i = Keeping (graph_in numbers) splits users plan₀ plan n i
 
-abbrev decreases-loop : tie.decreases-loop
-decreases-loop numbers tables plan₀ users h splits n₀ i₀ plan n i = h.entries - i
+abbrev decreases-loop-i : tie.decreases-loop-i
+decreases-loop-i numbers tables plan₀ users h splits n₀ i₀ plan n i = h.entries - i
 
-header-of-requires : tie.Need-header-of-requires invariant-loop decreases-loop
-header-of-requires c κs = c.before.before.before.requires.0.long
+header_of-h-requires : tie.Need-header_of-h-requires invariant-loop-i decreases-loop-i
+header_of-h-requires c κs = c.requires.0.long
 
-flag-requires : tie.Need-flag-requires invariant-loop decreases-loop
-flag-requires c κs = omega arith
+flag-splits-requires : tie.Need-flag-splits-requires invariant-loop-i decreases-loop-i
+flag-splits-requires c κs = omega arith
 
-loop-holds : tie.Need-loop-init invariant-loop decreases-loop
-loop-holds c = keeping_none _ _ _ _ c.before.before.before.before.before.requires.1
+loop-i-init : tie.Need-loop-i-init invariant-loop-i decreases-loop-i
+loop-i-init c = keeping_none _ _ _ _ c.requires.1
 
-is-final-requires : tie.Need-is-final-requires invariant-loop decreases-loop
+is_final-requires : tie.Need-is_final-requires invariant-loop-i decreases-loop-i
 unfolding graph_in
-is-final-requires c κs =
-    let s = c.before.before.before.before.before.before.before.before.before in
-    let k = c.before.before.before.loop.invariant in
-    let l : c.before.before.before.loop.i < (graph_in s.args.numbers.now).header.entries = omega (arith, c.before.if1.true, entries_are _ _ c.before.before.before.before.before.header_of.ensures) in
-    (s.requires.0, (omega (arith, k.same_length, s.requires.1.long), l, entry_below _ _ _ _ s.requires.1 _ _ _ k l))
+is_final-requires c κs =
+    let k = c.loop-i.invariant in
+    let l : c.loop-i.i < (graph_in c.args.numbers.now).header.entries = omega (arith, c.loop-i-test.true, entries_are _ _ c.header_of-h.ensures) in
+    (c.requires.0, (omega (arith, k.same_length, c.requires.1.long), l, entry_below _ _ _ _ c.requires.1 _ _ _ k l))
 
-mul-plan : tie.Need-overflow-mul-plan invariant-loop decreases-loop
+offset_bounds-plan-i : tie.Need-offset_bounds-plan-i invariant-loop-i decreases-loop-i
 unfolding graph_in
-mul-plan c = record { fits = omega (arith, c.before.before.before.if1.true, c.before.before.before.before.before.loop.invariant.front, entries_are _ _ c.before.before.before.before.before.before.before.header_of.ensures, c.before.before.before.before.before.before.before.before.before.before.before.requires.0.few_entries) }
+offset_bounds-plan-i c = record { fits = omega (arith, c.loop-i-test.true, c.loop-i.invariant.front, entries_are _ _ c.header_of-h.ensures, c.requires.0.few_entries) }
 
-slice-read-plan : tie.Need-slice-read-plan invariant-loop decreases-loop
-slice-read-plan c = let k = c.before.before.before.before.before.before.loop.invariant in omega (arith, c.before.before.before.before.if1.true, entries_are _ _ c.before.before.before.before.before.before.before.before.header_of.ensures, k.same_length, c.before.before.before.before.before.before.before.before.before.before.before.before.requires.1.long)
+bounds-plan-i : tie.Need-bounds-plan-i invariant-loop-i decreases-loop-i
+bounds-plan-i c = let k = c.loop-i.invariant in omega (arith, c.loop-i-test.true, entries_are _ _ c.header_of-h.ensures, k.same_length, c.requires.1.long)
 
-mul-plan-2 : tie.Need-overflow-mul-plan-2 invariant-loop decreases-loop
+offset_bounds-plan-n : tie.Need-offset_bounds-plan-n invariant-loop-i decreases-loop-i
 unfolding graph_in
-mul-plan-2 c = record { fits = omega (arith, c.before.before.before.before.if1.true, c.before.before.before.before.before.before.loop.invariant.front, entries_are _ _ c.before.before.before.before.before.before.before.before.header_of.ensures, c.before.before.before.before.before.before.before.before.before.before.before.before.requires.0.few_entries) }
+offset_bounds-plan-n c = record { fits = omega (arith, c.loop-i-test.true, c.loop-i.invariant.front, entries_are _ _ c.header_of-h.ensures, c.requires.0.few_entries) }
 
-slice-write-plan : tie.Need-slice-write-plan invariant-loop decreases-loop
-slice-write-plan c = let k = c.before.before.before.before.before.before.loop.invariant in omega (arith, c.before.before.before.before.if1.true, entries_are _ _ c.before.before.before.before.before.before.before.before.header_of.ensures, k.front, k.same_length, c.before.before.before.before.before.before.before.before.before.before.before.before.requires.1.long)
+bounds-plan-n : tie.Need-bounds-plan-n invariant-loop-i decreases-loop-i
+bounds-plan-n c = let k = c.loop-i.invariant in omega (arith, c.loop-i-test.true, entries_are _ _ c.header_of-h.ensures, k.front, k.same_length, c.requires.1.long)
 
-add-n : tie.Need-overflow-add-n invariant-loop decreases-loop
+overflow_add-n : tie.Need-overflow_add-n invariant-loop-i decreases-loop-i
 unfolding graph_in
-add-n c = record { fits = omega (arith, c.before.before.before.before.if1.true, c.before.before.before.before.before.before.loop.invariant.front, entries_are _ _ c.before.before.before.before.before.before.before.before.header_of.ensures, c.before.before.before.before.before.before.before.before.before.before.before.before.requires.0.few_entries) }
+overflow_add-n c = record { fits = omega (arith, c.loop-i-test.true, c.loop-i.invariant.front, entries_are _ _ c.header_of-h.ensures, c.requires.0.few_entries) }
 
-add-i : tie.Need-overflow-add-i invariant-loop decreases-loop
+overflow_add-i : tie.Need-overflow_add-i invariant-loop-i decreases-loop-i
 unfolding graph_in
-add-i c = record { fits = omega (arith, c.before.before.before.if1.true, c.before.before.before.before.before.loop.invariant.front, entries_are _ _ c.before.before.before.before.before.before.before.header_of.ensures, c.before.before.before.before.before.before.before.before.before.before.before.requires.0.few_entries) }
+overflow_add-i c = record { fits = omega (arith, c.loop-i-test.true, c.loop-i.invariant.front, entries_are _ _ c.header_of-h.ensures, c.requires.0.few_entries) }
 
-loop-less : tie.Need-loop-smaller invariant-loop decreases-loop
-loop-less c = omega (arith, c.before.before.before.if1.true)
+loop-i-smaller : tie.Need-loop-i-smaller invariant-loop-i decreases-loop-i
+loop-i-smaller c = omega (arith, c.loop-i-test.true)
 
-loop-again : tie.Need-loop-preserved invariant-loop decreases-loop
+loop-i-preserved : tie.Need-loop-i-preserved invariant-loop-i decreases-loop-i
 unfolding graph_in
-loop-again c =
-    let s = c.before.before.before.before.before.before.before.before.before.before.before in
-    let k = c.before.before.before.before.before.loop.invariant in
-    let l : c.before.before.before.before.before.loop.i < (graph_in s.args.numbers.now).header.entries = omega (arith, c.before.before.before.if1.true, entries_are _ _ c.before.before.before.before.before.before.before.header_of.ensures) in
+loop-i-preserved c =
+    let k = c.loop-i.invariant in
+    let l : c.loop-i.i < (graph_in c.args.numbers.now).header.entries = omega (arith, c.loop-i-test.true, entries_are _ _ c.header_of-h.ensures) in
     ⊎_elim
-    (λ w. keeping-more _ _ _ _ s.requires.1 _ _ _ k l _ c.before.is-final.ensures _ _ w.0.taken w.2 w.3)
-    (λ w. keeping-passed _ _ _ _ s.requires.1 _ _ _ k l _ c.before.is-final.ensures _ _ w.0.left w.1 w.2)
-    c.if2.branch
+    (λ w. keeping-more _ _ _ _ c.requires.1 _ _ _ k l _ c.is_final.ensures _ _ w.0.taken w.2 w.3)
+    (λ w. keeping-passed _ _ _ _ c.requires.1 _ _ _ k l _ c.is_final.ensures _ _ w.0.left w.1 w.2)
+    c.if-is_final.branch
 
-same_length : tie.Need-same-length invariant-loop decreases-loop
-same_length c = c.before.before.loop.invariant.same_length
+shape_of-plan : tie.Need-shape_of-plan invariant-loop-i decreases-loop-i
+shape_of-plan c = c.loop-i.invariant.same_length
 
-returns : tie.Need-returns invariant-loop decreases-loop
+returns : tie.Need-returns invariant-loop-i decreases-loop-i
 unfolding graph_in
 returns c =
-    let s = c.before.before.before.before.before.before.before.before in
-    let k = c.before.before.loop.invariant in
-    let l : (graph_in s.args.numbers.now).header.entries ≤ c.before.before.loop.i = omega (arith, c.if1.false, entries_are _ _ c.before.before.before.before.header_of.ensures) in
-    (keeping-done _ _ _ _ s.requires.1 _ _ _ k l ∙ finals_are _ _ _ _ _ (splits_is _ _ _ c.before.before.before.before.header_of.ensures c.before.before.before.flag.ensures) s.requires.1, (omega (arith, k.front, k.inside), keeping-entries _ _ _ _ s.requires.1 _ _ _ k))
+    let k = c.loop-i.invariant in
+    let l : (graph_in c.args.numbers.now).header.entries ≤ c.loop-i.i = omega (arith, c.loop-i-test.false, entries_are _ _ c.header_of-h.ensures) in
+    (keeping-done _ _ _ _ c.requires.1 _ _ _ k l ∙ finals_are _ _ _ _ _ (splits_is _ _ _ c.header_of-h.ensures c.flag-splits.ensures) c.requires.1, (omega (arith, k.front, k.inside), keeping-entries _ _ _ _ c.requires.1 _ _ _ k))
 
-pub keep-final-spec : {M : Type 1} → statement M
-keep-final-spec =
+pub keep_final_spec : {M : Type 1} → statement M
+keep_final_spec =
     tie.close
     (tie.spec
-    invariant-loop
-    decreases-loop
-    header-of-requires
-    flag-requires
-    loop-holds
-    is-final-requires
-    mul-plan
-    slice-read-plan
-    mul-plan-2
-    slice-write-plan
-    add-n
-    add-i
-    loop-less
-    loop-again
-    same_length
+    invariant-loop-i
+    decreases-loop-i
+    header_of-h-requires
+    flag-splits-requires
+    loop-i-init
+    is_final-requires
+    offset_bounds-plan-i
+    bounds-plan-i
+    offset_bounds-plan-n
+    bounds-plan-n
+    overflow_add-n
+    overflow_add-i
+    loop-i-smaller
+    loop-i-preserved
+    shape_of-plan
     returns)

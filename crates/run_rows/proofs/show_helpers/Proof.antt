@@ -14,84 +14,83 @@ use native.Mathlib.Omega.{arith}
 use Rattle.run_rows.proofs.show_helpers.Statement.{statement}
 use Rattle.run_rows.proofs.show_helpers.Tie as tie
 
-abbrev invariant-loop : tie.invariant-loop
-invariant-loop numbers plan words₀ h at m₀ words m = (m ≤ h.modules) × (length words ≡ length words₀) × (words ≡ tabulate (λ i. get_or plan (words_at (header_in numbers) + i) 0) 0 m ++ drop m words₀)
+abbrev invariant-loop-m : tie.invariant-loop-m
+invariant-loop-m numbers plan words₀ h at m₀ words m = (m ≤ h.modules) × (length words ≡ length words₀) × (words ≡ tabulate (λ i. get_or plan (words_at (header_in numbers) + i) 0) 0 m ++ drop m words₀)
 
-abbrev decreases-loop : tie.decreases-loop
-decreases-loop numbers plan words₀ h at m₀ words m = h.modules - m
+abbrev decreases-loop-m : tie.decreases-loop-m
+decreases-loop-m numbers plan words₀ h at m₀ words m = h.modules - m
 
-header-of-requires : tie.Need-header-of-requires invariant-loop decreases-loop
-header-of-requires c κs = c.before.before.before.requires.0.0
+header_of-h-requires : tie.Need-header_of-h-requires invariant-loop-m decreases-loop-m
+header_of-h-requires c κs = c.requires.0.0
 
-words-at-requires : tie.Need-words-at-requires invariant-loop decreases-loop
+words_at-at-requires : tie.Need-words_at-at-requires invariant-loop-m decreases-loop-m
 unfolding graph_in
-words-at-requires c κs = omega (arith, modules_are _ _ c.header_of.ensures, entries_are _ _ c.header_of.ensures, c.before.before.before.before.requires.0.1, c.before.before.before.before.well-formed.1.0.1)
+words_at-at-requires c κs = omega (arith, modules_are _ _ c.header_of-h.ensures, entries_are _ _ c.header_of-h.ensures, c.requires.0.1, c.well-formed.1.0.1)
 
-loop-holds : tie.Need-loop-init invariant-loop decreases-loop
-loop-holds c = (omega arith, refl, fill_start _ _)
+loop-m-init : tie.Need-loop-m-init invariant-loop-m decreases-loop-m
+loop-m-init c = (omega arith, refl, fill_start _ _)
 
-add-narrow : tie.Need-overflow-add-narrow invariant-loop decreases-loop
+overflow_add-at : tie.Need-overflow_add-at invariant-loop-m decreases-loop-m
 unfolding graph_in
-add-narrow c = record { fits = omega (arith, c.if1.true, c.before.before.before.words-at.ensures, modules_are _ _ c.before.before.before.before.header_of.ensures, entries_are _ _ c.before.before.before.before.header_of.ensures, c.before.before.before.before.before.before.before.before.requires.0.1) }
+overflow_add-at c = record { fits = omega (arith, c.loop-m-test.true, c.words_at-at.ensures, modules_are _ _ c.header_of-h.ensures, entries_are _ _ c.header_of-h.ensures, c.requires.0.1) }
 
-mul-narrow : tie.Need-overflow-mul-narrow invariant-loop decreases-loop
+offset_bounds-plan-at : tie.Need-offset_bounds-plan-at invariant-loop-m decreases-loop-m
 unfolding graph_in
-mul-narrow c = record { fits = omega (arith, c.if1.true, c.before.before.before.words-at.ensures, modules_are _ _ c.before.before.before.before.header_of.ensures, entries_are _ _ c.before.before.before.before.header_of.ensures, c.before.before.before.before.before.before.before.before.requires.0.1) }
+offset_bounds-plan-at c = record { fits = omega (arith, c.loop-m-test.true, c.words_at-at.ensures, modules_are _ _ c.header_of-h.ensures, entries_are _ _ c.header_of-h.ensures, c.requires.0.1) }
 
-shared-slice-read-narrow : tie.Need-shared-slice-read-narrow invariant-loop decreases-loop
+bounds-plan-at : tie.Need-bounds-plan-at invariant-loop-m decreases-loop-m
 unfolding graph_in
-shared-slice-read-narrow c = omega (arith, c.before.if1.true, c.before.before.before.before.words-at.ensures, modules_are _ _ c.before.before.before.before.before.header_of.ensures, entries_are _ _ c.before.before.before.before.before.header_of.ensures, c.before.before.before.before.before.before.before.before.before.requires.0.1)
+bounds-plan-at c = omega (arith, c.loop-m-test.true, c.words_at-at.ensures, modules_are _ _ c.header_of-h.ensures, entries_are _ _ c.header_of-h.ensures, c.requires.0.1)
 
-narrow-requires : tie.Need-narrow-requires invariant-loop decreases-loop
+narrow-requires : tie.Need-narrow-requires invariant-loop-m decreases-loop-m
 unfolding graph_in
-narrow-requires c κs = let l : c.before.before.before.loop.m < (header_in c.before.before.before.before.before.before.before.before.before.args.numbers.now).modules = omega (arith, c.before.if1.true, modules_are _ _ c.before.before.before.before.before.header_of.ensures) in rw c.before.before.before.before.words-at.ensures (omega (arith, word_at _ _ c.before.before.before.before.before.header_of.ensures c.before.before.before.before.before.before.before.before.before.args.plan.now c.before.before.before.loop.m, c.before.before.before.before.before.before.before.before.before.requires.1 c.before.before.before.loop.m l))
+narrow-requires c κs = let l : c.loop-m.m < (header_in c.args.numbers.now).modules = omega (arith, c.loop-m-test.true, modules_are _ _ c.header_of-h.ensures) in rw c.words_at-at.ensures (omega (arith, word_at _ _ c.header_of-h.ensures c.args.plan.now c.loop-m.m, c.requires.1 c.loop-m.m l))
 
-mul_words : tie.Need-overflow-mul-words invariant-loop decreases-loop
+offset_bounds-words-m : tie.Need-offset_bounds-words-m invariant-loop-m decreases-loop-m
 unfolding graph_in
-mul_words c = record { fits = omega (arith, c.before.before.if1.true, modules_are _ _ c.before.before.before.before.before.before.header_of.ensures, entries_are _ _ c.before.before.before.before.before.before.header_of.ensures, c.before.before.before.before.before.before.before.before.before.before.requires.0.1) }
+offset_bounds-words-m c = record { fits = omega (arith, c.loop-m-test.true, modules_are _ _ c.header_of-h.ensures, entries_are _ _ c.header_of-h.ensures, c.requires.0.1) }
 
-slice-write-words : tie.Need-slice-write-words invariant-loop decreases-loop
+bounds-words-m : tie.Need-bounds-words-m invariant-loop-m decreases-loop-m
 unfolding graph_in
-slice-write-words c = omega (arith, c.before.before.if1.true, modules_are _ _ c.before.before.before.before.before.before.header_of.ensures, c.before.before.before.before.before.before.before.before.before.before.requires.0.2, c.before.before.before.before.loop.invariant.1)
+bounds-words-m c = omega (arith, c.loop-m-test.true, modules_are _ _ c.header_of-h.ensures, c.requires.0.2, c.loop-m.invariant.1)
 
-add-m : tie.Need-overflow-add-m invariant-loop decreases-loop
-add-m c = search rules
+overflow_add-m : tie.Need-overflow_add-m invariant-loop-m decreases-loop-m
+overflow_add-m c = search rules
 
-loop-less : tie.Need-loop-smaller invariant-loop decreases-loop
-loop-less c = omega (arith, c.before.before.if1.true)
+loop-m-smaller : tie.Need-loop-m-smaller invariant-loop-m decreases-loop-m
+loop-m-smaller c = omega (arith, c.loop-m-test.true)
 
-loop-again : tie.Need-loop-preserved invariant-loop decreases-loop
+loop-m-preserved : tie.Need-loop-m-preserved invariant-loop-m decreases-loop-m
 unfolding graph_in
-loop-again c =
-    let s = c.before.before.before.before.before.before.before.before.before.before in
-    let n = c.before.before.before.before.loop.invariant in
-    let l : c.before.before.before.before.loop.m < length s.args.words.now = omega (arith, c.before.before.if1.true, modules_are _ _ c.before.before.before.before.before.before.header_of.ensures, s.requires.0.2) in
-    (omega (arith, c.before.before.if1.true), length-set c.before.before.before.before.loop.words c.before.before.before.before.loop.m c.narrow.result ∙ n.1, fill_step _ _ _ _ _ n.2 l ((rw c.before.before.before.before.before.words-at.ensures at c.narrow.ensures) ∙ word_at _ _ c.before.before.before.before.before.before.header_of.ensures s.args.plan.now c.before.before.before.before.loop.m))
+loop-m-preserved c =
+    let n = c.loop-m.invariant in
+    let l : c.loop-m.m < length c.args.words.now = omega (arith, c.loop-m-test.true, modules_are _ _ c.header_of-h.ensures, c.requires.0.2) in
+    (omega (arith, c.loop-m-test.true), length-set c.loop-m.words c.loop-m.m c.narrow.result ∙ n.1, fill_step _ _ _ _ _ n.2 l ((rw c.words_at-at.ensures at c.narrow.ensures) ∙ word_at _ _ c.header_of-h.ensures c.args.plan.now c.loop-m.m))
 
-same_length : tie.Need-same-length invariant-loop decreases-loop
-same_length c = c.before.before.loop.invariant.1
+shape_of-words : tie.Need-shape_of-words invariant-loop-m decreases-loop-m
+shape_of-words c = c.loop-m.invariant.1
 
-returns : tie.Need-returns invariant-loop decreases-loop
+returns : tie.Need-returns invariant-loop-m decreases-loop-m
 unfolding graph_in
-returns c = words_done _ _ _ _ _ c.before.before.loop.invariant.2 (omega (arith, c.if1.false, c.before.before.loop.invariant.0, modules_are _ _ c.before.before.before.before.header_of.ensures))
+returns c = words_done _ _ _ _ _ c.loop-m.invariant.2 (omega (arith, c.loop-m-test.false, c.loop-m.invariant.0, modules_are _ _ c.header_of-h.ensures))
 
-pub show-helpers-spec : {M : Type 1} → statement M
-show-helpers-spec =
+pub show_helpers_spec : {M : Type 1} → statement M
+show_helpers_spec =
     tie.close
     (tie.spec
-    invariant-loop
-    decreases-loop
-    header-of-requires
-    words-at-requires
-    loop-holds
-    add-narrow
-    mul-narrow
-    shared-slice-read-narrow
+    invariant-loop-m
+    decreases-loop-m
+    header_of-h-requires
+    words_at-at-requires
+    loop-m-init
+    overflow_add-at
+    offset_bounds-plan-at
+    bounds-plan-at
     narrow-requires
-    mul_words
-    slice-write-words
-    add-m
-    loop-less
-    loop-again
-    same_length
+    offset_bounds-words-m
+    bounds-words-m
+    overflow_add-m
+    loop-m-smaller
+    loop-m-preserved
+    shape_of-words
     returns)

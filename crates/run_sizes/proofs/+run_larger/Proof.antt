@@ -190,8 +190,8 @@ same-length-44 t c = c.before.before.before.before.before.before.before.before.b
 returns-4 : (t : ℕ) → lts.Need-returns-4 (claims t) (here t) larger.Post
 returns-4 t c = c.before.before.before.before.before.before.before.before.before.before.before.before.before.before.before.before.before.before.before.before.before.before.run-largest.ensures
 
-pub +run-larger-spec : {M : Type 1} → statement M
-+run-larger-spec =
+pub +run_larger_spec : {M : Type 1} → statement M
++run_larger_spec =
     close μ λ t. lts.spec (claims t) (here t) larger.Post
     (sub-run-larger t)
     (run-larger-requires t)

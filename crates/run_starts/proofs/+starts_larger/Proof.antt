@@ -94,8 +94,8 @@ same-length-12 t c = c.before.before.before.before.before.before.starts-largest.
 returns-4 : (t : ℕ) → lts.Need-returns-4 (claims t) (here t) larger.Post
 returns-4 t c = c.before.before.before.before.before.before.starts-largest.ensures
 
-pub +starts-larger-spec : {M : Type 1} → statement M
-+starts-larger-spec =
+pub +starts_larger_spec : {M : Type 1} → statement M
++starts_larger_spec =
     close μ λ t. lts.spec (claims t) (here t) larger.Post
     (sub-starts-larger t)
     (starts-larger-requires t)

@@ -8,55 +8,55 @@ use Rattle.run_starts.proofs.Giving.{cleared_again, noted_start, taken_good, all
 use Rattle.run_starts.proofs.give.Statement.{statement}
 use Rattle.run_starts.proofs.give.Tie as tie
 
-slice-aggregate-note-all : tie.Need-slice-aggregate-note-all
-slice-aggregate-note-all c = length-replicate {A = ℕ} 1 0
+slice_bounds-note_all-end : tie.Need-slice_bounds-note_all-end
+slice_bounds-note_all-end c = length-replicate {A = ℕ} 1 0
 
-note-all-requires : tie.Need-note-all-requires
-note-all-requires c κs = let s = c.before.before.before.before.before.before.before.before in (s.requires.0, ((noted_start _ _ _ s.requires.1.1, s.requires.1.0.leaves.planned), taken_good _ _ _ _ s.requires.1.0))
+note_all-n-requires : tie.Need-note_all-n-requires
+note_all-n-requires c κs = (c.requires.0, ((noted_start _ _ _ c.requires.1.1, c.requires.1.0.leaves.planned), taken_good _ _ _ _ c.requires.1.0))
 
-mul-if1 : tie.Need-overflow-mul-if1
+overflow_mul-n : tie.Need-overflow_mul-n
 unfolding graph_in
-mul-if1 c = omega (arith, few_noted _ _ _ _ _ (all_noted _ _ _ _ c.before.before.before.before.before.before.before.before.before.before.before.before.requires.1.0 _ _ _ _ _ c.before.before.before.before.before.before.before.before.before.before.before.before.requires.1.1 c.before.before.before.note-all.ensures) (noted_few c.before.before.before.before.before.before.before.before.before.before.before.before.requires.0.loaded _ _ _))
+overflow_mul-n c = omega (arith, few_noted _ _ _ _ _ (all_noted _ _ _ _ c.requires.1.0 _ _ _ _ _ c.requires.1.1 c.note_all-n.ensures) (noted_few c.requires.0.loaded _ _ _))
 
-same_length : tie.Need-same-length
-same_length c = c.before.before.before.before.note-all.auto.1.1.1.1.1.0
+shape_of-seen-then-out-n : tie.Need-shape_of-seen-then-out-n
+shape_of-seen-then-out-n c = c.note_all-n.auto.1.1.1.1.1.0
 
-returns : tie.Need-returns
+returns-then-out-n : tie.Need-returns-then-out-n
 unfolding graph_in
-returns c = let l : length c.before.before.before.before.before.before.before.before.before.before.before.before.before.args.out.now < 3 * c.before.before.before.before.note-all.result = omega (arith, c.if1.true) in none_given _ _ _ _ _ (all_noted _ _ _ _ c.before.before.before.before.before.before.before.before.before.before.before.before.before.requires.1.0 _ _ _ _ _ c.before.before.before.before.before.before.before.before.before.before.before.before.before.requires.1.1 c.before.before.before.before.note-all.ensures) _ l
+returns-then-out-n c = let l : length c.args.out.now < 3 * c.note_all-n.result = omega (arith, c.if-out-n.true) in none_given _ _ _ _ _ (all_noted _ _ _ _ c.requires.1.0 _ _ _ _ _ c.requires.1.1 c.note_all-n.ensures) _ l
 
 clear-requires : tie.Need-clear-requires
 clear-requires c κs = omega arith
 
-note-all-requires-2 : tie.Need-note-all-requires-2
-note-all-requires-2 c κs = let s = c.before.before.before.before.before.before.before.before.before.before.before.before.before.before.before.before.before.before.before in (s.requires.0, ((noted_start _ _ _ (cleared_again _ c.before.before.before.before.before.before.before.before.before.before.before.before.before.before.before.before.before.before.before.args.seen.now c.before.before.before.before.before.before.before.before.before.before.note-all.new.1.1.1.1.1.0 _ c.before.before.before.before.before.before.before.before.before.before.before.before.before.before.before.before.before.before.before.requires.1.1.0 c.before.before.before.before.before.before.before.before.before.before.note-all.auto.1.1.1.1.1.0 c.before.before.before.before.clear.ensures), s.requires.1.0.leaves.planned), taken_good _ _ _ _ s.requires.1.0))
+note_all-requires : tie.Need-note_all-requires
+note_all-requires c κs = (c.requires.0, ((noted_start _ _ _ (cleared_again _ c.args.seen.now c.note_all-n.new.1.1.1.1.1.0 _ c.requires.1.1.0 c.note_all-n.auto.1.1.1.1.1.0 c.clear.ensures), c.requires.1.0.leaves.planned), taken_good _ _ _ _ c.requires.1.0))
 
-mul-t16 : tie.Need-overflow-mul-t16
+overflow_mul-result : tie.Need-overflow_mul-result
 unfolding graph_in
-mul-t16 c = omega (arith, few_noted _ _ _ _ _ (all_noted _ _ _ _ c.before.before.before.before.before.before.before.before.before.before.before.before.before.before.before.before.before.before.before.before.before.before.before.before.requires.1.0 _ _ _ _ _ c.before.before.before.before.before.before.before.before.before.before.before.before.before.before.before.before.before.before.before.before.before.before.before.before.requires.1.1 c.before.before.before.before.before.before.before.before.before.before.before.before.before.before.before.note-all.ensures) (noted_few c.before.before.before.before.before.before.before.before.before.before.before.before.before.before.before.before.before.before.before.before.before.before.before.before.requires.0.loaded _ _ _))
+overflow_mul-result c = omega (arith, few_noted _ _ _ _ _ (all_noted _ _ _ _ c.requires.1.0 _ _ _ _ _ c.requires.1.1 c.note_all-n.ensures) (noted_few c.requires.0.loaded _ _ _))
 
-same-length-2 : tie.Need-same-length-2
-same-length-2 c = c.before.before.before.before.note-all2.auto.1.1.1.1.1.0 ∙ c.before.before.before.before.before.before.before.before.before.clear.auto.0 ∙ c.before.before.before.before.before.before.before.before.before.before.before.before.before.before.before.note-all.auto.1.1.1.1.1.0
+shape_of-seen : tie.Need-shape_of-seen
+shape_of-seen c = c.note_all.auto.1.1.1.1.1.0 ∙ c.clear.auto.0 ∙ c.note_all-n.auto.1.1.1.1.1.0
 
-same-length-3 : tie.Need-same-length-3
-same-length-3 c = c.before.before.before.before.note-all2.auto.1.1.1.1.1.1.0
+shape_of-out : tie.Need-shape_of-out
+shape_of-out c = c.note_all.auto.1.1.1.1.1.1.0
 
-returns-2 : tie.Need-returns-2
+returns : tie.Need-returns
 unfolding graph_in
-returns-2 c = all_given _ _ _ _ _ (all_noted _ _ _ _ c.before.before.before.before.before.before.before.before.before.before.before.before.before.before.before.before.before.before.before.before.before.before.before.before.requires.1.0 _ _ _ _ _ c.before.before.before.before.before.before.before.before.before.before.before.before.before.before.before.before.before.before.before.before.before.before.before.before.requires.1.1 c.before.before.before.before.before.before.before.before.before.before.before.before.before.before.before.note-all.ensures) _ c.before.before.before.before.before.before.before.before.before.before.before.if1.false _ _ _ (all_noted _ _ _ _ c.before.before.before.before.before.before.before.before.before.before.before.before.before.before.before.before.before.before.before.before.before.before.before.before.requires.1.0 _ _ _ _ _ (cleared_again _ c.before.before.before.before.before.before.before.before.before.before.before.before.before.before.before.before.before.before.before.before.before.before.before.before.args.seen.now c.before.before.before.before.before.before.before.before.before.before.before.before.before.before.before.note-all.new.1.1.1.1.1.0 _ c.before.before.before.before.before.before.before.before.before.before.before.before.before.before.before.before.before.before.before.before.before.before.before.before.requires.1.1.0 c.before.before.before.before.before.before.before.before.before.before.before.before.before.before.before.note-all.auto.1.1.1.1.1.0 c.before.before.before.before.before.before.before.before.before.clear.ensures) c.before.before.before.before.note-all2.ensures)
+returns c = all_given _ _ _ _ _ (all_noted _ _ _ _ c.requires.1.0 _ _ _ _ _ c.requires.1.1 c.note_all-n.ensures) _ c.if-out-n.false _ _ _ (all_noted _ _ _ _ c.requires.1.0 _ _ _ _ _ (cleared_again _ c.args.seen.now c.note_all-n.new.1.1.1.1.1.0 _ c.requires.1.1.0 c.note_all-n.auto.1.1.1.1.1.0 c.clear.ensures) c.note_all.ensures)
 
 pub give_spec : {M : Type 1} → statement M
 give_spec =
     tie.close
     (tie.spec
-    slice-aggregate-note-all
-    note-all-requires
-    mul-if1
-    same_length
-    returns
+    slice_bounds-note_all-end
+    note_all-n-requires
+    overflow_mul-n
+    shape_of-seen-then-out-n
+    returns-then-out-n
     clear-requires
-    note-all-requires-2
-    mul-t16
-    same-length-2
-    same-length-3
-    returns-2)
+    note_all-requires
+    overflow_mul-result
+    shape_of-seen
+    shape_of-out
+    returns)

@@ -7,78 +7,78 @@ use Rattle.run_starts.proofs.starts.Statement.{statement}
 use Rattle.run_starts.proofs.starts.Tie as tie
 
 -- the header that was read
-begun : (c : tie.After-header-of) → HeaderRead c.before.before.before.before.before.before.before.before.args.numbers.now c.header_of.result
-begun c = record { end = c.before.enum_told.given.0.0; read = sym c.before.before.before.header.ensures ∙ c.before.enum_told.given.1; is = c.header_of.ensures }
+begun : (c : tie.After-header_of-h) → HeaderRead c.args.numbers.now c.header_of-h.result
+begun c = record { end = c.in-At.field-0; read = sym c.header.ensures ∙ c.in-At.is; is = c.header_of-h.ensures }
 
 header-requires : tie.Need-header-requires
 header-requires c κs = _
 
-enum-known-n : tie.Need-enum-known-n
-enum-known-n c = c.match.keys1
+enum_known-n : tie.Need-enum_known-n
+enum_known-n c = c.in-Fault.keys1
 
-enum_told : tie.Need-enum-told
-enum_told c = c.match.keys2
+enum_told-1 : tie.Need-enum_told-1
+enum_told-1 c = c.in-At.keys2
 
-header-of-requires : tie.Need-header-of-requires
-header-of-requires c κs = seven _ (at_got _ _ (sym c.before.before.header.ensures ∙ c.enum_told.given.1)).1
+header_of-h-requires : tie.Need-header_of-h-requires
+header_of-h-requires c κs = seven _ (at_got _ _ (sym c.header.ensures ∙ c.in-At.is)).1
 
 fits-requires : tie.Need-fits-requires
 fits-requires c κs = _
 
-starts-small-requires : tie.Need-starts-small-requires
-starts-small-requires c κs = (begun c.before.before.before.before.before, c.before.before.before.before.fits2.ensures c.before.before.before.if1.true)
+starts_small-requires : tie.Need-starts_small-requires
+starts_small-requires c κs = (begun c.before.before.before.before.before, c.fits.ensures c.if-fits.true)
 
-same_length : tie.Need-same-length
-same_length c = c.before.before.before.before.before.before.starts-small.auto.1.1.0
+shape_of-marks-then-fits : tie.Need-shape_of-marks-then-fits
+shape_of-marks-then-fits c = c.starts_small.auto.1.1.0
 
-same-length-2 : tie.Need-same-length-2
-same-length-2 c = c.before.before.before.before.before.before.starts-small.auto.1.1.1.0
+shape_of-lines-then-fits : tie.Need-shape_of-lines-then-fits
+shape_of-lines-then-fits c = c.starts_small.auto.1.1.1.0
 
-same-length-3 : tie.Need-same-length-3
-same-length-3 c = c.before.before.before.before.before.before.starts-small.auto.1.1.1.1.0
+shape_of-out-then-fits : tie.Need-shape_of-out-then-fits
+shape_of-out-then-fits c = c.starts_small.auto.1.1.1.1.0
 
-returns : tie.Need-returns
-returns c = c.before.before.before.before.before.before.starts-small.ensures
+returns-then-fits : tie.Need-returns-then-fits
+returns-then-fits c = c.starts_small.ensures
 
 apart-requires : tie.Need-apart-requires
 apart-requires c κs = _
 
-starts-larger-requires : tie.Need-starts-larger-requires
-starts-larger-requires c κs = begun c.before.before.before.before.before.before
+starts_larger-requires : tie.Need-starts_larger-requires
+starts_larger-requires c κs = begun c.before.before.before.before.before.before
 
-returns-2 : tie.Need-returns-2
-returns-2 c = ends_before _ _ _ _ (outcome_refused _ _ (check_stop_header _ (sym c.before.before.before.header.ensures ∙ c.before.n.given.1)))
+returns-in-Fault : tie.Need-returns-in-Fault
+returns-in-Fault c = ends_before _ _ _ _ (outcome_refused _ _ (check_stop_header _ (sym c.header.ensures ∙ c.in-Fault.is)))
 
-same-length-4 : tie.Need-same-length-4
-same-length-4 c = c.before.before.before.before.before.before.starts-larger.auto.1.1.0
+shape_of-marks : tie.Need-shape_of-marks
+shape_of-marks c = c.starts_larger.auto.1.1.0
 
-same-length-5 : tie.Need-same-length-5
-same-length-5 c = c.before.before.before.before.before.before.starts-larger.auto.1.1.1.0
+shape_of-lines : tie.Need-shape_of-lines
+shape_of-lines c = c.starts_larger.auto.1.1.1.0
 
-same-length-6 : tie.Need-same-length-6
-same-length-6 c = c.before.before.before.before.before.before.starts-larger.auto.1.1.1.1.0
+shape_of-out : tie.Need-shape_of-out
+shape_of-out c = c.starts_larger.auto.1.1.1.1.0
 
-returns-3 : tie.Need-returns-3
-returns-3 c = c.before.before.before.before.before.before.starts-larger.ensures
+returns-else-fits : tie.Need-returns-else-fits
+returns-else-fits c = c.starts_larger.ensures
 
-pub starts-spec : {M : Type 1} → statement M
-starts-spec =
+pub starts_spec : {M : Type 1} → statement M
+starts_spec =
     tie.close
     (tie.spec
     header-requires
-    enum-known-n
-    enum_told
-    header-of-requires
+    enum_known-n
+    enum_told-1
+    header_of-h-requires
     fits-requires
-    starts-small-requires
-    same_length
-    same-length-2
-    same-length-3
-    returns
+    starts_small-requires
+    shape_of-marks-then-fits
+    shape_of-lines-then-fits
+    shape_of-out-then-fits
+    returns-then-fits
     apart-requires
-    starts-larger-requires
-    returns-2
-    same-length-4
-    same-length-5
-    same-length-6
-    returns-3)
+    starts_larger-requires
+    returns-in-Fault
+    shape_of-marks
+    shape_of-lines
+    shape_of-out
+    returns-else-fits)

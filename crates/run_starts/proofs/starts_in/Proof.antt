@@ -7,78 +7,78 @@ use Rattle.run_starts.proofs.starts_in.Statement.{statement}
 use Rattle.run_starts.proofs.starts_in.Tie as tie
 
 ready-requires : tie.Need-ready-requires
-ready-requires c κs = let s = c.before.before.before.before.before.before.before.before.before in (s.requires.0, s.requires.1.0)
+ready-requires c κs = (c.requires.0, c.requires.1.0)
 
-enum-known-n : tie.Need-enum-known-n
-enum-known-n c = c.match.keys1
+enum_known-n : tie.Need-enum_known-n
+enum_known-n c = c.in-Refused.keys1
 
-enum_told : tie.Need-enum-told
-enum_told c = c.match.keys2
+enum_told-1 : tie.Need-enum_told-1
+enum_told-1 c = c.in-Accepted.keys2
 
-mark-count-requires : tie.Need-mark-count-requires
-mark-count-requires c κs = (c.before.before.before.before.before.ready.ensures.1.known c.before.enum_told.given.1).0.loaded
+mark_count-requires : tie.Need-mark_count-requires
+mark_count-requires c κs = (c.ready.ensures.1.known c.in-Accepted.is).0.loaded
 
-bytes-for-requires : tie.Need-bytes-for-requires
-bytes-for-requires c κs = omega (arith, c.mark-count.ensures, few_marks _ _ (c.before.before.before.before.before.before.ready.ensures.1.known c.before.before.enum_told.given.1).0.loaded)
+bytes_for-requires : tie.Need-bytes_for-requires
+bytes_for-requires c κs = omega (arith, c.mark_count.ensures, few_marks _ _ (c.ready.ensures.1.known c.in-Accepted.is).0.loaded)
 
-same_length : tie.Need-same-length
-same_length c = c.before.before.before.before.before.before.before.before.ready.auto.1.1.0
+shape_of-tables-then-marks-bytes_for : tie.Need-shape_of-tables-then-marks-bytes_for
+shape_of-tables-then-marks-bytes_for c = c.ready.auto.1.1.0
 
-returns : tie.Need-returns
-returns c = ends_before _ _ _ _ (outcome_short _ (sym c.before.before.before.before.before.before.before.before.ready.ensures.0 ∙ c.before.before.before.before.enum_told.given.1) c.before.before.mark-count.ensures c.before.bytes-for.ensures _ c.if1.true)
+returns-then-marks-bytes_for : tie.Need-returns-then-marks-bytes_for
+returns-then-marks-bytes_for c = ends_before _ _ _ _ (outcome_short _ (sym c.ready.ensures.0 ∙ c.in-Accepted.is) c.mark_count.ensures c.bytes_for.ensures _ c.if-marks-bytes_for.true)
 
-work-and-give-requires : tie.Need-work-and-give-requires
-work-and-give-requires c κs = let s = c.before.before.before.before.before.before.before.before.before.before.before.before.before.before.before.before.before.before.before.before.before.before.before.before.before in let e = s.requires.0.is in let q = s.requires.1.1 in ((c.before.before.before.before.before.before.before.before.before.before.before.before.before.before.before.ready.ensures.1.known c.before.before.before.before.before.before.before.before.before.before.before.enum_told.given.1).0, ((marks_fit _ (sym c.before.before.before.before.before.before.before.before.before.before.before.before.before.before.before.ready.ensures.0 ∙ c.before.before.before.before.before.before.before.before.before.before.before.enum_told.given.1) c.before.before.before.before.before.before.before.before.before.mark-count.ensures c.before.before.before.before.before.before.before.before.bytes-for.ensures _ c.before.before.before.before.before.before.before.if1.false, partners_fit _ _ e _ q.0.0, q.0.1), ((plan_fits _ _ e _ q.1.0.0, q.1.0.1, q.1.0.2), (seen_fits _ _ e _ q.1.1.0, q.1.1.1))))
+work_and_give-requires : tie.Need-work_and_give-requires
+work_and_give-requires c κs = let e = c.requires.0.is in let q = c.requires.1.1 in ((c.ready.ensures.1.known c.in-Accepted.is).0, ((marks_fit _ (sym c.ready.ensures.0 ∙ c.in-Accepted.is) c.mark_count.ensures c.bytes_for.ensures _ c.if-marks-bytes_for.false, partners_fit _ _ e _ q.0.0, q.0.1), ((plan_fits _ _ e _ q.1.0.0, q.1.0.1, q.1.0.2), (seen_fits _ _ e _ q.1.1.0, q.1.1.1))))
 
-same-length-2 : tie.Need-same-length-2
-same-length-2 c = c.before.before.before.before.before.ready.auto.1.1.0
+shape_of-tables-in-Refused : tie.Need-shape_of-tables-in-Refused
+shape_of-tables-in-Refused c = c.ready.auto.1.1.0
 
-returns-2 : tie.Need-returns-2
-returns-2 c = ends_before _ _ _ _ (outcome_refused _ _ (sym c.before.before.before.before.before.ready.ensures.0 ∙ c.before.n.given.1))
+returns-in-Refused : tie.Need-returns-in-Refused
+returns-in-Refused c = ends_before _ _ _ _ (outcome_refused _ _ (sym c.ready.ensures.0 ∙ c.in-Refused.is))
 
-same-length-3 : tie.Need-same-length-3
-same-length-3 c = c.before.before.before.before.before.before.before.before.before.before.before.before.before.before.before.before.before.before.before.before.before.before.before.before.before.before.before.before.ready.auto.1.1.0
+shape_of-tables-else-marks-bytes_for : tie.Need-shape_of-tables-else-marks-bytes_for
+shape_of-tables-else-marks-bytes_for c = c.ready.auto.1.1.0
 
-same-length-4 : tie.Need-same-length-4
-same-length-4 c = c.before.before.before.before.before.before.before.before.before.before.before.before.work-and-give.auto.1.1.0
+shape_of-partners : tie.Need-shape_of-partners
+shape_of-partners c = c.work_and_give.auto.1.1.0
 
-same-length-5 : tie.Need-same-length-5
-same-length-5 c = c.before.before.before.before.before.before.before.before.before.before.before.before.work-and-give.auto.1.1.1.0
+shape_of-plan : tie.Need-shape_of-plan
+shape_of-plan c = c.work_and_give.auto.1.1.1.0
 
-same-length-6 : tie.Need-same-length-6
-same-length-6 c = c.before.before.before.before.before.before.before.before.before.before.before.before.work-and-give.auto.1.1.1.1.0
+shape_of-seen : tie.Need-shape_of-seen
+shape_of-seen c = c.work_and_give.auto.1.1.1.1.0
 
-same-length-7 : tie.Need-same-length-7
-same-length-7 c = c.before.before.before.before.before.before.before.before.before.before.before.before.work-and-give.auto.1.1.1.1.1.0
+shape_of-marks : tie.Need-shape_of-marks
+shape_of-marks c = c.work_and_give.auto.1.1.1.1.1.0
 
-same-length-8 : tie.Need-same-length-8
-same-length-8 c = c.before.before.before.before.before.before.before.before.before.before.before.before.work-and-give.auto.1.1.1.1.1.1.0
+shape_of-lines : tie.Need-shape_of-lines
+shape_of-lines c = c.work_and_give.auto.1.1.1.1.1.1.0
 
-same-length-9 : tie.Need-same-length-9
-same-length-9 c = c.before.before.before.before.before.before.before.before.before.before.before.before.work-and-give.auto.1.1.1.1.1.1.1.0
+shape_of-out : tie.Need-shape_of-out
+shape_of-out c = c.work_and_give.auto.1.1.1.1.1.1.1.0
 
-returns-3 : tie.Need-returns-3
-returns-3 c = ends_same _ _ _ _ _ (outcome_work _ (sym c.before.before.before.before.before.before.before.before.before.before.before.before.before.before.before.before.before.before.before.before.before.before.before.before.before.before.before.before.ready.ensures.0 ∙ c.before.before.before.before.before.before.before.before.before.before.before.before.before.before.before.before.before.before.before.before.before.before.before.before.enum_told.given.1) c.before.before.before.before.before.before.before.before.before.before.before.before.before.before.before.before.before.before.before.before.before.before.mark-count.ensures c.before.before.before.before.before.before.before.before.before.before.before.before.before.before.before.before.before.before.before.before.before.bytes-for.ensures _ c.before.before.before.before.before.before.before.before.before.before.before.before.before.before.before.before.before.before.before.before.if1.false) c.before.before.before.before.before.before.before.before.before.before.before.before.work-and-give.ensures
+returns-else-marks-bytes_for : tie.Need-returns-else-marks-bytes_for
+returns-else-marks-bytes_for c = ends_same _ _ _ _ _ (outcome_work _ (sym c.ready.ensures.0 ∙ c.in-Accepted.is) c.mark_count.ensures c.bytes_for.ensures _ c.if-marks-bytes_for.false) c.work_and_give.ensures
 
-pub starts-in-spec : {M : Type 1} → statement M
-starts-in-spec =
+pub starts_in_spec : {M : Type 1} → statement M
+starts_in_spec =
     tie.close
     (tie.spec
     ready-requires
-    enum-known-n
-    enum_told
-    mark-count-requires
-    bytes-for-requires
-    same_length
-    returns
-    work-and-give-requires
-    same-length-2
-    returns-2
-    same-length-3
-    same-length-4
-    same-length-5
-    same-length-6
-    same-length-7
-    same-length-8
-    same-length-9
-    returns-3)
+    enum_known-n
+    enum_told-1
+    mark_count-requires
+    bytes_for-requires
+    shape_of-tables-then-marks-bytes_for
+    returns-then-marks-bytes_for
+    work_and_give-requires
+    shape_of-tables-in-Refused
+    returns-in-Refused
+    shape_of-tables-else-marks-bytes_for
+    shape_of-partners
+    shape_of-plan
+    shape_of-seen
+    shape_of-marks
+    shape_of-lines
+    shape_of-out
+    returns-else-marks-bytes_for)

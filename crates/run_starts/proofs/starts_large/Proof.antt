@@ -9,43 +9,43 @@ use Rattle.run_starts.proofs.Tiers.{partners_long, seen_clear}
 use Rattle.run_starts.proofs.starts_large.Statement.{statement}
 use Rattle.run_starts.proofs.starts_large.Tie as tie
 
-slice-aggregate-starts-in : tie.Need-slice-aggregate-starts-in
-slice-aggregate-starts-in c = length-replicate {A = ℕ} 22539 0
+slice_bounds-starts_in-end : tie.Need-slice_bounds-starts_in-end
+slice_bounds-starts_in-end c = length-replicate {A = ℕ} 22539 0
 
-slice-aggregate-starts-in-2 : tie.Need-slice-aggregate-starts-in-2
-slice-aggregate-starts-in-2 c = length-replicate {A = ℕ} 7168 0
+slice_bounds-starts_in-end-2 : tie.Need-slice_bounds-starts_in-end-2
+slice_bounds-starts_in-end-2 c = length-replicate {A = ℕ} 7168 0
 
-slice-aggregate-starts-in-3 : tie.Need-slice-aggregate-starts-in-3
-slice-aggregate-starts-in-3 c = length-replicate {A = ℕ} 5120 0
+slice_bounds-starts_in-end-3 : tie.Need-slice_bounds-starts_in-end-3
+slice_bounds-starts_in-end-3 c = length-replicate {A = ℕ} 5120 0
 
-slice-aggregate-starts-in-4 : tie.Need-slice-aggregate-starts-in-4
-slice-aggregate-starts-in-4 c = length-replicate {A = ℕ} 33024 0
+slice_bounds-starts_in-end-4 : tie.Need-slice_bounds-starts_in-end-4
+slice_bounds-starts_in-end-4 c = length-replicate {A = ℕ} 33024 0
 
-starts-in-requires : tie.Need-starts-in-requires
-starts-in-requires c κs = let s = c.before.before.before.before.before.before.before.before.before.before.before in let h = s.args.h in let f = s.requires.1 in (s.requires.0, (tables_long h Large 22539 refl (omega arith) f, (partners_long h 1024 4096 7168 (omega arith) f.0 f.1, (plan_long h 1024 5120 (omega arith) (omega arith) f.0 f.3, seen_clear h 1024 4096 4096 33024 (omega arith) f.0 f.1 f.2))))
+starts_in-requires : tie.Need-starts_in-requires
+starts_in-requires c κs = let h = c.args.h in let f = c.requires.1 in (c.requires.0, (tables_long h Large 22539 refl (omega arith) f, (partners_long h 1024 4096 7168 (omega arith) f.0 f.1, (plan_long h 1024 5120 (omega arith) (omega arith) f.0 f.3, seen_clear h 1024 4096 4096 33024 (omega arith) f.0 f.1 f.2))))
 
-same_length : tie.Need-same-length
-same_length c = c.before.before.before.before.before.before.before.before.before.before.starts_in.auto.1.1.1.1.1.1.0
+shape_of-marks : tie.Need-shape_of-marks
+shape_of-marks c = c.starts_in.auto.1.1.1.1.1.1.0
 
-same-length-2 : tie.Need-same-length-2
-same-length-2 c = c.before.before.before.before.before.before.before.before.before.before.starts_in.auto.1.1.1.1.1.1.1.0
+shape_of-lines : tie.Need-shape_of-lines
+shape_of-lines c = c.starts_in.auto.1.1.1.1.1.1.1.0
 
-same-length-3 : tie.Need-same-length-3
-same-length-3 c = c.before.before.before.before.before.before.before.before.before.before.starts_in.auto.1.1.1.1.1.1.1.1.0
+shape_of-out : tie.Need-shape_of-out
+shape_of-out c = c.starts_in.auto.1.1.1.1.1.1.1.1.0
 
 returns : tie.Need-returns
-returns c = c.before.before.before.before.before.before.before.before.before.before.starts_in.ensures
+returns c = c.starts_in.ensures
 
-pub starts-large-spec : {M : Type 1} → statement M
-starts-large-spec =
+pub starts_large_spec : {M : Type 1} → statement M
+starts_large_spec =
     tie.close
     (tie.spec
-    slice-aggregate-starts-in
-    slice-aggregate-starts-in-2
-    slice-aggregate-starts-in-3
-    slice-aggregate-starts-in-4
-    starts-in-requires
-    same_length
-    same-length-2
-    same-length-3
+    slice_bounds-starts_in-end
+    slice_bounds-starts_in-end-2
+    slice_bounds-starts_in-end-3
+    slice_bounds-starts_in-end-4
+    starts_in-requires
+    shape_of-marks
+    shape_of-lines
+    shape_of-out
     returns)

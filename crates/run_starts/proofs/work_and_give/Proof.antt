@@ -5,110 +5,110 @@ use Rattle.run_starts.proofs.work_and_give.Statement.{statement}
 use Rattle.run_starts.proofs.work_and_give.Tie as tie
 
 work-requires : tie.Need-work-requires
-work-requires c κs = let s = c.before.before.before.before.before.before.before.before.before.before.before.before in (s.requires.0, (s.requires.1.0, s.requires.1.1.0))
+work-requires c κs = (c.requires.0, (c.requires.1.0, c.requires.1.1.0))
 
-enum_told : tie.Need-enum-told
-enum_told c = c.match.keys1
+enum_told-1 : tie.Need-enum_told-1
+enum_told-1 c = c.in-Full.keys1
 
-enum-known-x : tie.Need-enum-known-x
-enum-known-x c = c.match.keys2
+enum_known-x : tie.Need-enum_known-x
+enum_known-x c = c.in-Done.keys2
 
 give-requires : tie.Need-give-requires
-give-requires c κs = let s = c.before.before.before.before.before.before.before.before.before.before.before.before.before.before.before.before.before.before.before.before.before.before.before.before.before.before.before.before in (s.requires.0, (main_reached _ _ _ _ _ _ _ _ c.before.before.before.before.before.before.before.before.before.before.before.before.before.before.before.work.ensures _ c.before.before.before.before.before.x.given.1, s.requires.1.1.1))
+give-requires c κs = (c.requires.0, (main_reached _ _ _ _ _ _ _ _ c.work.ensures _ c.in-Done.is, c.requires.1.1.1))
 
-enum-known-n : tie.Need-enum-known-n
-enum-known-n c = c.match2.keys1
+enum_known-n : tie.Need-enum_known-n
+enum_known-n c = c.in-Refused.keys1
 
 clear-requires : tie.Need-clear-requires
 clear-requires c κs = _
 
-enum-known-n-2 : tie.Need-enum-known-n-2
-enum-known-n-2 c = c.match2.keys2
+enum_known-n-in-Numbers-1 : tie.Need-enum_known-n-in-Numbers-1
+enum_known-n-in-Numbers-1 c = c.in-Numbers.keys2
 
-same_length : tie.Need-same-length
-same_length c = c.before.before.before.before.before.before.before.before.before.before.work.auto.1.1.0
+shape_of-partners-in-Full : tie.Need-shape_of-partners-in-Full
+shape_of-partners-in-Full c = c.work.auto.1.1.0
 
-same-length-2 : tie.Need-same-length-2
-same-length-2 c = c.before.before.before.before.before.before.before.before.before.before.work.auto.1.1.1.1.1.0
+shape_of-plan-in-Full : tie.Need-shape_of-plan-in-Full
+shape_of-plan-in-Full c = c.work.auto.1.1.1.1.1.0
 
-same-length-3 : tie.Need-same-length-3
-same-length-3 c = c.before.before.before.before.before.before.before.before.before.before.work.auto.1.1.1.0
+shape_of-marks-in-Full : tie.Need-shape_of-marks-in-Full
+shape_of-marks-in-Full c = c.work.auto.1.1.1.0
 
-same-length-4 : tie.Need-same-length-4
-same-length-4 c = c.before.before.before.before.before.before.before.before.before.before.work.auto.1.1.1.1.0
+shape_of-lines-in-Full : tie.Need-shape_of-lines-in-Full
+shape_of-lines-in-Full c = c.work.auto.1.1.1.1.0
 
-returns : tie.Need-returns
-returns c = ends_full _ _ _ _ _ _ _ c.before.before.before.before.before.before.before.before.before.before.work.ensures _ c.enum_told.given.1
+returns-in-Full : tie.Need-returns-in-Full
+returns-in-Full c = ends_full _ _ _ _ _ _ _ c.work.ensures _ c.in-Full.is
 
-same-length-5 : tie.Need-same-length-5
-same-length-5 c = c.before.before.before.before.before.before.before.before.before.before.before.before.before.before.before.before.before.before.before.before.before.before.before.before.before.before.before.before.before.before.work.auto.1.1.0
+shape_of-partners-in-Refused : tie.Need-shape_of-partners-in-Refused
+shape_of-partners-in-Refused c = c.work.auto.1.1.0
 
-same-length-6 : tie.Need-same-length-6
-same-length-6 c = c.before.before.before.before.before.before.before.before.before.before.before.before.before.before.before.before.before.before.before.before.before.before.before.before.before.before.before.before.before.before.work.auto.1.1.1.1.1.0
+shape_of-plan-in-Refused : tie.Need-shape_of-plan-in-Refused
+shape_of-plan-in-Refused c = c.work.auto.1.1.1.1.1.0
 
-same-length-7 : tie.Need-same-length-7
-same-length-7 c = c.before.before.before.before.before.before.before.before.before.before.before.before.before.before.give.auto.1.1.1.1.1.0
+shape_of-seen-in-Refused : tie.Need-shape_of-seen-in-Refused
+shape_of-seen-in-Refused c = c.give.auto.1.1.1.1.1.0
 
-same-length-8 : tie.Need-same-length-8
-same-length-8 c = c.before.before.before.before.clear.auto.0 ∙ c.before.before.before.before.before.before.before.before.before.before.before.before.before.before.before.before.before.before.before.before.before.before.before.before.before.before.before.before.before.before.work.auto.1.1.1.0
+shape_of-marks-in-Refused : tie.Need-shape_of-marks-in-Refused
+shape_of-marks-in-Refused c = c.clear.auto.0 ∙ c.work.auto.1.1.1.0
 
-same-length-9 : tie.Need-same-length-9
-same-length-9 c = search rules
+shape_of-lines-in-Refused : tie.Need-shape_of-lines-in-Refused
+shape_of-lines-in-Refused c = search rules
 
-same-length-10 : tie.Need-same-length-10
-same-length-10 c = search rules
+shape_of-out-in-Refused : tie.Need-shape_of-out-in-Refused
+shape_of-out-in-Refused c = search rules
 
-returns-2 : tie.Need-returns-2
-returns-2 c = ends-cleared _ _ _ _ _ _ _ c.before.before.before.before.before.before.before.before.before.before.before.before.before.before.before.before.before.before.before.before.before.before.before.before.before.before.before.before.before.before.work.ensures _ c.before.before.before.before.before.before.before.before.before.before.before.before.before.before.before.before.before.before.before.before.x.given.1 _ c.before.before.before.before.before.before.before.before.before.before.before.before.before.before.before.before.before.before.before.before.before.before.before.before.before.before.before.before.before.before.work.auto.1.1.1.0 c.before.before.before.before.before.before.before.before.before.before.before.before.before.before.before.before.before.before.before.before.before.before.before.before.before.before.before.before.before.before.work.auto.1.1.1.1.0 _ _ c.before.before.before.before.before.before.before.before.before.before.before.before.before.before.give.ensures c.before.before.before.before.before.before.before.before.n.given.1 _ _ c.before.before.before.before.clear.ensures.0 c.before.before.before.before.clear.ensures.1
+returns-in-Refused : tie.Need-returns-in-Refused
+returns-in-Refused c = ends-cleared _ _ _ _ _ _ _ c.work.ensures _ c.in-Done.is _ c.work.auto.1.1.1.0 c.work.auto.1.1.1.1.0 _ _ c.give.ensures c.in-Refused.is _ _ c.clear.ensures.0 c.clear.ensures.1
 
-same-length-11 : tie.Need-same-length-11
-same-length-11 c = c.before.before.before.before.before.before.before.before.before.before.before.before.before.before.before.before.before.before.before.before.before.before.before.work.auto.1.1.0
+shape_of-partners-in-Numbers : tie.Need-shape_of-partners-in-Numbers
+shape_of-partners-in-Numbers c = c.work.auto.1.1.0
 
-same-length-12 : tie.Need-same-length-12
-same-length-12 c = c.before.before.before.before.before.before.before.before.before.before.before.before.before.before.before.before.before.before.before.before.before.before.before.work.auto.1.1.1.1.1.0
+shape_of-plan-in-Numbers : tie.Need-shape_of-plan-in-Numbers
+shape_of-plan-in-Numbers c = c.work.auto.1.1.1.1.1.0
 
-same-length-13 : tie.Need-same-length-13
-same-length-13 c = c.before.before.before.before.before.before.before.give.auto.1.1.1.1.1.0
+shape_of-seen-in-Numbers : tie.Need-shape_of-seen-in-Numbers
+shape_of-seen-in-Numbers c = c.give.auto.1.1.1.1.1.0
 
-same-length-14 : tie.Need-same-length-14
-same-length-14 c = c.before.before.before.before.before.before.before.before.before.before.before.before.before.before.before.before.before.before.before.before.before.before.before.work.auto.1.1.1.0
+shape_of-marks-in-Numbers : tie.Need-shape_of-marks-in-Numbers
+shape_of-marks-in-Numbers c = c.work.auto.1.1.1.0
 
-same-length-15 : tie.Need-same-length-15
-same-length-15 c = c.before.before.before.before.before.before.before.before.before.before.before.before.before.before.before.before.before.before.before.before.before.before.before.work.auto.1.1.1.1.0
+shape_of-lines-in-Numbers : tie.Need-shape_of-lines-in-Numbers
+shape_of-lines-in-Numbers c = c.work.auto.1.1.1.1.0
 
-same-length-16 : tie.Need-same-length-16
-same-length-16 c = c.before.before.before.before.before.before.before.give.auto.1.1.1.1.1.1.0
+shape_of-out-in-Numbers : tie.Need-shape_of-out-in-Numbers
+shape_of-out-in-Numbers c = c.give.auto.1.1.1.1.1.1.0
 
-returns-3 : tie.Need-returns-3
-returns-3 c = ends-given _ _ _ _ _ _ _ c.before.before.before.before.before.before.before.before.before.before.before.before.before.before.before.before.before.before.before.before.before.before.before.work.ensures _ c.before.before.before.before.before.before.before.before.before.before.before.before.before.x.given.1 _ c.before.before.before.before.before.before.before.before.before.before.before.before.before.before.before.before.before.before.before.before.before.before.before.work.auto.1.1.1.0 c.before.before.before.before.before.before.before.before.before.before.before.before.before.before.before.before.before.before.before.before.before.before.before.work.auto.1.1.1.1.0 _ _ c.before.before.before.before.before.before.before.give.ensures c.before.n2.given.1 (λ i. (c.before.before.before.before.before.before.before.before.before.before.before.before.before.before.before.before.before.before.before.slice-known8.given i).fits)
+returns-in-Numbers : tie.Need-returns-in-Numbers
+returns-in-Numbers c = ends-given _ _ _ _ _ _ _ c.work.ensures _ c.in-Done.is _ c.work.auto.1.1.1.0 c.work.auto.1.1.1.1.0 _ _ c.give.ensures c.in-Numbers.is (λ i. (c.slice_known-8-1.given i).fits)
 
-pub work-and-give-spec : {M : Type 1} → statement M
-work-and-give-spec =
+pub work_and_give_spec : {M : Type 1} → statement M
+work_and_give_spec =
     tie.close
     (tie.spec
     work-requires
-    enum_told
-    enum-known-x
+    enum_told-1
+    enum_known-x
     give-requires
-    enum-known-n
+    enum_known-n
     clear-requires
-    enum-known-n-2
-    same_length
-    same-length-2
-    same-length-3
-    same-length-4
-    returns
-    same-length-5
-    same-length-6
-    same-length-7
-    same-length-8
-    same-length-9
-    same-length-10
-    returns-2
-    same-length-11
-    same-length-12
-    same-length-13
-    same-length-14
-    same-length-15
-    same-length-16
-    returns-3)
+    enum_known-n-in-Numbers-1
+    shape_of-partners-in-Full
+    shape_of-plan-in-Full
+    shape_of-marks-in-Full
+    shape_of-lines-in-Full
+    returns-in-Full
+    shape_of-partners-in-Refused
+    shape_of-plan-in-Refused
+    shape_of-seen-in-Refused
+    shape_of-marks-in-Refused
+    shape_of-lines-in-Refused
+    shape_of-out-in-Refused
+    returns-in-Refused
+    shape_of-partners-in-Numbers
+    shape_of-plan-in-Numbers
+    shape_of-seen-in-Numbers
+    shape_of-marks-in-Numbers
+    shape_of-lines-in-Numbers
+    shape_of-out-in-Numbers
+    returns-in-Numbers)

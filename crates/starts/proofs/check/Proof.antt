@@ -9,103 +9,103 @@ use native.Mathlib.Omega.{arith}
 use Rattle.starts.proofs.check.Statement.{statement}
 use Rattle.starts.proofs.check.Tie as tie
 
-abbrev invariant-loop : tie.invariant-loop
-invariant-loop numbers tables starts total i₀ i = (i ≤ total) × (starts_fault (graph_in numbers) starts i (total - i) ≡ starts_fault (graph_in numbers) starts 0 total)
+abbrev invariant-loop-i : tie.invariant-loop-i
+invariant-loop-i numbers tables starts total i₀ i = (i ≤ total) × (starts_fault (graph_in numbers) starts i (total - i) ≡ starts_fault (graph_in numbers) starts 0 total)
 
-abbrev decreases-loop : tie.decreases-loop
-decreases-loop numbers tables starts total i₀ i = total - i
+abbrev decreases-loop-i : tie.decreases-loop-i
+decreases-loop-i numbers tables starts total i₀ i = total - i
 
-returns : tie.Need-returns invariant-loop decreases-loop
-returns c = odd_checked _ _ c.if1.true
+returns-then-starts-ne0 : tie.Need-returns-then-starts-ne0 invariant-loop-i decreases-loop-i
+returns-then-starts-ne0 c = odd_checked _ _ c.if-starts-ne0.true
 
-loop-holds : tie.Need-loop-init invariant-loop decreases-loop
-loop-holds c = (omega arith, starts_begin _ _)
+loop-i-init : tie.Need-loop-i-init invariant-loop-i decreases-loop-i
+loop-i-init c = (omega arith, starts_begin _ _)
 
-mul-p : tie.Need-overflow-mul-p invariant-loop decreases-loop
-mul-p c = search rules
+overflow_mul-p : tie.Need-overflow_mul-p invariant-loop-i decreases-loop-i
+overflow_mul-p c = search rules
 
-mul_wide : tie.Need-overflow-mul-wide invariant-loop decreases-loop
-mul_wide c = search rules
+offset_bounds-starts-p : tie.Need-offset_bounds-starts-p invariant-loop-i decreases-loop-i
+offset_bounds-starts-p c = search rules
 
-shared-slice-read-wide : tie.Need-shared-slice-read-wide invariant-loop decreases-loop
-shared-slice-read-wide c = search rules
+bounds-starts-p : tie.Need-bounds-starts-p invariant-loop-i decreases-loop-i
+bounds-starts-p c = search rules
 
-wide-requires : tie.Need-wide-requires invariant-loop decreases-loop
+wide-requires : tie.Need-wide-requires invariant-loop-i decreases-loop-i
 wide-requires c κs = search rules
 
-add_wide : tie.Need-overflow-add-wide invariant-loop decreases-loop
-add_wide c = search rules
+overflow_add-p : tie.Need-overflow_add-p invariant-loop-i decreases-loop-i
+overflow_add-p c = search rules
 
-mul-wide-2 : tie.Need-overflow-mul-wide-2 invariant-loop decreases-loop
-mul-wide-2 c = search rules
+offset_bounds-starts-p-in-loop-i : tie.Need-offset_bounds-starts-p-in-loop-i invariant-loop-i decreases-loop-i
+offset_bounds-starts-p-in-loop-i c = search rules
 
-shared-slice-read-wide-2 : tie.Need-shared-slice-read-wide-2 invariant-loop decreases-loop
-shared-slice-read-wide-2 c = search rules
+bounds-starts-p-in-loop-i : tie.Need-bounds-starts-p-in-loop-i invariant-loop-i decreases-loop-i
+bounds-starts-p-in-loop-i c = search rules
 
-wide-requires-2 : tie.Need-wide-requires-2 invariant-loop decreases-loop
-wide-requires-2 c κs = search rules
+wide-requires-in-loop-i : tie.Need-wide-requires-in-loop-i invariant-loop-i decreases-loop-i
+wide-requires-in-loop-i c κs = search rules
 
-add-wide-2 : tie.Need-overflow-add-wide-2 invariant-loop decreases-loop
-add-wide-2 c = search rules
+overflow_add-p-in-loop-i : tie.Need-overflow_add-p-in-loop-i invariant-loop-i decreases-loop-i
+overflow_add-p-in-loop-i c = search rules
 
-mul-wide-3 : tie.Need-overflow-mul-wide-3 invariant-loop decreases-loop
-mul-wide-3 c = search rules
+offset_bounds-starts-p-in-loop-i-2 : tie.Need-offset_bounds-starts-p-in-loop-i-2 invariant-loop-i decreases-loop-i
+offset_bounds-starts-p-in-loop-i-2 c = search rules
 
-shared-slice-read-wide-3 : tie.Need-shared-slice-read-wide-3 invariant-loop decreases-loop
-shared-slice-read-wide-3 c = search rules
+bounds-starts-p-in-loop-i-2 : tie.Need-bounds-starts-p-in-loop-i-2 invariant-loop-i decreases-loop-i
+bounds-starts-p-in-loop-i-2 c = search rules
 
-wide-requires-3 : tie.Need-wide-requires-3 invariant-loop decreases-loop
-wide-requires-3 c κs = search rules
+wide-requires-in-loop-i-2 : tie.Need-wide-requires-in-loop-i-2 invariant-loop-i decreases-loop-i
+wide-requires-in-loop-i-2 c κs = search rules
 
-start-fault-requires : tie.Need-start-fault-requires invariant-loop decreases-loop
-start-fault-requires c κs = search rules
+start_fault-fault-requires : tie.Need-start_fault-fault-requires invariant-loop-i decreases-loop-i
+start_fault-fault-requires c κs = search rules
 
-add-t27 : tie.Need-overflow-add-t27 invariant-loop decreases-loop
-add-t27 c = let s : c.before.start-fault.result ≤ 3 = rw c.before.start-fault.ensures (fault_small _ _ _ _) in let l : 3 * c.before.before.before.before.before.before.before.before.before.loop.i + 2 < length c.before.before.before.before.before.before.before.before.before.before.before.before.before.before.args.starts.now = omega (arith, c.before.before.before.before.before.before.before.before.loop-test.true) in record { fits = omega (arith, s, l) }
+overflow_add-result : tie.Need-overflow_add-result invariant-loop-i decreases-loop-i
+overflow_add-result c = let s : c.start_fault-fault.result ≤ 3 = rw c.start_fault-fault.ensures (fault_small _ _ _ _) in let l : 3 * c.loop-i.i + 2 < length c.args.starts.now = omega (arith, c.loop-i-test.true) in record { fits = omega (arith, s, l) }
 
-sub-t28 : tie.Need-overflow-sub-t28 invariant-loop decreases-loop
-sub-t28 c = let n = c.if2.true in omega (arith, n)
+overflow_sub-result : tie.Need-overflow_sub-result invariant-loop-i decreases-loop-i
+overflow_sub-result c = let n = c.if-fault-ne0.true in omega (arith, n)
 
-returns-2 : tie.Need-returns-2 invariant-loop decreases-loop
-returns-2 c = stop-checked _ _ _ _ c.before.before.before.before.before.before.before.before.before.before.if1.false c.before.before.before.before.before.before.before.before.loop-test.true c.before.before.before.before.before.before.before.before.before.loop.invariant.1 (fault_read _ _ _ _ _ _ _ c.before.before.before.before.before.before.wide.ensures c.before.before.before.before.wide2.ensures c.before.before.wide3.ensures c.before.start-fault.ensures) c.if2.true
+returns-then-fault-ne0 : tie.Need-returns-then-fault-ne0 invariant-loop-i decreases-loop-i
+returns-then-fault-ne0 c = stop-checked _ _ _ _ c.if-starts-ne0.false c.loop-i-test.true c.loop-i.invariant.1 (fault_read _ _ _ _ _ _ _ c.wide.ensures c.wide-in-loop-i.ensures c.wide-in-loop-i-2.ensures c.start_fault-fault.ensures) c.if-fault-ne0.true
 
-add-i : tie.Need-overflow-add-i invariant-loop decreases-loop
-add-i c = search rules
+overflow_add-i : tie.Need-overflow_add-i invariant-loop-i decreases-loop-i
+overflow_add-i c = search rules
 
-loop-less : tie.Need-loop-smaller invariant-loop decreases-loop
-loop-less c = omega (arith, c.before.before.before.before.before.before.before.before.loop-test.true)
+loop-i-smaller : tie.Need-loop-i-smaller invariant-loop-i decreases-loop-i
+loop-i-smaller c = omega (arith, c.loop-i-test.true)
 
-loop-again : tie.Need-loop-preserved invariant-loop decreases-loop
-loop-again c = (omega (arith, c.before.before.before.before.before.before.before.before.loop-test.true), turn-checked _ _ _ _ c.before.before.before.before.before.before.before.before.before.before.if1.false c.before.before.before.before.before.before.before.before.loop-test.true c.before.before.before.before.before.before.before.before.before.loop.invariant.1 (fault_read _ _ _ _ _ _ _ c.before.before.before.before.before.before.wide.ensures c.before.before.before.before.wide2.ensures c.before.before.wide3.ensures c.before.start-fault.ensures) c.if2.false)
+loop-i-preserved : tie.Need-loop-i-preserved invariant-loop-i decreases-loop-i
+loop-i-preserved c = (omega (arith, c.loop-i-test.true), turn-checked _ _ _ _ c.if-starts-ne0.false c.loop-i-test.true c.loop-i.invariant.1 (fault_read _ _ _ _ _ _ _ c.wide.ensures c.wide-in-loop-i.ensures c.wide-in-loop-i-2.ensures c.start_fault-fault.ensures) c.if-fault-ne0.false)
 
-returns-3 : tie.Need-returns-3 invariant-loop decreases-loop
-returns-3 c = end_checked _ _ _ c.before.before.if1.false (omega (arith, c.loop-test.false)) c.before.loop.invariant.1
+returns : tie.Need-returns invariant-loop-i decreases-loop-i
+returns c = end_checked _ _ _ c.if-starts-ne0.false (omega (arith, c.loop-i-test.false)) c.loop-i.invariant.1
 
-pub check-spec : {M : Type 1} → statement M
-check-spec =
+pub check_spec : {M : Type 1} → statement M
+check_spec =
     tie.close
     (tie.spec
-    invariant-loop
-    decreases-loop
-    returns
-    loop-holds
-    mul-p
-    mul_wide
-    shared-slice-read-wide
+    invariant-loop-i
+    decreases-loop-i
+    returns-then-starts-ne0
+    loop-i-init
+    overflow_mul-p
+    offset_bounds-starts-p
+    bounds-starts-p
     wide-requires
-    add_wide
-    mul-wide-2
-    shared-slice-read-wide-2
-    wide-requires-2
-    add-wide-2
-    mul-wide-3
-    shared-slice-read-wide-3
-    wide-requires-3
-    start-fault-requires
-    add-t27
-    sub-t28
-    returns-2
-    add-i
-    loop-less
-    loop-again
-    returns-3)
+    overflow_add-p
+    offset_bounds-starts-p-in-loop-i
+    bounds-starts-p-in-loop-i
+    wide-requires-in-loop-i
+    overflow_add-p-in-loop-i
+    offset_bounds-starts-p-in-loop-i-2
+    bounds-starts-p-in-loop-i-2
+    wide-requires-in-loop-i-2
+    start_fault-fault-requires
+    overflow_add-result
+    overflow_sub-result
+    returns-then-fault-ne0
+    overflow_add-i
+    loop-i-smaller
+    loop-i-preserved
+    returns)

@@ -5,18 +5,24 @@ use borrow.Author.Rules.{rules}
 use Rattle.starts.proofs.is_normal_index.Statement.{statement}
 use Rattle.starts.proofs.is_normal_index.Tie as tie
 
-header-of-requires : tie.Need-header-of-requires
-header-of-requires c κs = search rules
+header_of-h-requires : tie.Need-header_of-h-requires
+header_of-h-requires c κs = search rules
+
+returns-then-m-h : tie.Need-returns-then-m-h
+returns-then-m-h c = kept_out _ _ (omega (arith, c.if-m-h.true, modules_are _ c.header_of-h.ensures))
+
+is_normal-requires : tie.Need-is_normal-requires
+unfolding graph_in
+is_normal-requires c κs = (c.requires, omega (arith, c.if-m-h.false, modules_are _ c.header_of-h.ensures))
 
 returns : tie.Need-returns
-returns c = kept_out _ _ (omega (arith, c.if1.true, modules_are _ c.before.before.header_of.ensures))
+returns c = kept_in _ _ _ (omega (arith, c.if-m-h.false, modules_are _ c.header_of-h.ensures)) c.is_normal.ensures
 
-is-normal-requires : tie.Need-is-normal-requires
-unfolding graph_in
-is-normal-requires c κs = (c.before.before.before.before.before.requires, omega (arith, c.if1.false, modules_are _ c.before.before.header_of.ensures))
-
-returns-2 : tie.Need-returns-2
-returns-2 c = kept_in _ _ _ (omega (arith, c.before.if1.false, modules_are _ c.before.before.before.header_of.ensures)) c.is_normal.ensures
-
-pub is-normal-index-spec : {M : Type 1} → statement M
-is-normal-index-spec = tie.close (tie.spec header-of-requires returns is-normal-requires returns-2)
+pub is_normal_index_spec : {M : Type 1} → statement M
+is_normal_index_spec =
+    tie.close
+    (tie.spec
+    header_of-h-requires
+    returns-then-m-h
+    is_normal-requires
+    returns)

@@ -7,22 +7,28 @@ use borrow.Author.Rules.{rules}
 use Rattle.starts.proofs.statement_fault.Statement.{statement}
 use Rattle.starts.proofs.statement_fault.Tie as tie
 
-is-normal-index-requires : tie.Need-is-normal-index-requires
-is-normal-index-requires c κs = search rules
+is_normal_index-requires : tie.Need-is_normal_index-requires
+is_normal_index-requires c κs = search rules
+
+returns-then-not-is_normal_index : tie.Need-returns-then-not-is_normal_index
+returns-then-not-is_normal_index c = statement_not _ _ _ (sym c.is_normal_index.ensures ∙ not_true _ c.if-not-is_normal_index.true)
+
+statement_count-requires : tie.Need-statement_count-requires
+unfolding graph_in
+statement_count-requires c κs = (c.requires, (kept_both _ _ (sym c.is_normal_index.ensures ∙ not-false _ c.if-not-is_normal_index.false)).0)
+
+returns-then-b-statement_count : tie.Need-returns-then-b-statement_count
+returns-then-b-statement_count c = statement_in _ _ _ (sym c.is_normal_index.ensures ∙ not-false _ c.if-not-is_normal_index.false) (omega (arith, c.if-b-statement_count.true, c.statement_count.ensures))
 
 returns : tie.Need-returns
-returns c = statement_not _ _ _ (sym c.before.is-normal-index.ensures ∙ not_true _ c.if1.true)
+returns c = statement_out _ _ _ (sym c.is_normal_index.ensures ∙ not-false _ c.if-not-is_normal_index.false) (omega (arith, c.if-b-statement_count.false, c.statement_count.ensures))
 
-statement-count-requires : tie.Need-statement-count-requires
-unfolding graph_in
-statement-count-requires c κs = (c.before.before.before.before.requires, (kept_both _ _ (sym c.before.is-normal-index.ensures ∙ not-false _ c.if1.false)).0)
-
-returns-2 : tie.Need-returns-2
-returns-2 c = statement_in _ _ _ (sym c.before.before.before.is-normal-index.ensures ∙ not-false _ c.before.before.if1.false) (omega (arith, c.if2.true, c.before.statement-count.ensures))
-
-returns-3 : tie.Need-returns-3
-returns-3 c = statement_out _ _ _ (sym c.before.before.before.is-normal-index.ensures ∙ not-false _ c.before.before.if1.false) (omega (arith, c.if2.false, c.before.statement-count.ensures))
-
-pub statement-fault-spec : {M : Type 1} → statement M
-statement-fault-spec =
-    tie.close (tie.spec is-normal-index-requires returns statement-count-requires returns-2 returns-3)
+pub statement_fault_spec : {M : Type 1} → statement M
+statement_fault_spec =
+    tie.close
+    (tie.spec
+    is_normal_index-requires
+    returns-then-not-is_normal_index
+    statement_count-requires
+    returns-then-b-statement_count
+    returns)

@@ -4,20 +4,27 @@ use borrow.Author.Rules.{rules}
 use Rattle.starts.proofs.use_fault.Statement.{statement}
 use Rattle.starts.proofs.use_fault.Tie as tie
 
-header-of-requires : tie.Need-header-of-requires
-header-of-requires c κs = search rules
+header_of-h-requires : tie.Need-header_of-h-requires
+header_of-h-requires c κs = search rules
+
+returns-then-a-h : tie.Need-returns-then-a-h
+returns-then-a-h c = use_out _ _ _ (omega (arith, c.if-a-h.true, symbols_are _ c.header_of-h.ensures))
+
+returns-then-b-eq0 : tie.Need-returns-then-b-eq0
+returns-then-b-eq0 c = use-none _ _ _ (omega (arith, c.if-a-h.false, symbols_are _ c.header_of-h.ensures)) c.if-b-eq0.true
+
+returns-then-b-lt32 : tie.Need-returns-then-b-lt32
+returns-then-b-lt32 c = use-in _ _ _ (omega (arith, c.if-a-h.false, symbols_are _ c.header_of-h.ensures)) c.if-b-eq0.false c.if-b-lt32.true
 
 returns : tie.Need-returns
-returns c = use_out _ _ _ (omega (arith, c.if1.true, symbols_are _ c.before.before.header_of.ensures))
+returns c = use-many _ _ _ (omega (arith, c.if-a-h.false, symbols_are _ c.header_of-h.ensures)) c.if-b-eq0.false (omega (arith, c.if-b-lt32.false))
 
-returns-2 : tie.Need-returns-2
-returns-2 c = use-none _ _ _ (omega (arith, c.before.if1.false, symbols_are _ c.before.before.before.header_of.ensures)) c.if2.true
-
-returns-3 : tie.Need-returns-3
-returns-3 c = use-in _ _ _ (omega (arith, c.before.before.if1.false, symbols_are _ c.before.before.before.before.header_of.ensures)) c.before.if2.false c.if3.true
-
-returns-4 : tie.Need-returns-4
-returns-4 c = use-many _ _ _ (omega (arith, c.before.before.if1.false, symbols_are _ c.before.before.before.before.header_of.ensures)) c.before.if2.false (omega (arith, c.if3.false))
-
-pub use-fault-spec : {M : Type 1} → statement M
-use-fault-spec = tie.close (tie.spec header-of-requires returns returns-2 returns-3 returns-4)
+pub use_fault_spec : {M : Type 1} → statement M
+use_fault_spec =
+    tie.close
+    (tie.spec
+    header_of-h-requires
+    returns-then-a-h
+    returns-then-b-eq0
+    returns-then-b-lt32
+    returns)

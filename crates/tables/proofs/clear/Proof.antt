@@ -5,67 +5,67 @@ use native.Mathlib.Omega.{arith}
 use Rattle.tables.proofs.clear.Statement.{statement}
 use Rattle.tables.proofs.clear.Tie as tie
 
-abbrev invariant-loop : tie.invariant-loop
-invariant-loop tables₀ k end at₀ tables at = Clearing k tables₀ tables at
+abbrev invariant-loop-at : tie.invariant-loop-at
+invariant-loop-at tables₀ k end at₀ tables at = Clearing k tables₀ tables at
 
-abbrev decreases-loop : tie.decreases-loop
-decreases-loop tables₀ k end at₀ tables at = end - at
+abbrev decreases-loop-at : tie.decreases-loop-at
+decreases-loop-at tables₀ k end at₀ tables at = end - at
 
-add-end : tie.Need-overflow-add-end invariant-loop decreases-loop
-add-end c = omega (arith, c.requires.0.layout, c.requires.0.few)
+overflow_add-end : tie.Need-overflow_add-end invariant-loop-at decreases-loop-at
+overflow_add-end c = omega (arith, c.requires.0.layout, c.requires.0.few)
 
-mul-end : tie.Need-overflow-mul-end invariant-loop decreases-loop
-mul-end c = search rules
+offset_bounds-tables-k : tie.Need-offset_bounds-tables-k invariant-loop-at decreases-loop-at
+offset_bounds-tables-k c = search rules
 
-slice-read-end : tie.Need-slice-read-end invariant-loop decreases-loop
-slice-read-end c = search rules
+bounds-tables-k : tie.Need-bounds-tables-k invariant-loop-at decreases-loop-at
+bounds-tables-k c = search rules
 
-mul_at : tie.Need-overflow-mul-at invariant-loop decreases-loop
-mul_at c = search rules
+offset_bounds-tables-k-2 : tie.Need-offset_bounds-tables-k-2 invariant-loop-at decreases-loop-at
+offset_bounds-tables-k-2 c = search rules
 
-slice-read-at : tie.Need-slice-read-at invariant-loop decreases-loop
-slice-read-at c = search rules
+bounds-tables-k-2 : tie.Need-bounds-tables-k-2 invariant-loop-at decreases-loop-at
+bounds-tables-k-2 c = search rules
 
-loop-holds : tie.Need-loop-init invariant-loop decreases-loop
-loop-holds c = clearing_start _ _ c.before.before.requires.0
+loop-at-init : tie.Need-loop-at-init invariant-loop-at decreases-loop-at
+loop-at-init c = clearing_start _ _ c.requires.0
 
-mul-tables : tie.Need-overflow-mul-tables invariant-loop decreases-loop
-mul-tables c = omega (arith, c.before.loop.invariant.low, c.loop-test.true, c.before.before.before.before.requires.0.ends, c.before.before.before.before.requires.0.few, c.before.loop.invariant.kept.same_length)
+offset_bounds-tables-at : tie.Need-offset_bounds-tables-at invariant-loop-at decreases-loop-at
+offset_bounds-tables-at c = omega (arith, c.loop-at.invariant.low, c.loop-at-test.true, c.requires.0.ends, c.requires.0.few, c.loop-at.invariant.kept.same_length)
 
-slice-write-tables : tie.Need-slice-write-tables invariant-loop decreases-loop
-slice-write-tables c = omega (arith, c.before.loop.invariant.low, c.loop-test.true, c.before.before.before.before.requires.0.ends, c.before.before.before.before.requires.0.few, c.before.loop.invariant.kept.same_length)
+bounds-tables-at : tie.Need-bounds-tables-at invariant-loop-at decreases-loop-at
+bounds-tables-at c = omega (arith, c.loop-at.invariant.low, c.loop-at-test.true, c.requires.0.ends, c.requires.0.few, c.loop-at.invariant.kept.same_length)
 
-add_at : tie.Need-overflow-add-at invariant-loop decreases-loop
-add_at c = omega (arith, c.before.loop.invariant.low, c.loop-test.true, c.before.before.before.before.requires.0.ends, c.before.before.before.before.requires.0.few, c.before.loop.invariant.kept.same_length)
+overflow_add-at : tie.Need-overflow_add-at invariant-loop-at decreases-loop-at
+overflow_add-at c = omega (arith, c.loop-at.invariant.low, c.loop-at-test.true, c.requires.0.ends, c.requires.0.few, c.loop-at.invariant.kept.same_length)
 
-loop-less : tie.Need-loop-smaller invariant-loop decreases-loop
-loop-less c = search rules
+loop-at-smaller : tie.Need-loop-at-smaller invariant-loop-at decreases-loop-at
+loop-at-smaller c = search rules
 
-loop-again : tie.Need-loop-preserved invariant-loop decreases-loop
-loop-again c = clearing_step _ _ c.before.before.before.before.requires.0 _ _ c.before.loop.invariant c.loop-test.true
+loop-at-preserved : tie.Need-loop-at-preserved invariant-loop-at decreases-loop-at
+loop-at-preserved c = clearing_step _ _ c.requires.0 _ _ c.loop-at.invariant c.loop-at-test.true
 
-same_length : tie.Need-same-length invariant-loop decreases-loop
-same_length c = c.before.loop.invariant.kept.same_length
+shape_of-tables : tie.Need-shape_of-tables invariant-loop-at decreases-loop-at
+shape_of-tables c = c.loop-at.invariant.kept.same_length
 
-returns : tie.Need-returns invariant-loop decreases-loop
-returns c = (c.before.loop.invariant.kept, clearing_done _ _ c.before.before.before.before.requires.0 _ _ c.before.loop.invariant c.loop-test.false c.before.before.before.before.requires.1)
+returns : tie.Need-returns invariant-loop-at decreases-loop-at
+returns c = (c.loop-at.invariant.kept, clearing_done _ _ c.requires.0 _ _ c.loop-at.invariant c.loop-at-test.false c.requires.1)
 
 pub clear_spec : {M : Type 1} → statement M
 clear_spec =
     tie.close
     (tie.spec
-    invariant-loop
-    decreases-loop
-    add-end
-    mul-end
-    slice-read-end
-    mul_at
-    slice-read-at
-    loop-holds
-    mul-tables
-    slice-write-tables
-    add_at
-    loop-less
-    loop-again
-    same_length
+    invariant-loop-at
+    decreases-loop-at
+    overflow_add-end
+    offset_bounds-tables-k
+    bounds-tables-k
+    offset_bounds-tables-k-2
+    bounds-tables-k-2
+    loop-at-init
+    offset_bounds-tables-at
+    bounds-tables-at
+    overflow_add-at
+    loop-at-smaller
+    loop-at-preserved
+    shape_of-tables
     returns)

@@ -1,55 +1,55 @@
 use Rattle.tables.proofs.fits.Statement.{statement}
 use Rattle.tables.proofs.fits.Tie as tie
 
-enum_told : tie.Need-enum-told
-enum_told c = c.match.keys1
+enum_told-1 : tie.Need-enum_told-1
+enum_told-1 c = c.in-Small.keys1
 
 holds-requires : tie.Need-holds-requires
 holds-requires c κs = _
 
-enum-told-2 : tie.Need-enum-told-2
-enum-told-2 c = c.match.keys2
+enum_told-in-Middle : tie.Need-enum_told-in-Middle
+enum_told-in-Middle c = c.in-Middle.keys2
 
-holds-requires-2 : tie.Need-holds-requires-2
-holds-requires-2 c κs = _
+holds-requires-in-Middle : tie.Need-holds-requires-in-Middle
+holds-requires-in-Middle c κs = _
 
-enum-told-3 : tie.Need-enum-told-3
-enum-told-3 c = c.match.keys3
+enum_told-in-Large : tie.Need-enum_told-in-Large
+enum_told-in-Large c = c.in-Large.keys3
 
-holds-requires-3 : tie.Need-holds-requires-3
-holds-requires-3 c κs = _
+holds-requires-in-Large : tie.Need-holds-requires-in-Large
+holds-requires-in-Large c κs = _
 
-enum-told-4 : tie.Need-enum-told-4
-enum-told-4 c = c.match.keys4
+enum_told-in-Largest : tie.Need-enum_told-in-Largest
+enum_told-in-Largest c = c.in-Largest.keys4
 
-holds-requires-4 : tie.Need-holds-requires-4
-holds-requires-4 c κs = _
+holds-requires-in-Largest : tie.Need-holds-requires-in-Largest
+holds-requires-in-Largest c κs = _
 
-returns : tie.Need-returns
-returns c = rw c.before.enum_told.given.1 c.holds.ensures
+returns-in-Small : tie.Need-returns-in-Small
+returns-in-Small c = rw c.in-Small.is c.holds.ensures
 
-returns-2 : tie.Need-returns-2
-returns-2 c = rw c.before.enum-told2.given.1 c.holds2.ensures
+returns-in-Middle : tie.Need-returns-in-Middle
+returns-in-Middle c = rw c.in-Middle.is c.holds-in-Middle.ensures
 
-returns-3 : tie.Need-returns-3
-returns-3 c = rw c.before.enum-told3.given.1 c.holds3.ensures
+returns-in-Large : tie.Need-returns-in-Large
+returns-in-Large c = rw c.in-Large.is c.holds-in-Large.ensures
 
-returns-4 : tie.Need-returns-4
-returns-4 c = rw c.before.enum-told4.given.1 c.holds4.ensures
+returns-in-Largest : tie.Need-returns-in-Largest
+returns-in-Largest c = rw c.in-Largest.is c.holds-in-Largest.ensures
 
-pub fits-spec : {M : Type 1} → statement M
-fits-spec =
+pub fits_spec : {M : Type 1} → statement M
+fits_spec =
     tie.close
     (tie.spec
-    enum_told
+    enum_told-1
     holds-requires
-    enum-told-2
-    holds-requires-2
-    enum-told-3
-    holds-requires-3
-    enum-told-4
-    holds-requires-4
-    returns
-    returns-2
-    returns-3
-    returns-4)
+    enum_told-in-Middle
+    holds-requires-in-Middle
+    enum_told-in-Large
+    holds-requires-in-Large
+    enum_told-in-Largest
+    holds-requires-in-Largest
+    returns-in-Small
+    returns-in-Middle
+    returns-in-Large
+    returns-in-Largest)

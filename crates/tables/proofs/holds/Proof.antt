@@ -3,17 +3,23 @@ use borrow.Author.Rules.{rules}
 use Rattle.tables.proofs.holds.Statement.{statement}
 use Rattle.tables.proofs.holds.Tie as tie
 
+returns-then-h-few : tie.Need-returns-then-h-few
+returns-then-h-few c = λ e. absurd (false≢true e)
+
+returns-then-h-many : tie.Need-returns-then-h-many
+returns-then-h-many c = λ e. absurd (false≢true e)
+
+returns-then-h-many-2 : tie.Need-returns-then-h-many-2
+returns-then-h-many-2 c = λ e. absurd (false≢true e)
+
 returns : tie.Need-returns
-returns c = λ e. absurd (false≢true e)
+returns c = search rules
 
-returns-2 : tie.Need-returns-2
-returns-2 c = λ e. absurd (false≢true e)
-
-returns-3 : tie.Need-returns-3
-returns-3 c = λ e. absurd (false≢true e)
-
-returns-4 : tie.Need-returns-4
-returns-4 c = search rules
-
-pub holds-spec : {M : Type 1} → statement M
-holds-spec = tie.close (tie.spec returns returns-2 returns-3 returns-4)
+pub holds_spec : {M : Type 1} → statement M
+holds_spec =
+    tie.close
+    (tie.spec
+    returns-then-h-few
+    returns-then-h-many
+    returns-then-h-many-2
+    returns)

@@ -10,73 +10,73 @@ use Rattle.tables.proofs.Laying.{Laying, laying_start, laying-step, laying-end}
 use Rattle.tables.proofs.lay_out.Statement.{statement}
 use Rattle.tables.proofs.lay_out.Tie as tie
 
-abbrev invariant-loop : tie.invariant-loop
-invariant-loop tables₀ sizes at₀ k₀ tables at k = Laying sizes tables₀ tables at k
+abbrev invariant-loop-k : tie.invariant-loop-k
+invariant-loop-k tables₀ sizes at₀ k₀ tables at k = Laying sizes tables₀ tables at k
 
-abbrev decreases-loop : tie.decreases-loop
-decreases-loop tables₀ sizes at₀ k₀ tables at k = 10 - k
+abbrev decreases-loop-k : tie.decreases-loop-k
+decreases-loop-k tables₀ sizes at₀ k₀ tables at k = 10 - k
 
 -- where the section behind number k begins
-small : (c : tie.In-loop invariant-loop decreases-loop) → c.before.loop.at + get_or (sizes c.before.before.args.h) c.before.loop.k 0 ≤ 71691
+small : (c : tie.In-loop-k invariant-loop-k decreases-loop-k) → c.loop-k.at + get_or (sizes c.args.h) c.loop-k.k 0 ≤ 71691
 unfolding start_of sizes
 small c =
-    let h = c.before.before.args.h in
-    let k = c.before.loop.k in
-    omega (arith, c.before.loop.invariant.sum, start_next h k, start_mono h (k + 1) 10 (omega (arith, c.loop-test.true)), fits_all h Largest c.before.before.requires.1)
+    let h = c.args.h in
+    let k = c.loop-k.k in
+    omega (arith, c.loop-k.invariant.sum, start_next h k, start_mono h (k + 1) 10 (omega (arith, c.loop-k-test.true)), fits_all h Largest c.requires.1)
 
-loop-holds : tie.Need-loop-init invariant-loop decreases-loop
-loop-holds c = laying_start _ _
+loop-k-init : tie.Need-loop-k-init invariant-loop-k decreases-loop-k
+loop-k-init c = laying_start _ _
 
-mul-tables : tie.Need-overflow-mul-tables invariant-loop decreases-loop
-mul-tables c = search rules
+offset_bounds-tables-k : tie.Need-offset_bounds-tables-k invariant-loop-k decreases-loop-k
+offset_bounds-tables-k c = search rules
 
-slice-write-tables : tie.Need-slice-write-tables invariant-loop decreases-loop
-slice-write-tables c = omega (arith, c.loop-test.true, c.before.loop.invariant.same_length, c.before.before.requires.0)
+bounds-tables-k : tie.Need-bounds-tables-k invariant-loop-k decreases-loop-k
+bounds-tables-k c = omega (arith, c.loop-k-test.true, c.loop-k.invariant.same_length, c.requires.0)
 
-mul_at : tie.Need-overflow-mul-at invariant-loop decreases-loop
-mul_at c = search rules
+offset_bounds-sizes-k : tie.Need-offset_bounds-sizes-k invariant-loop-k decreases-loop-k
+offset_bounds-sizes-k c = search rules
 
-array-read-at : tie.Need-array-read-at invariant-loop decreases-loop
-array-read-at c = search rules
+bounds-sizes-k : tie.Need-bounds-sizes-k invariant-loop-k decreases-loop-k
+bounds-sizes-k c = search rules
 
-add_at : tie.Need-overflow-add-at invariant-loop decreases-loop
+overflow_add-at : tie.Need-overflow_add-at invariant-loop-k decreases-loop-k
 unfolding sizes
-add_at c = omega (arith, small c)
+overflow_add-at c = omega (arith, small c)
 
-add-k : tie.Need-overflow-add-k invariant-loop decreases-loop
-add-k c = search rules
+overflow_add-k : tie.Need-overflow_add-k invariant-loop-k decreases-loop-k
+overflow_add-k c = search rules
 
-loop-less : tie.Need-loop-smaller invariant-loop decreases-loop
-loop-less c = omega (arith, c.loop-test.true)
+loop-k-smaller : tie.Need-loop-k-smaller invariant-loop-k decreases-loop-k
+loop-k-smaller c = omega (arith, c.loop-k-test.true)
 
-loop-again : tie.Need-loop-preserved invariant-loop decreases-loop
-loop-again c = laying-step _ _ _ _ _ c.before.loop.invariant c.before.before.requires.0 c.loop-test.true
+loop-k-preserved : tie.Need-loop-k-preserved invariant-loop-k decreases-loop-k
+loop-k-preserved c = laying-step _ _ _ _ _ c.loop-k.invariant c.requires.0 c.loop-k-test.true
 
-slice-write-tables-2 : tie.Need-slice-write-tables-2 invariant-loop decreases-loop
-slice-write-tables-2 c = omega (arith, c.before.loop.invariant.same_length, c.before.before.requires.0)
+bounds-tables-10 : tie.Need-bounds-tables-10 invariant-loop-k decreases-loop-k
+bounds-tables-10 c = omega (arith, c.loop-k.invariant.same_length, c.requires.0)
 
-same_length : tie.Need-same-length invariant-loop decreases-loop
-same_length c = length-set c.before.loop.tables 10 c.before.loop.at ∙ c.before.loop.invariant.same_length
+shape_of-tables : tie.Need-shape_of-tables invariant-loop-k decreases-loop-k
+shape_of-tables c = length-set c.loop-k.tables 10 c.loop-k.at ∙ c.loop-k.invariant.same_length
 
-returns : tie.Need-returns invariant-loop decreases-loop
+returns : tie.Need-returns invariant-loop-k decreases-loop-k
 unfolding start_of sizes
-returns c = laying-end _ _ _ _ _ c.before.loop.invariant c.before.before.requires.0 c.loop-test.false
+returns c = laying-end _ _ _ _ _ c.loop-k.invariant c.requires.0 c.loop-k-test.false
 
-pub lay-out-spec : {M : Type 1} → statement M
-lay-out-spec =
+pub lay_out_spec : {M : Type 1} → statement M
+lay_out_spec =
     tie.close
     (tie.spec
-    invariant-loop
-    decreases-loop
-    loop-holds
-    mul-tables
-    slice-write-tables
-    mul_at
-    array-read-at
-    add_at
-    add-k
-    loop-less
-    loop-again
-    slice-write-tables-2
-    same_length
+    invariant-loop-k
+    decreases-loop-k
+    loop-k-init
+    offset_bounds-tables-k
+    bounds-tables-k
+    offset_bounds-sizes-k
+    bounds-sizes-k
+    overflow_add-at
+    overflow_add-k
+    loop-k-smaller
+    loop-k-preserved
+    bounds-tables-10
+    shape_of-tables
     returns)

@@ -10,25 +10,33 @@ use Rattle.tree_shaking.proofs.goes_on.Statement.{statement}
 use Rattle.tree_shaking.proofs.goes_on.Tie as tie
 
 option-requires : tie.Need-option-requires
-option-requires c κs = (c.before.before.before.requires.1.0, omega arith)
+option-requires c κs = (c.requires.1.0, omega arith)
 
-has-module-requires : tie.Need-has-module-requires
-has-module-requires c κs = c.before.before.before.before.before.requires.0
+has_module-requires : tie.Need-has_module-requires
+has_module-requires c κs = c.requires.0
+
+returns-then-not-option : tie.Need-returns-then-not-option
+unfolding progress_in
+returns-then-not-option c = by_modules _ _ _ _ _ _ c.option.ensures (not_true _ c.if-not-option.true) c.has_module.ensures
+
+returns-then-from-to : tie.Need-returns-then-from-to
+unfolding progress_in
+returns-then-from-to c = by_lines _ _ _ _ _ c.option.ensures (not-false _ c.if-not-option.false) (rw (lines-length _ _) c.if-from-to.true)
+
+live_count-requires : tie.Need-live_count-requires
+live_count-requires c κs = c.requires.1
 
 returns : tie.Need-returns
 unfolding progress_in
-returns c = by_modules _ _ _ _ _ _ c.before.before.option.ensures (not_true _ c.before.if1.true) c.has-module.ensures
+returns c = by_live _ _ _ _ _ _ c.option.ensures (not-false _ c.if-not-option.false) (rw (lines-length _ _) c.if-from-to.false) (ap (λ (k : ℕ). ltb c.args.live k) c.live_count.ensures)
 
-returns-2 : tie.Need-returns-2
-unfolding progress_in
-returns-2 c = by_lines _ _ _ _ _ c.before.before.option.ensures (not-false _ c.before.if1.false) (rw (lines-length _ _) c.if2.true)
-
-live-count-requires : tie.Need-live-count-requires
-live-count-requires c κs = c.before.before.before.before.before.before.requires.1
-
-returns-3 : tie.Need-returns-3
-unfolding progress_in
-returns-3 c = by_live _ _ _ _ _ _ c.before.before.before.option.ensures (not-false _ c.before.before.if1.false) (rw (lines-length _ _) c.before.if2.false) (ap (λ (k : ℕ). ltb c.before.before.before.before.before.before.before.args.live k) c.live-count.ensures)
-
-pub goes-on-spec : {M : Type 1} → statement M
-goes-on-spec = tie.close (tie.spec option-requires has-module-requires returns returns-2 live-count-requires returns-3)
+pub goes_on_spec : {M : Type 1} → statement M
+goes_on_spec =
+    tie.close
+    (tie.spec
+    option-requires
+    has_module-requires
+    returns-then-not-option
+    returns-then-from-to
+    live_count-requires
+    returns)

@@ -5,47 +5,47 @@ use native.Mathlib.Omega.{arith}
 use Rattle.tree_shaking.proofs.has_module.Statement.{statement}
 use Rattle.tree_shaking.proofs.has_module.Tie as tie
 
-abbrev invariant-loop : tie.invariant-loop
-invariant-loop lines from to k₀ k = (k ≤ to) × Looking lines from to k
+abbrev invariant-loop-k : tie.invariant-loop-k
+invariant-loop-k lines from to k₀ k = (k ≤ to) × Looking lines from to k
 
-abbrev decreases-loop : tie.decreases-loop
-decreases-loop lines from to k₀ k = to - k
+abbrev decreases-loop-k : tie.decreases-loop-k
+decreases-loop-k lines from to k₀ k = to - k
 
-loop-holds : tie.Need-loop-init invariant-loop decreases-loop
-loop-holds c = (c.before.requires.0, look_start _ _ _)
+loop-k-init : tie.Need-loop-k-init invariant-loop-k decreases-loop-k
+loop-k-init c = (c.requires.0, look_start _ _ _)
 
-fact-at-requires : tie.Need-fact-at-requires invariant-loop decreases-loop
-fact-at-requires c κs = omega (arith, c.loop-test.true, c.before.before.before.requires.1)
+fact_at-requires : tie.Need-fact_at-requires invariant-loop-k decreases-loop-k
+fact_at-requires c κs = omega (arith, c.loop-k-test.true, c.requires.1)
 
-kind-of-requires : tie.Need-kind-of-requires invariant-loop decreases-loop
-kind-of-requires c κs = search rules
+kind_of-requires : tie.Need-kind_of-requires invariant-loop-k decreases-loop-k
+kind_of-requires c κs = search rules
 
-returns : tie.Need-returns invariant-loop decreases-loop
-returns c = look-found _ _ _ _ c.before.before.before.before.loop.invariant.1 c.before.before.before.loop-test.true _ c.before.before.fact_at.ensures _ c.before.kind-of.ensures c.if1.true
+returns-then-kind_of-eq1 : tie.Need-returns-then-kind_of-eq1 invariant-loop-k decreases-loop-k
+returns-then-kind_of-eq1 c = look-found _ _ _ _ c.loop-k.invariant.1 c.loop-k-test.true _ c.fact_at.ensures _ c.kind_of.ensures c.if-kind_of-eq1.true
 
-add-k : tie.Need-overflow-add-k invariant-loop decreases-loop
-add-k c = record { fits = omega (arith, c.before.before.before.loop-test.true, c.before.before.before.before.before.before.ranges.to.fits) }
+overflow_add-k : tie.Need-overflow_add-k invariant-loop-k decreases-loop-k
+overflow_add-k c = record { fits = omega (arith, c.loop-k-test.true, c.ranges.to.fits) }
 
-loop-less : tie.Need-loop-smaller invariant-loop decreases-loop
-loop-less c = omega (arith, c.before.before.before.loop-test.true)
+loop-k-smaller : tie.Need-loop-k-smaller invariant-loop-k decreases-loop-k
+loop-k-smaller c = omega (arith, c.loop-k-test.true)
 
-loop-again : tie.Need-loop-preserved invariant-loop decreases-loop
-loop-again c = (omega (arith, c.before.before.before.loop-test.true), look-next _ _ _ _ c.before.before.before.before.loop.invariant.1 c.before.before.before.loop-test.true _ c.before.before.fact_at.ensures _ c.before.kind-of.ensures c.if1.false)
+loop-k-preserved : tie.Need-loop-k-preserved invariant-loop-k decreases-loop-k
+loop-k-preserved c = (omega (arith, c.loop-k-test.true), look-next _ _ _ _ c.loop-k.invariant.1 c.loop-k-test.true _ c.fact_at.ensures _ c.kind_of.ensures c.if-kind_of-eq1.false)
 
-returns-2 : tie.Need-returns-2 invariant-loop decreases-loop
-returns-2 c = look_end _ _ _ _ c.before.loop.invariant.1 c.loop-test.false
+returns : tie.Need-returns invariant-loop-k decreases-loop-k
+returns c = look_end _ _ _ _ c.loop-k.invariant.1 c.loop-k-test.false
 
-pub has-module-spec : {M : Type 1} → statement M
-has-module-spec =
+pub has_module_spec : {M : Type 1} → statement M
+has_module_spec =
     tie.close
     (tie.spec
-    invariant-loop
-    decreases-loop
-    loop-holds
-    fact-at-requires
-    kind-of-requires
-    returns
-    add-k
-    loop-less
-    loop-again
-    returns-2)
+    invariant-loop-k
+    decreases-loop-k
+    loop-k-init
+    fact_at-requires
+    kind_of-requires
+    returns-then-kind_of-eq1
+    overflow_add-k
+    loop-k-smaller
+    loop-k-preserved
+    returns)

@@ -6,65 +6,65 @@ use native.Mathlib.Omega.{arith}
 use Rattle.tree_shaking.proofs.include_live_entry.Statement.{statement}
 use Rattle.tree_shaking.proofs.include_live_entry.Tie as tie
 
-header-of-requires : tie.Need-header-of-requires
-header-of-requires c κs = c.before.before.before.before.before.before.requires.0.loaded.long
+header_of-h-requires : tie.Need-header_of-h-requires
+header_of-h-requires c κs = c.requires.0.loaded.long
 
-mul-plan : tie.Need-overflow-mul-plan
-mul-plan c = let s = c.before.before.before.before.before.before.before in record { fits = omega (arith, s.requires.1.3, s.requires.0.loaded.few_entries) }
+offset_bounds-plan-i : tie.Need-offset_bounds-plan-i
+offset_bounds-plan-i c = record { fits = omega (arith, c.requires.1.3, c.requires.0.loaded.few_entries) }
 
-slice-read-plan : tie.Need-slice-read-plan
-slice-read-plan c = let s = c.before.before.before.before.before.before.before.before in omega (arith, s.requires.1.1, s.requires.1.3)
+bounds-plan-i : tie.Need-bounds-plan-i
+bounds-plan-i c = omega (arith, c.requires.1.1, c.requires.1.3)
 
-entry-module-requires : tie.Need-entry-module-requires
+entry_module-m-requires : tie.Need-entry_module-m-requires
 unfolding graph_in
-entry-module-requires c κs = let s = c.before.before.before.before.before.before.before.before in (s.requires.0.loaded, s.requires.1.2.below _ s.requires.1.3)
+entry_module-m-requires c κs = (c.requires.0.loaded, c.requires.1.2.below _ c.requires.1.3)
 
-live-at-requires : tie.Need-live-at-requires
-live-at-requires c κs = let s = c.before.before.before.before.before.before.before.before.before in rw c.before.before.header_of.ensures (omega (arith, s.requires.0.loaded.few_entries, s.requires.0.loaded.few_modules))
+live_at-live-requires : tie.Need-live_at-live-requires
+live_at-live-requires c κs = rw c.header_of-h.ensures (omega (arith, c.requires.0.loaded.few_entries, c.requires.0.loaded.few_modules))
 
-add-plan : tie.Need-overflow-add-plan
-add-plan c = let s = c.before.before.before.before.before.before.before.before.before.before in rw (c.Live-at.ensures, c.before.before.before.header_of.ensures) (record { fits = omega (arith, c.before.entry-module.ensures.1, s.requires.0.loaded.few_entries, s.requires.0.loaded.few_modules) })
+overflow_add-plan : tie.Need-overflow_add-plan
+overflow_add-plan c = rw (c.live_at-live.ensures, c.header_of-h.ensures) (record { fits = omega (arith, c.entry_module-m.ensures.1, c.requires.0.loaded.few_entries, c.requires.0.loaded.few_modules) })
 
-mul-plan-2 : tie.Need-overflow-mul-plan-2
-mul-plan-2 c = let s = c.before.before.before.before.before.before.before.before.before.before in rw (c.Live-at.ensures, c.before.before.before.header_of.ensures) (record { fits = omega (arith, c.before.entry-module.ensures.1, s.requires.0.loaded.few_entries, s.requires.0.loaded.few_modules) })
+offset_bounds-plan-live : tie.Need-offset_bounds-plan-live
+offset_bounds-plan-live c = rw (c.live_at-live.ensures, c.header_of-h.ensures) (record { fits = omega (arith, c.entry_module-m.ensures.1, c.requires.0.loaded.few_entries, c.requires.0.loaded.few_modules) })
 
-slice-write-plan : tie.Need-slice-write-plan
-slice-write-plan c = let s = c.before.before.before.before.before.before.before.before.before.before in rw (c.Live-at.ensures, c.before.before.before.header_of.ensures) (omega (arith, c.before.entry-module.ensures.1, s.requires.1.1))
+bounds-plan-live : tie.Need-bounds-plan-live
+bounds-plan-live c = rw (c.live_at-live.ensures, c.header_of-h.ensures) (omega (arith, c.entry_module-m.ensures.1, c.requires.1.1))
 
-include-entry-requires : tie.Need-include-entry-requires
-include-entry-requires c κs = let s = c.before.before.before.before.before.before.before.before.before.before.before.before.before in (s.requires.0, (s.requires.1.0, c.before.before.before.before.entry-module.ensures.1))
+include_entry-requires : tie.Need-include_entry-requires
+include_entry-requires c κs = (c.requires.0, (c.requires.1.0, c.entry_module-m.ensures.1))
 
-same_length : tie.Need-same-length
-same_length c = search rules
+shape_of-partners : tie.Need-shape_of-partners
+shape_of-partners c = search rules
 
-same-length-2 : tie.Need-same-length-2
-same-length-2 c = search rules
+shape_of-marks : tie.Need-shape_of-marks
+shape_of-marks c = search rules
 
-same-length-3 : tie.Need-same-length-3
-same-length-3 c = search rules
+shape_of-lines : tie.Need-shape_of-lines
+shape_of-lines c = search rules
 
-same-length-4 : tie.Need-same-length-4
-same-length-4 c = search rules
+shape_of-plan : tie.Need-shape_of-plan
+shape_of-plan c = search rules
 
 returns : tie.Need-returns
 unfolding module_of_entry graph_in
-returns c = let s = c.before.before.before.before.before.before.before.before.before.before.before.before.before.before.before.before.before.before.before.before in rw c.before.before.before.before.before.before.before.before.before.before.Live-at.ensures (live_entry (graph_in s.args.numbers.now) _ c.before.before.before.before.before.before.before.before.before.before.before.before.before.header_of.ensures s.args.plan.now s.args.i _ c.before.before.before.before.before.before.before.before.before.before.before.entry-module.ensures.0 c.before.before.before.before.before.before.before.before.before.before.before.entry-module.ensures.1 _ _ _ _ _ c.before.before.before.before.before.before.include-entry.ensures)
+returns c = rw c.live_at-live.ensures (live_entry (graph_in c.args.numbers.now) _ c.header_of-h.ensures c.args.plan.now c.args.i _ c.entry_module-m.ensures.0 c.entry_module-m.ensures.1 _ _ _ _ _ c.include_entry.ensures)
 
-pub include-live-entry-spec : {M : Type 1} → statement M
-include-live-entry-spec =
+pub include_live_entry_spec : {M : Type 1} → statement M
+include_live_entry_spec =
     tie.close
     (tie.spec
-    header-of-requires
-    mul-plan
-    slice-read-plan
-    entry-module-requires
-    live-at-requires
-    add-plan
-    mul-plan-2
-    slice-write-plan
-    include-entry-requires
-    same_length
-    same-length-2
-    same-length-3
-    same-length-4
+    header_of-h-requires
+    offset_bounds-plan-i
+    bounds-plan-i
+    entry_module-m-requires
+    live_at-live-requires
+    overflow_add-plan
+    offset_bounds-plan-live
+    bounds-plan-live
+    include_entry-requires
+    shape_of-partners
+    shape_of-marks
+    shape_of-lines
+    shape_of-plan
     returns)

@@ -9,94 +9,94 @@ use native.Mathlib.Omega.{arith}
 use Rattle.tree_shaking.proofs.include_user_entries.Statement.{statement}
 use Rattle.tree_shaking.proofs.include_user_entries.Tie as tie
 
-abbrev invariant-loop : tie.invariant-loop
-invariant-loop numbers tables partners₀ marks₀ lines₀ plan users total₀ i₀ partners marks lines total i = (length partners ≡ length partners₀) × (length marks ≡ length marks₀) × (length lines ≡ length lines₀) × (i ≤ users) × Including (graph_in numbers) i partners marks lines total
+abbrev invariant-loop-i : tie.invariant-loop-i
+invariant-loop-i numbers tables partners₀ marks₀ lines₀ plan users total₀ i₀ partners marks lines total i = (length partners ≡ length partners₀) × (length marks ≡ length marks₀) × (length lines ≡ length lines₀) × (i ≤ users) × Including (graph_in numbers) i partners marks lines total
 
-abbrev decreases-loop : tie.decreases-loop
-decreases-loop numbers tables partners₀ marks₀ lines₀ plan users total₀ i₀ partners marks lines total i = users - i
+abbrev decreases-loop-i : tie.decreases-loop-i
+decreases-loop-i numbers tables partners₀ marks₀ lines₀ plan users total₀ i₀ partners marks lines total i = users - i
 
 -- the plan is longer than there are user-defined entries, and its length is small
-user-few : (c : tie.In-loop invariant-loop decreases-loop) → (c.before.before.before.before.before.before.before.before.args.users ≤ length c.before.before.before.before.before.before.before.before.args.plan.now) × (length c.before.before.before.before.before.before.before.before.args.plan.now < 4294967296)
-user-few c = let p = c.before.before.before.before.before.before.before.before.requires.1.1 in (omega (arith, p.users_are, p.all, p.long), p.few)
+user-few : (c : tie.In-loop-i invariant-loop-i decreases-loop-i) → (c.args.users ≤ length c.args.plan.now) × (length c.args.plan.now < 4294967296)
+user-few c = let p = c.requires.1.1 in (omega (arith, p.users_are, p.all, p.long), p.few)
 
-loop-holds : tie.Need-loop-init invariant-loop decreases-loop
-loop-holds c = let s = c.before.before.before.before.before.before in (refl, refl, refl, omega arith, users_begin _ _ _ _ s.requires.1.0)
+loop-i-init : tie.Need-loop-i-init invariant-loop-i decreases-loop-i
+loop-i-init c = (refl, refl, refl, omega arith, users_begin _ _ _ _ c.requires.1.0)
 
-mul-t13 : tie.Need-overflow-mul-t13 invariant-loop decreases-loop
-mul-t13 c = record { fits = omega (arith, c.loop-test.true, user-few c) }
+offset_bounds-plan-i : tie.Need-offset_bounds-plan-i invariant-loop-i decreases-loop-i
+offset_bounds-plan-i c = record { fits = omega (arith, c.loop-i-test.true, user-few c) }
 
-shared-slice-read-t15 : tie.Need-shared-slice-read-t15 invariant-loop decreases-loop
-shared-slice-read-t15 c = omega (arith, c.before.loop-test.true, user-few c.before)
+bounds-plan-i : tie.Need-bounds-plan-i invariant-loop-i decreases-loop-i
+bounds-plan-i c = omega (arith, c.loop-i-test.true, user-few c.before)
 
-entry-module-requires : tie.Need-entry-module-requires invariant-loop decreases-loop
+entry_module-m-requires : tie.Need-entry_module-m-requires invariant-loop-i decreases-loop-i
 unfolding graph_in
-entry-module-requires c κs = let s = c.before.before.before.before.before.before.before.before.before in (s.requires.0.loaded, user_inside _ _ _ s.requires.1.1 _ c.before.loop-test.true)
+entry_module-m-requires c κs = (c.requires.0.loaded, user_inside _ _ _ c.requires.1.1 _ c.loop-i-test.true)
 
-include-user-entry-requires : tie.Need-include-user-entry-requires invariant-loop decreases-loop
-include-user-entry-requires c κs = let s = c.before.before.before.before.before.before.before.before.before.before.before.before.before in (s.requires.0, (c.before.before.before.before.before.before.loop.invariant.4.working, c.before.before.before.entry-module.ensures.1))
+include_user_entry-requires : tie.Need-include_user_entry-requires invariant-loop-i decreases-loop-i
+include_user_entry-requires c κs = (c.requires.0, (c.loop-i.invariant.4.working, c.entry_module-m.ensures.1))
 
-enum_told : tie.Need-enum-told invariant-loop decreases-loop
-enum_told c = search rules
+enum_told-1 : tie.Need-enum_told-1 invariant-loop-i decreases-loop-i
+enum_told-1 c = search rules
 
-same_length : tie.Need-same-length invariant-loop decreases-loop
-same_length c = search rules
+shape_of-partners-in-Full : tie.Need-shape_of-partners-in-Full invariant-loop-i decreases-loop-i
+shape_of-partners-in-Full c = search rules
 
-same-length-2 : tie.Need-same-length-2 invariant-loop decreases-loop
-same-length-2 c = search rules
+shape_of-marks-in-Full : tie.Need-shape_of-marks-in-Full invariant-loop-i decreases-loop-i
+shape_of-marks-in-Full c = search rules
 
-same-length-3 : tie.Need-same-length-3 invariant-loop decreases-loop
-same-length-3 c = search rules
+shape_of-lines-in-Full : tie.Need-shape_of-lines-in-Full invariant-loop-i decreases-loop-i
+shape_of-lines-in-Full c = search rules
 
-returns : tie.Need-returns invariant-loop decreases-loop
+returns-in-Full : tie.Need-returns-in-Full invariant-loop-i decreases-loop-i
 unfolding module_of_entry
-returns c = users-full _ _ _ c.before.before.before.before.before.before.before.before.before.before.before.before.before.before.before.before.before.before.before.before.before.before.requires.1.1 _ _ _ _ _ c.before.before.before.before.before.before.before.before.before.before.before.before.before.before.before.loop.invariant.4 c.before.before.before.before.before.before.before.before.before.before.before.before.before.before.loop-test.true _ c.before.before.before.before.before.before.before.before.before.before.before.before.entry-module.ensures.0 _ _ _ (rw c.enum_told.given.1 at c.before.before.before.before.before.before.before.before.include-user-entry.ensures)
+returns-in-Full c = users-full _ _ _ c.requires.1.1 _ _ _ _ _ c.loop-i.invariant.4 c.loop-i-test.true _ c.entry_module-m.ensures.0 _ _ _ (rw c.in-Full.is at c.include_user_entry.ensures)
 
-enum-known-n : tie.Need-enum-known-n invariant-loop decreases-loop
-enum-known-n c = search rules
+enum_known-n : tie.Need-enum_known-n invariant-loop-i decreases-loop-i
+enum_known-n c = search rules
 
-add-i : tie.Need-overflow-add-i invariant-loop decreases-loop
-add-i c = record { fits = omega (arith, c.before.before.before.before.before.before.before.before.before.before.before.before.before.before.before.loop-test.true, c.before.before.before.before.before.before.before.before.before.before.before.before.before.before.before.before.before.before.before.before.before.before.before.ranges.users.fits) }
+overflow_add-i : tie.Need-overflow_add-i invariant-loop-i decreases-loop-i
+overflow_add-i c = record { fits = omega (arith, c.loop-i-test.true, c.ranges.users.fits) }
 
-loop-less : tie.Need-loop-smaller invariant-loop decreases-loop
-loop-less c = omega (arith, c.before.before.before.before.before.before.before.before.before.before.before.before.before.before.before.loop-test.true)
+loop-i-smaller : tie.Need-loop-i-smaller invariant-loop-i decreases-loop-i
+loop-i-smaller c = omega (arith, c.loop-i-test.true)
 
-loop-again : tie.Need-loop-preserved invariant-loop decreases-loop
+loop-i-preserved : tie.Need-loop-i-preserved invariant-loop-i decreases-loop-i
 unfolding module_of_entry
-loop-again c = let w = c.before.before.before.before.before.before.before.before.before.before.before.before.before.before.before.before.loop.invariant in let k = c.before.before.before.before.before.before.before.before.before.include-user-entry.auto in (k.1.1.0 ∙ w.0, k.1.1.1.0 ∙ w.1, k.1.1.1.1.0 ∙ w.2, omega (arith, c.before.before.before.before.before.before.before.before.before.before.before.before.before.before.before.loop-test.true), users-step _ _ _ c.before.before.before.before.before.before.before.before.before.before.before.before.before.before.before.before.before.before.before.before.before.before.before.requires.1.1 _ _ _ _ _ w.4 c.before.before.before.before.before.before.before.before.before.before.before.before.before.before.before.loop-test.true _ c.before.before.before.before.before.before.before.before.before.before.before.before.before.entry-module.ensures.0 _ _ _ _ (rw c.before.n.given.1 at c.before.before.before.before.before.before.before.before.before.include-user-entry.ensures))
+loop-i-preserved c = let w = c.loop-i.invariant in let k = c.include_user_entry.auto in (k.1.1.0 ∙ w.0, k.1.1.1.0 ∙ w.1, k.1.1.1.1.0 ∙ w.2, omega (arith, c.loop-i-test.true), users-step _ _ _ c.requires.1.1 _ _ _ _ _ w.4 c.loop-i-test.true _ c.entry_module-m.ensures.0 _ _ _ _ (rw c.in-Lines.is at c.include_user_entry.ensures))
 
-same-length-4 : tie.Need-same-length-4 invariant-loop decreases-loop
-same-length-4 c = c.before.loop.invariant.0
+shape_of-partners : tie.Need-shape_of-partners invariant-loop-i decreases-loop-i
+shape_of-partners c = c.loop-i.invariant.0
 
-same-length-5 : tie.Need-same-length-5 invariant-loop decreases-loop
-same-length-5 c = c.before.loop.invariant.1
+shape_of-marks : tie.Need-shape_of-marks invariant-loop-i decreases-loop-i
+shape_of-marks c = c.loop-i.invariant.1
 
-same-length-6 : tie.Need-same-length-6 invariant-loop decreases-loop
-same-length-6 c = c.before.loop.invariant.2
+shape_of-lines : tie.Need-shape_of-lines invariant-loop-i decreases-loop-i
+shape_of-lines c = c.loop-i.invariant.2
 
-returns-2 : tie.Need-returns-2 invariant-loop decreases-loop
-returns-2 c = users-done _ _ _ c.before.before.before.before.before.before.before.before.requires.1.1 _ _ _ _ _ c.before.loop.invariant.4 c.loop-test.false
+returns : tie.Need-returns invariant-loop-i decreases-loop-i
+returns c = users-done _ _ _ c.requires.1.1 _ _ _ _ _ c.loop-i.invariant.4 c.loop-i-test.false
 
-pub include-user-entries-spec : {M : Type 1} → statement M
-include-user-entries-spec =
+pub include_user_entries_spec : {M : Type 1} → statement M
+include_user_entries_spec =
     tie.close
     (tie.spec
-    invariant-loop
-    decreases-loop
-    loop-holds
-    mul-t13
-    shared-slice-read-t15
-    entry-module-requires
-    include-user-entry-requires
-    enum_told
-    same_length
-    same-length-2
-    same-length-3
-    returns
-    enum-known-n
-    add-i
-    loop-less
-    loop-again
-    same-length-4
-    same-length-5
-    same-length-6
-    returns-2)
+    invariant-loop-i
+    decreases-loop-i
+    loop-i-init
+    offset_bounds-plan-i
+    bounds-plan-i
+    entry_module-m-requires
+    include_user_entry-requires
+    enum_told-1
+    shape_of-partners-in-Full
+    shape_of-marks-in-Full
+    shape_of-lines-in-Full
+    returns-in-Full
+    enum_known-n
+    overflow_add-i
+    loop-i-smaller
+    loop-i-preserved
+    shape_of-partners
+    shape_of-marks
+    shape_of-lines
+    returns)

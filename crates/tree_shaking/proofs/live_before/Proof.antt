@@ -6,16 +6,22 @@ use Rattle.tree_shaking.proofs.live_before.Statement.{statement}
 use Rattle.tree_shaking.proofs.live_before.Tie as tie
 
 option-requires : tie.Need-option-requires
-option-requires c κs = (c.before.before.requires.0, omega arith)
+option-requires c κs = (c.requires.0, omega arith)
 
-live-count-requires : tie.Need-live-count-requires
-live-count-requires c κs = c.before.before.before.before.requires
+live_count-requires : tie.Need-live_count-requires
+live_count-requires c κs = c.requires
+
+returns-then-option : tie.Need-returns-then-option
+returns-then-option c o = c.live_count.ensures
 
 returns : tie.Need-returns
-returns c o = c.live-count.ensures
+returns c o = absurd (true≢false (sym o ∙ sym c.option.ensures ∙ c.if-option.false))
 
-returns-2 : tie.Need-returns-2
-returns-2 c o = absurd (true≢false (sym o ∙ sym c.before.option.ensures ∙ c.if1.false))
-
-pub live-before-spec : {M : Type 1} → statement M
-live-before-spec = tie.close (tie.spec option-requires live-count-requires returns returns-2)
+pub live_before_spec : {M : Type 1} → statement M
+live_before_spec =
+    tie.close
+    (tie.spec
+    option-requires
+    live_count-requires
+    returns-then-option
+    returns)

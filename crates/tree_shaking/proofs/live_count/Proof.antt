@@ -9,57 +9,72 @@ use native.Mathlib.Omega.{arith}
 use Rattle.tree_shaking.proofs.live_count.Statement.{statement}
 use Rattle.tree_shaking.proofs.live_count.Tie as tie
 
-abbrev invariant-loop : tie.invariant-loop
-invariant-loop numbers plan h first live₀ m₀ live m = Counted (graph_in numbers) plan m live
+abbrev invariant-loop-m : tie.invariant-loop-m
+invariant-loop-m numbers plan h first live₀ m₀ live m = Counted (graph_in numbers) plan m live
 
-abbrev decreases-loop : tie.decreases-loop
-decreases-loop numbers plan h first live₀ m₀ live m = (header_in numbers).modules - m
+abbrev decreases-loop-m : tie.decreases-loop-m
+decreases-loop-m numbers plan h first live₀ m₀ live m = (header_in numbers).modules - m
 
-header-of-requires : tie.Need-header-of-requires invariant-loop decreases-loop
-header-of-requires c κs = c.before.before.requires.0
+header_of-h-requires : tie.Need-header_of-h-requires invariant-loop-m decreases-loop-m
+header_of-h-requires c κs = c.requires.0
 
-live-at-requires : tie.Need-live-at-requires invariant-loop decreases-loop
-live-at-requires c κs = rw c.header_of.ensures (omega (arith, c.before.before.before.requires.1, c.before.before.before.requires.2))
+live_at-first-requires : tie.Need-live_at-first-requires invariant-loop-m decreases-loop-m
+live_at-first-requires c κs = rw c.header_of-h.ensures (omega (arith, c.requires.1, c.requires.2))
 
-loop-holds : tie.Need-loop-init invariant-loop decreases-loop
-loop-holds c = count_start _ _
+loop-m-init : tie.Need-loop-m-init invariant-loop-m decreases-loop-m
+loop-m-init c = count_start _ _
 
-add-if2 : tie.Need-overflow-add-if2 invariant-loop decreases-loop
+overflow_add-first : tie.Need-overflow_add-first invariant-loop-m decreases-loop-m
 unfolding graph_in
-add-if2 c = record { fits = rw (c.before.before.before.Live-at.ensures, c.before.before.before.before.header_of.ensures) (omega (arith, c.before.before.loop.invariant.within, c.before.before.before.before.before.before.before.requires.1, c.before.before.before.before.before.before.before.requires.2)) }
+overflow_add-first c = record { fits = rw (c.live_at-first.ensures, c.header_of-h.ensures) (omega (arith, c.loop-m.invariant.within, c.requires.1, c.requires.2)) }
 
-mul-if2 : tie.Need-overflow-mul-if2 invariant-loop decreases-loop
+offset_bounds-plan-first : tie.Need-offset_bounds-plan-first invariant-loop-m decreases-loop-m
 unfolding graph_in
-mul-if2 c = record { fits = rw (c.before.before.before.Live-at.ensures, c.before.before.before.before.header_of.ensures) (omega (arith, c.before.before.loop.invariant.within, c.before.before.before.before.before.before.before.requires.1, c.before.before.before.before.before.before.before.requires.2)) }
+offset_bounds-plan-first c = record { fits = rw (c.live_at-first.ensures, c.header_of-h.ensures) (omega (arith, c.loop-m.invariant.within, c.requires.1, c.requires.2)) }
 
-shared-slice-read-if2 : tie.Need-shared-slice-read-if2 invariant-loop decreases-loop
+bounds-plan-first : tie.Need-bounds-plan-first invariant-loop-m decreases-loop-m
 unfolding graph_in
-shared-slice-read-if2 c = rw (c.before.before.before.before.Live-at.ensures, c.before.before.before.before.before.header_of.ensures) (omega (arith, rw c.before.before.before.before.before.header_of.ensures at c.before.if1.true, c.before.before.before.before.before.before.before.before.requires.1))
+bounds-plan-first c = rw (c.live_at-first.ensures, c.header_of-h.ensures) (omega (arith, rw c.header_of-h.ensures at c.loop-m-test.true, c.requires.1))
 
-add-live : tie.Need-overflow-add-live invariant-loop decreases-loop
+overflow_add-live : tie.Need-overflow_add-live invariant-loop-m decreases-loop-m
 unfolding graph_in
-add-live c = record { fits = omega (arith, c.before.before.before.before.loop.invariant.few, c.before.before.before.before.loop.invariant.within, c.before.before.before.before.before.before.before.before.before.requires.1, c.before.before.before.before.before.before.before.before.before.requires.2) }
+overflow_add-live c = record { fits = omega (arith, c.loop-m.invariant.few, c.loop-m.invariant.within, c.requires.1, c.requires.2) }
 
-add-m : tie.Need-overflow-add-m invariant-loop decreases-loop
+overflow_add-m : tie.Need-overflow_add-m invariant-loop-m decreases-loop-m
 unfolding graph_in
-add-m c = record { fits = omega (arith, c.before.before.before.before.loop.invariant.within, c.before.before.before.before.before.before.before.before.before.requires.1, c.before.before.before.before.before.before.before.before.before.requires.2) }
+overflow_add-m c = record { fits = omega (arith, c.loop-m.invariant.within, c.requires.1, c.requires.2) }
 
-loop-less : tie.Need-loop-smaller invariant-loop decreases-loop
+loop-m-smaller : tie.Need-loop-m-smaller invariant-loop-m decreases-loop-m
 unfolding graph_in
-loop-less c = omega (arith, rw c.before.before.before.before.before.before.header_of.ensures at c.before.before.if1.true)
+loop-m-smaller c = omega (arith, rw c.header_of-h.ensures at c.loop-m-test.true)
 
-loop-again : tie.Need-loop-preserved invariant-loop decreases-loop
+loop-m-preserved : tie.Need-loop-m-preserved invariant-loop-m decreases-loop-m
 unfolding graph_in
-loop-again c =
-    let i = c.before.before.before.before.loop.invariant in
-    let h = c.before.before.before.before.before.before.header_of.ensures in
-    let a = c.before.before.before.before.before.Live-at.ensures in
-    let u = rw h at c.before.before.if1.true in
-    ⊎_elim (λ w. rw w.1 (count_here _ _ _ _ u (rw (a, h) at w.0.taken) i)) (λ w. rw w.1 (count_not _ _ _ _ u (rw (a, h) at w.0.left) i)) c.if2.branch
+loop-m-preserved c =
+    let i = c.loop-m.invariant in
+    let h = c.header_of-h.ensures in
+    let a = c.live_at-first.ensures in
+    let u = rw h at c.loop-m-test.true in
+    ⊎_elim (λ w. rw w.1 (count_here _ _ _ _ u (rw (a, h) at w.0.taken) i)) (λ w. rw w.1 (count_not _ _ _ _ u (rw (a, h) at w.0.left) i)) c.if-plan-first-eq1.branch
 
-returns : tie.Need-returns invariant-loop decreases-loop
+returns : tie.Need-returns invariant-loop-m decreases-loop-m
 unfolding graph_in
-returns c = count_end _ _ _ _ (rw c.before.before.before.before.header_of.ensures at c.if1.false) c.before.before.loop.invariant
+returns c = count_end _ _ _ _ (rw c.header_of-h.ensures at c.loop-m-test.false) c.loop-m.invariant
 
-pub live-count-spec : {M : Type 1} → statement M
-live-count-spec = tie.close (tie.spec invariant-loop decreases-loop header-of-requires live-at-requires loop-holds add-if2 mul-if2 shared-slice-read-if2 add-live add-m loop-less loop-again returns)
+pub live_count_spec : {M : Type 1} → statement M
+live_count_spec =
+    tie.close
+    (tie.spec
+    invariant-loop-m
+    decreases-loop-m
+    header_of-h-requires
+    live_at-first-requires
+    loop-m-init
+    overflow_add-first
+    offset_bounds-plan-first
+    bounds-plan-first
+    overflow_add-live
+    overflow_add-m
+    loop-m-smaller
+    loop-m-preserved
+    returns)

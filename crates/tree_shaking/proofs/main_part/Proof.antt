@@ -6,65 +6,65 @@ use borrow.Author.Rules.{rules}
 use Rattle.tree_shaking.proofs.main_part.Statement.{statement}
 use Rattle.tree_shaking.proofs.main_part.Tie as tie
 
-include-user-entries-requires : tie.Need-include-user-entries-requires
-include-user-entries-requires c κs = let s = c.before.before.before.before.before.before.before.before.before.before in (s.requires.0, (s.requires.1.0, s.requires.1.1))
+include_user_entries-requires : tie.Need-include_user_entries-requires
+include_user_entries-requires c κs = (c.requires.0, (c.requires.1.0, c.requires.1.1))
 
-enum_told : tie.Need-enum-told
-enum_told c = search rules
+enum_told-1 : tie.Need-enum_told-1
+enum_told-1 c = search rules
 
-enum-known-n : tie.Need-enum-known-n
-enum-known-n c = search rules
+enum_known-n : tie.Need-enum_known-n
+enum_known-n c = search rules
 
 rounds-requires : tie.Need-rounds-requires
-rounds-requires c κs = let s = c.before.before.before.before.before.before.before.before.before.before.before.before.before.before.before.before.before.before.before.before.before.before.before.before in (s.requires.0, (working_after _ _ _ _ _ _ _ _ (rw c.before.before.before.before.before.n.given.1 at c.before.before.before.before.before.before.before.before.before.before.before.before.before.include-user-entries.ensures), s.requires.1.1))
+rounds-requires c κs = (c.requires.0, (working_after _ _ _ _ _ _ _ _ (rw c.in-Lines.is at c.include_user_entries.ensures), c.requires.1.1))
 
-same_length : tie.Need-same-length
-same_length c = c.before.before.before.before.before.before.before.before.include-user-entries.auto.1.1.0
+shape_of-partners-in-Full : tie.Need-shape_of-partners-in-Full
+shape_of-partners-in-Full c = c.include_user_entries.auto.1.1.0
 
-same-length-2 : tie.Need-same-length-2
-same-length-2 c = c.before.before.before.before.before.before.before.before.include-user-entries.auto.1.1.1.0
+shape_of-marks-in-Full : tie.Need-shape_of-marks-in-Full
+shape_of-marks-in-Full c = c.include_user_entries.auto.1.1.1.0
 
-same-length-3 : tie.Need-same-length-3
-same-length-3 c = c.before.before.before.before.before.before.before.before.include-user-entries.auto.1.1.1.1.0
+shape_of-lines-in-Full : tie.Need-shape_of-lines-in-Full
+shape_of-lines-in-Full c = c.include_user_entries.auto.1.1.1.1.0
 
-same-length-4 : tie.Need-same-length-4
-same-length-4 c = refl
+shape_of-plan-in-Full : tie.Need-shape_of-plan-in-Full
+shape_of-plan-in-Full c = refl
 
-returns : tie.Need-returns
+returns-in-Full : tie.Need-returns-in-Full
 unfolding graph_in
-returns c = main_full _ _ _ _ _ c.before.before.before.before.before.before.before.before.before.before.before.before.before.before.before.before.before.before.before.args.plan.now _ (rw c.enum_told.given.1 at c.before.before.before.before.before.before.before.before.include-user-entries.ensures)
+returns-in-Full c = main_full _ _ _ _ _ c.args.plan.now _ (rw c.in-Full.is at c.include_user_entries.ensures)
 
-same-length-5 : tie.Need-same-length-5
-same-length-5 c = c.before.before.before.before.before.before.before.before.rounds.auto.1.1.0 ∙ c.before.before.before.before.before.before.before.before.before.before.before.before.before.before.before.before.before.before.before.before.before.before.include-user-entries.auto.1.1.0
+shape_of-partners-in-Lines : tie.Need-shape_of-partners-in-Lines
+shape_of-partners-in-Lines c = c.rounds.auto.1.1.0 ∙ c.include_user_entries.auto.1.1.0
 
-same-length-6 : tie.Need-same-length-6
-same-length-6 c = c.before.before.before.before.before.before.before.before.rounds.auto.1.1.1.0 ∙ c.before.before.before.before.before.before.before.before.before.before.before.before.before.before.before.before.before.before.before.before.before.before.include-user-entries.auto.1.1.1.0
+shape_of-marks-in-Lines : tie.Need-shape_of-marks-in-Lines
+shape_of-marks-in-Lines c = c.rounds.auto.1.1.1.0 ∙ c.include_user_entries.auto.1.1.1.0
 
-same-length-7 : tie.Need-same-length-7
-same-length-7 c = c.before.before.before.before.before.before.before.before.rounds.auto.1.1.1.1.0 ∙ c.before.before.before.before.before.before.before.before.before.before.before.before.before.before.before.before.before.before.before.before.before.before.include-user-entries.auto.1.1.1.1.0
+shape_of-lines-in-Lines : tie.Need-shape_of-lines-in-Lines
+shape_of-lines-in-Lines c = c.rounds.auto.1.1.1.1.0 ∙ c.include_user_entries.auto.1.1.1.1.0
 
-same-length-8 : tie.Need-same-length-8
-same-length-8 c = c.before.before.before.before.before.before.before.before.rounds.auto.1.1.1.1.1.0
+shape_of-plan-in-Lines : tie.Need-shape_of-plan-in-Lines
+shape_of-plan-in-Lines c = c.rounds.auto.1.1.1.1.1.0
 
-returns-2 : tie.Need-returns-2
+returns-in-Lines : tie.Need-returns-in-Lines
 unfolding graph_in
-returns-2 c = let s = c.before.before.before.before.before.before.before.before.before.before.before.before.before.before.before.before.before.before.before.before.before.before.before.before.before.before.before.before.before.before.before.before.before in main_ended _ _ _ _ (main_is _ s.args.users _ _ _ _ _ s.requires.1.2 (rw c.before.before.before.before.before.before.before.before.before.before.before.before.before.before.n.given.1 at c.before.before.before.before.before.before.before.before.before.before.before.before.before.before.before.before.before.before.before.before.before.before.include-user-entries.ensures)) _ _ _ _ _ c.before.before.before.before.before.before.before.before.rounds.ensures
+returns-in-Lines c = main_ended _ _ _ _ (main_is _ c.args.users _ _ _ _ _ c.requires.1.2 (rw c.in-Lines.is at c.include_user_entries.ensures)) _ _ _ _ _ c.rounds.ensures
 
-pub main-part-spec : {M : Type 1} → statement M
-main-part-spec =
+pub main_part_spec : {M : Type 1} → statement M
+main_part_spec =
     tie.close
     (tie.spec
-    include-user-entries-requires
-    enum_told
-    enum-known-n
+    include_user_entries-requires
+    enum_told-1
+    enum_known-n
     rounds-requires
-    same_length
-    same-length-2
-    same-length-3
-    same-length-4
-    returns
-    same-length-5
-    same-length-6
-    same-length-7
-    same-length-8
-    returns-2)
+    shape_of-partners-in-Full
+    shape_of-marks-in-Full
+    shape_of-lines-in-Full
+    shape_of-plan-in-Full
+    returns-in-Full
+    shape_of-partners-in-Lines
+    shape_of-marks-in-Lines
+    shape_of-lines-in-Lines
+    shape_of-plan-in-Lines
+    returns-in-Lines)

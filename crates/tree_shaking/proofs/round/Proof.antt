@@ -7,61 +7,61 @@ use borrow.Author.Rules.{rules}
 use Rattle.tree_shaking.proofs.round.Statement.{statement}
 use Rattle.tree_shaking.proofs.round.Tie as tie
 
-include-cjs-bailout-exports-requires : tie.Need-include-cjs-bailout-exports-requires
-include-cjs-bailout-exports-requires c κs = let s = c.before.before.before.before.before.before.before.before.before in (s.requires.0, (s.requires.1.0, s.requires.1.2))
+include_cjs_bailout_exports-requires : tie.Need-include_cjs_bailout_exports-requires
+include_cjs_bailout_exports-requires c κs = (c.requires.0, (c.requires.1.0, c.requires.1.2))
 
-enum_told : tie.Need-enum-told
-enum_told c = search rules
+enum_told-1 : tie.Need-enum_told-1
+enum_told-1 c = search rules
 
-enum-known-n : tie.Need-enum-known-n
-enum-known-n c = search rules
+enum_known-n : tie.Need-enum_known-n
+enum_known-n c = search rules
 
-try-dynamic-entries-requires : tie.Need-try-dynamic-entries-requires
-try-dynamic-entries-requires c κs = let s = c.before.before.before.before.before.before.before.before.before.before.before.before.before.before.before.before.before.before.before.before.before.before.before in (s.requires.0, (working_after _ _ _ _ _ _ _ _ (rw c.before.before.before.before.before.n.given.1 at c.before.before.before.before.before.before.before.before.before.before.before.before.before.include-cjs-bailout-exports.ensures), s.requires.1.1))
+try_dynamic_entries-requires : tie.Need-try_dynamic_entries-requires
+try_dynamic_entries-requires c κs = (c.requires.0, (working_after _ _ _ _ _ _ _ _ (rw c.in-Lines.is at c.include_cjs_bailout_exports.ensures), c.requires.1.1))
 
-same_length : tie.Need-same-length
-same_length c = c.before.before.before.before.before.before.before.before.include-cjs-bailout-exports.auto.1.1.0
+shape_of-partners-in-Full : tie.Need-shape_of-partners-in-Full
+shape_of-partners-in-Full c = c.include_cjs_bailout_exports.auto.1.1.0
 
-same-length-2 : tie.Need-same-length-2
-same-length-2 c = c.before.before.before.before.before.before.before.before.include-cjs-bailout-exports.auto.1.1.1.0
+shape_of-marks-in-Full : tie.Need-shape_of-marks-in-Full
+shape_of-marks-in-Full c = c.include_cjs_bailout_exports.auto.1.1.1.0
 
-same-length-3 : tie.Need-same-length-3
-same-length-3 c = c.before.before.before.before.before.before.before.before.include-cjs-bailout-exports.auto.1.1.1.1.0
+shape_of-lines-in-Full : tie.Need-shape_of-lines-in-Full
+shape_of-lines-in-Full c = c.include_cjs_bailout_exports.auto.1.1.1.1.0
 
-returns : tie.Need-returns
+returns-in-Full : tie.Need-returns-in-Full
 unfolding graph_in
-returns c = round_full _ _ _ _ _ _ _ _ _ _ (rw c.enum_told.given.1 at c.before.before.before.before.before.before.before.before.include-cjs-bailout-exports.ensures)
+returns-in-Full c = round_full _ _ _ _ _ _ _ _ _ _ (rw c.in-Full.is at c.include_cjs_bailout_exports.ensures)
 
-same-length-4 : tie.Need-same-length-4
-same-length-4 c = c.before.before.before.before.before.before.before.before.try-dynamic-entries.auto.1.1.0 ∙ c.before.before.before.before.before.before.before.before.before.before.before.before.before.before.before.before.before.before.before.before.before.before.include-cjs-bailout-exports.auto.1.1.0
+shape_of-partners-in-Lines : tie.Need-shape_of-partners-in-Lines
+shape_of-partners-in-Lines c = c.try_dynamic_entries.auto.1.1.0 ∙ c.include_cjs_bailout_exports.auto.1.1.0
 
-same-length-5 : tie.Need-same-length-5
-same-length-5 c = c.before.before.before.before.before.before.before.before.try-dynamic-entries.auto.1.1.1.0 ∙ c.before.before.before.before.before.before.before.before.before.before.before.before.before.before.before.before.before.before.before.before.before.before.include-cjs-bailout-exports.auto.1.1.1.0
+shape_of-marks-in-Lines : tie.Need-shape_of-marks-in-Lines
+shape_of-marks-in-Lines c = c.try_dynamic_entries.auto.1.1.1.0 ∙ c.include_cjs_bailout_exports.auto.1.1.1.0
 
-same-length-6 : tie.Need-same-length-6
-same-length-6 c = c.before.before.before.before.before.before.before.before.try-dynamic-entries.auto.1.1.1.1.0 ∙ c.before.before.before.before.before.before.before.before.before.before.before.before.before.before.before.before.before.before.before.before.before.before.include-cjs-bailout-exports.auto.1.1.1.1.0
+shape_of-lines-in-Lines : tie.Need-shape_of-lines-in-Lines
+shape_of-lines-in-Lines c = c.try_dynamic_entries.auto.1.1.1.1.0 ∙ c.include_cjs_bailout_exports.auto.1.1.1.1.0
 
-same-length-7 : tie.Need-same-length-7
-same-length-7 c = c.before.before.before.before.before.before.before.before.try-dynamic-entries.auto.1.1.1.1.1.0
+shape_of-plan : tie.Need-shape_of-plan
+shape_of-plan c = c.try_dynamic_entries.auto.1.1.1.1.1.0
 
-returns-2 : tie.Need-returns-2
+returns-in-Lines : tie.Need-returns-in-Lines
 unfolding graph_in
-returns-2 c = progressed_same _ _ _ _ (round_is _ c.before.before.before.before.before.before.before.before.before.before.before.before.before.before.before.before.before.before.before.before.before.before.before.before.before.before.before.before.before.before.before.before.args.users _ _ _ _ _ _ _ _ (rw c.before.before.before.before.before.before.before.before.before.before.before.before.before.before.n.given.1 at c.before.before.before.before.before.before.before.before.before.before.before.before.before.before.before.before.before.before.before.before.before.before.include-cjs-bailout-exports.ensures)) _ _ _ _ _ c.before.before.before.before.before.before.before.before.try-dynamic-entries.ensures
+returns-in-Lines c = progressed_same _ _ _ _ (round_is _ c.args.users _ _ _ _ _ _ _ _ (rw c.in-Lines.is at c.include_cjs_bailout_exports.ensures)) _ _ _ _ _ c.try_dynamic_entries.ensures
 
-pub round-spec : {M : Type 1} → statement M
-round-spec =
+pub round_spec : {M : Type 1} → statement M
+round_spec =
     tie.close
     (tie.spec
-    include-cjs-bailout-exports-requires
-    enum_told
-    enum-known-n
-    try-dynamic-entries-requires
-    same_length
-    same-length-2
-    same-length-3
-    returns
-    same-length-4
-    same-length-5
-    same-length-6
-    same-length-7
-    returns-2)
+    include_cjs_bailout_exports-requires
+    enum_told-1
+    enum_known-n
+    try_dynamic_entries-requires
+    shape_of-partners-in-Full
+    shape_of-marks-in-Full
+    shape_of-lines-in-Full
+    returns-in-Full
+    shape_of-partners-in-Lines
+    shape_of-marks-in-Lines
+    shape_of-lines-in-Lines
+    shape_of-plan
+    returns-in-Lines)

@@ -14,150 +14,150 @@ use native.Mathlib.Omega.{arith}
 use Rattle.tree_shaking.proofs.rounds.Statement.{statement}
 use Rattle.tree_shaking.proofs.rounds.Tie as tie
 
-abbrev invariant-loop : tie.invariant-loop
-invariant-loop numbers tables partners₀ marks₀ lines₀ plan₀ users count h total₀ taken₀ made₀ partners marks lines plan total taken made = (length partners ≡ length partners₀) × (length marks ≡ length marks₀) × (length lines ≡ length lines₀) × (length plan ≡ length plan₀) × Turning (graph_in numbers) users (rounds_from (graph_in numbers) (last_verdicts (graph_in numbers)) (goes_on (graph_in numbers)) (2 * (header_in numbers).modules + 1) 0 0 (progress_in (header_in numbers) (lines_of total₀ lines₀) plan₀)) partners marks lines plan total taken made
+abbrev invariant-loop-made : tie.invariant-loop-made
+invariant-loop-made numbers tables partners₀ marks₀ lines₀ plan₀ users count h total₀ taken₀ made₀ partners marks lines plan total taken made = (length partners ≡ length partners₀) × (length marks ≡ length marks₀) × (length lines ≡ length lines₀) × (length plan ≡ length plan₀) × Turning (graph_in numbers) users (rounds_from (graph_in numbers) (last_verdicts (graph_in numbers)) (goes_on (graph_in numbers)) (2 * (header_in numbers).modules + 1) 0 0 (progress_in (header_in numbers) (lines_of total₀ lines₀) plan₀)) partners marks lines plan total taken made
 
-abbrev decreases-loop : tie.decreases-loop
-decreases-loop numbers tables partners₀ marks₀ lines₀ plan₀ users count h total₀ taken₀ made₀ partners marks lines plan total taken made = 2 * (header_in numbers).modules + 1 - made
+abbrev decreases-loop-made : tie.decreases-loop-made
+decreases-loop-made numbers tables partners₀ marks₀ lines₀ plan₀ users count h total₀ taken₀ made₀ partners marks lines plan total taken made = 2 * (header_in numbers).modules + 1 - made
 
 -- in the loop a round may be made
-at-round : (c : tie.Then1 invariant-loop decreases-loop) → c.before.before.loop.made ≤ 2 * (header_in c.before.before.before.before.before.before.before.before.before.before.args.numbers.now).modules
-at-round c = omega (arith, rw c.before.before.before.header_of.ensures at c.if1.true)
+at-round : (c : tie.In-loop-made invariant-loop-made decreases-loop-made) → c.loop-made.made ≤ 2 * (header_in c.args.numbers.now).modules
+at-round c = omega (arith, rw c.header_of-h.ensures at c.loop-made-test.true)
 
-header-of-requires : tie.Need-header-of-requires invariant-loop decreases-loop
-header-of-requires c κs = c.before.before.before.before.before.before.requires.0.loaded.long
+header_of-h-requires : tie.Need-header_of-h-requires invariant-loop-made decreases-loop-made
+header_of-h-requires c κs = c.requires.0.loaded.long
 
-loop-holds : tie.Need-loop-init invariant-loop decreases-loop
+loop-made-init : tie.Need-loop-made-init invariant-loop-made decreases-loop-made
 unfolding graph_in
-loop-holds c = let s = c.before.before.before.before.before.before.before in (refl, refl, refl, refl, turning_start _ _ _ _ _ _ _ s.requires.1.0 s.requires.1.1)
+loop-made-init c = (refl, refl, refl, refl, turning_start _ _ _ _ _ _ _ c.requires.1.0 c.requires.1.1)
 
-mul-if1 : tie.Need-overflow-mul-if1 invariant-loop decreases-loop
-mul-if1 c = record { fits = rw c.before.before.header_of.ensures (omega (arith, c.before.before.before.before.before.before.before.before.before.requires.0.loaded.few_modules)) }
+overflow_mul-h : tie.Need-overflow_mul-h invariant-loop-made decreases-loop-made
+overflow_mul-h c = record { fits = rw c.header_of-h.ensures (omega (arith, c.requires.0.loaded.few_modules)) }
 
-live-before-requires : tie.Need-live-before-requires invariant-loop decreases-loop
+live_before-live-requires : tie.Need-live_before-live-requires invariant-loop-made decreases-loop-made
 unfolding graph_in
-live-before-requires c κs = let t = c.before.before.before.loop.invariant.4 in (c.before.before.before.before.before.before.before.before.before.before.before.requires.0.loaded.long, t.planned.long, t.planned.few)
+live_before-live-requires c κs = let t = c.loop-made.invariant.4 in (c.requires.0.loaded.long, t.planned.long, t.planned.few)
 
-round-requires : tie.Need-round-requires invariant-loop decreases-loop
-round-requires c κs = let s = c.before.before.before.before.before.before.before.before.before.before.before.before.before.before.before.before in let t = c.before.before.before.before.before.before.before.before.loop.invariant.4 in (s.requires.0, (t.working, t.planned, t.taken_inside))
+round-requires : tie.Need-round-requires invariant-loop-made decreases-loop-made
+round-requires c κs = let t = c.loop-made.invariant.4 in (c.requires.0, (t.working, t.planned, t.taken_inside))
 
-enum_told : tie.Need-enum-told invariant-loop decreases-loop
-enum_told c = search rules
+enum_told-1 : tie.Need-enum_told-1 invariant-loop-made decreases-loop-made
+enum_told-1 c = search rules
 
-same_length : tie.Need-same-length invariant-loop decreases-loop
-same_length c = c.before.before.before.before.before.before.before.before.before.before.round.auto.1.1.0 ∙ c.before.before.before.before.before.before.before.before.before.before.before.before.before.before.before.before.before.before.before.loop.invariant.0
+shape_of-partners-in-Full : tie.Need-shape_of-partners-in-Full invariant-loop-made decreases-loop-made
+shape_of-partners-in-Full c = c.round.auto.1.1.0 ∙ c.loop-made.invariant.0
 
-same-length-2 : tie.Need-same-length-2 invariant-loop decreases-loop
-same-length-2 c = c.before.before.before.before.before.before.before.before.before.before.round.auto.1.1.1.0 ∙ c.before.before.before.before.before.before.before.before.before.before.before.before.before.before.before.before.before.before.before.loop.invariant.1
+shape_of-marks-in-Full : tie.Need-shape_of-marks-in-Full invariant-loop-made decreases-loop-made
+shape_of-marks-in-Full c = c.round.auto.1.1.1.0 ∙ c.loop-made.invariant.1
 
-same-length-3 : tie.Need-same-length-3 invariant-loop decreases-loop
-same-length-3 c = c.before.before.before.before.before.before.before.before.before.before.round.auto.1.1.1.1.0 ∙ c.before.before.before.before.before.before.before.before.before.before.before.before.before.before.before.before.before.before.before.loop.invariant.2
+shape_of-lines-in-Full : tie.Need-shape_of-lines-in-Full invariant-loop-made decreases-loop-made
+shape_of-lines-in-Full c = c.round.auto.1.1.1.1.0 ∙ c.loop-made.invariant.2
 
-same-length-4 : tie.Need-same-length-4 invariant-loop decreases-loop
-same-length-4 c = c.before.before.before.before.before.before.before.before.before.before.round.auto.1.1.1.1.1.0 ∙ c.before.before.before.before.before.before.before.before.before.before.before.before.before.before.before.before.before.before.before.loop.invariant.3
+shape_of-plan-in-Full : tie.Need-shape_of-plan-in-Full invariant-loop-made decreases-loop-made
+shape_of-plan-in-Full c = c.round.auto.1.1.1.1.1.0 ∙ c.loop-made.invariant.3
 
-returns : tie.Need-returns invariant-loop decreases-loop
+returns-in-Full : tie.Need-returns-in-Full invariant-loop-made decreases-loop-made
 unfolding graph_in
-returns c = turn-short _ _ _ _ _ _ _ _ _ _ c.before.before.before.before.before.before.before.before.before.before.before.before.before.before.before.before.before.before.before.loop.invariant.4 (at-round c.before.before.before.before.before.before.before.before.before.before.before.before.before.before.before.before.before) _ _ _ _ (rw c.enum_told.given.1 at c.before.before.before.before.before.before.before.before.before.before.round.ensures)
+returns-in-Full c = turn-short _ _ _ _ _ _ _ _ _ _ c.loop-made.invariant.4 (at-round c.before.before.before.before.before.before.before.before.before.before.before.before.before.before.before) _ _ _ _ (rw c.in-Full.is at c.round.ensures)
 
-enum-known-n : tie.Need-enum-known-n invariant-loop decreases-loop
-enum-known-n c = search rules
+enum_known-n : tie.Need-enum_known-n invariant-loop-made decreases-loop-made
+enum_known-n c = search rules
 
-add-made : tie.Need-overflow-add-made invariant-loop decreases-loop
-add-made c = record { fits = omega (arith, at-round c.before.before.before.before.before.before.before.before.before.before.before.before.before.before.before.before.before.before, c.before.before.before.before.before.before.before.before.before.before.before.before.before.before.before.before.before.before.before.before.before.before.before.before.before.before.before.before.requires.0.loaded.few_modules) }
+overflow_add-made : tie.Need-overflow_add-made invariant-loop-made decreases-loop-made
+overflow_add-made c = record { fits = omega (arith, at-round c.before.before.before.before.before.before.before.before.before.before.before.before.before.before.before, c.requires.0.loaded.few_modules) }
 
-goes-on-requires : tie.Need-goes-on-requires invariant-loop decreases-loop
+goes_on-requires : tie.Need-goes_on-requires invariant-loop-made decreases-loop-made
 unfolding graph_in
-goes-on-requires c κs =
-    let r = rw c.before.before.before.n.given.1 at c.before.before.before.before.before.before.before.before.before.before.before.before.before.round.ensures in (
-      (turn_more _ _ _ _ _ _ _ _ _ _ c.before.before.before.before.before.before.before.before.before.before.before.before.before.before.before.before.before.before.before.before.before.before.loop.invariant.4 (at-round c.before.before.before.before.before.before.before.before.before.before.before.before.before.before.before.before.before.before.before.before) _ _ _ _ _ r, (r.working _ refl).held.room),
-      (c.before.before.before.before.before.before.before.before.before.before.before.before.before.before.before.before.before.before.before.before.before.before.before.before.before.before.before.before.before.before.requires.0.loaded.long, (r.planned _ refl).long, (r.planned _ refl).few),
+goes_on-requires c κs =
+    let r = rw c.in-Lines.is at c.round.ensures in (
+      (turn_more _ _ _ _ _ _ _ _ _ _ c.loop-made.invariant.4 (at-round c.before.before.before.before.before.before.before.before.before.before.before.before.before.before.before) _ _ _ _ _ r, (r.working _ refl).held.room),
+      (c.requires.0.loaded.long, (r.planned _ refl).long, (r.planned _ refl).few),
     )
 
-ended-with-requires : tie.Need-ended-with-requires invariant-loop decreases-loop
-ended-with-requires c κs = _
+ended_with-requires : tie.Need-ended_with-requires invariant-loop-made decreases-loop-made
+ended_with-requires c κs = _
 
-same-length-5 : tie.Need-same-length-5 invariant-loop decreases-loop
-same-length-5 c = c.before.before.before.before.before.before.before.before.before.before.before.before.before.before.before.before.round.auto.1.1.0 ∙ c.before.before.before.before.before.before.before.before.before.before.before.before.before.before.before.before.before.before.before.before.before.before.before.before.before.loop.invariant.0
+shape_of-partners-then-not-goes_on : tie.Need-shape_of-partners-then-not-goes_on invariant-loop-made decreases-loop-made
+shape_of-partners-then-not-goes_on c = c.round.auto.1.1.0 ∙ c.loop-made.invariant.0
 
-same-length-6 : tie.Need-same-length-6 invariant-loop decreases-loop
-same-length-6 c = c.before.before.before.before.before.before.before.before.before.before.before.before.before.before.before.before.round.auto.1.1.1.0 ∙ c.before.before.before.before.before.before.before.before.before.before.before.before.before.before.before.before.before.before.before.before.before.before.before.before.before.loop.invariant.1
+shape_of-marks-then-not-goes_on : tie.Need-shape_of-marks-then-not-goes_on invariant-loop-made decreases-loop-made
+shape_of-marks-then-not-goes_on c = c.round.auto.1.1.1.0 ∙ c.loop-made.invariant.1
 
-same-length-7 : tie.Need-same-length-7 invariant-loop decreases-loop
-same-length-7 c = c.before.before.before.before.before.before.before.before.before.before.before.before.before.before.before.before.round.auto.1.1.1.1.0 ∙ c.before.before.before.before.before.before.before.before.before.before.before.before.before.before.before.before.before.before.before.before.before.before.before.before.before.loop.invariant.2
+shape_of-lines-then-not-goes_on : tie.Need-shape_of-lines-then-not-goes_on invariant-loop-made decreases-loop-made
+shape_of-lines-then-not-goes_on c = c.round.auto.1.1.1.1.0 ∙ c.loop-made.invariant.2
 
-same-length-8 : tie.Need-same-length-8 invariant-loop decreases-loop
-same-length-8 c = c.before.before.before.before.before.before.before.before.before.before.before.before.before.before.before.before.round.auto.1.1.1.1.1.0 ∙ c.before.before.before.before.before.before.before.before.before.before.before.before.before.before.before.before.before.before.before.before.before.before.before.before.before.loop.invariant.3
+shape_of-plan-then-not-goes_on : tie.Need-shape_of-plan-then-not-goes_on invariant-loop-made decreases-loop-made
+shape_of-plan-then-not-goes_on c = c.round.auto.1.1.1.1.1.0 ∙ c.loop-made.invariant.3
 
-returns-2 : tie.Need-returns-2 invariant-loop decreases-loop
+returns-then-not-goes_on : tie.Need-returns-then-not-goes_on invariant-loop-made decreases-loop-made
 unfolding graph_in
-returns-2 c = turn_last _ _ _ _ _ _ _ _ _ _ c.before.before.before.before.before.before.before.before.before.before.before.before.before.before.before.before.before.before.before.before.before.before.before.before.before.loop.invariant.4 (at-round c.before.before.before.before.before.before.before.before.before.before.before.before.before.before.before.before.before.before.before.before.before.before.before) _ _ _ _ _ (rw c.before.before.before.before.before.before.n.given.1 at c.before.before.before.before.before.before.before.before.before.before.before.before.before.before.before.before.round.ensures) _ c.before.before.before.before.before.before.before.before.before.before.before.before.before.before.before.before.before.before.before.before.before.live-before.ensures _ c.before.before.goes_on.ensures (not_true _ c.before.if2.true) c.ended-with.ensures
+returns-then-not-goes_on c = turn_last _ _ _ _ _ _ _ _ _ _ c.loop-made.invariant.4 (at-round c.before.before.before.before.before.before.before.before.before.before.before.before.before.before.before.before.before.before) _ _ _ _ _ (rw c.in-Lines.is at c.round.ensures) _ c.live_before-live.ensures _ c.goes_on.ensures (not_true _ c.if-not-goes_on.true) c.ended_with.ensures
 
-loop-less : tie.Need-loop-smaller invariant-loop decreases-loop
-loop-less c = omega (arith, at-round c.before.before.before.before.before.before.before.before.before.before.before.before.before.before.before.before.before.before.before.before.before.before)
+loop-made-smaller : tie.Need-loop-made-smaller invariant-loop-made decreases-loop-made
+loop-made-smaller c = omega (arith, at-round c.before.before.before.before.before.before.before.before.before.before.before.before.before.before.before.before.before)
 
-loop-again : tie.Need-loop-preserved invariant-loop decreases-loop
+loop-made-preserved : tie.Need-loop-made-preserved invariant-loop-made decreases-loop-made
 unfolding graph_in
-loop-again c =
-    let t = c.before.before.before.before.before.before.before.before.before.before.before.before.before.before.before.before.before.before.before.before.before.before.before.before.loop.invariant in
-    let k = c.before.before.before.before.before.before.before.before.before.before.before.before.before.before.before.round.auto in (
+loop-made-preserved c =
+    let t = c.loop-made.invariant in
+    let k = c.round.auto in (
       k.1.1.0 ∙ t.0,
       k.1.1.1.0 ∙ t.1,
       k.1.1.1.1.0 ∙ t.2,
       k.1.1.1.1.1.0 ∙ t.3,
-      turn_next _ _ _ _ _ _ _ _ _ _ t.4 (at-round c.before.before.before.before.before.before.before.before.before.before.before.before.before.before.before.before.before.before.before.before.before.before) _ _ _ _ _ (rw c.before.before.before.before.before.n.given.1 at c.before.before.before.before.before.before.before.before.before.before.before.before.before.before.before.round.ensures) _ c.before.before.before.before.before.before.before.before.before.before.before.before.before.before.before.before.before.before.before.before.live-before.ensures _ c.before.goes_on.ensures (not-false _ c.if2.false),
+      turn_next _ _ _ _ _ _ _ _ _ _ t.4 (at-round c.before.before.before.before.before.before.before.before.before.before.before.before.before.before.before.before.before) _ _ _ _ _ (rw c.in-Lines.is at c.round.ensures) _ c.live_before-live.ensures _ c.goes_on.ensures (not-false _ c.if-not-goes_on.false),
     )
 
-ended-with-requires-2 : tie.Need-ended-with-requires-2 invariant-loop decreases-loop
-ended-with-requires-2 c κs = _
+ended_with-requires-2 : tie.Need-ended_with-requires-2 invariant-loop-made decreases-loop-made
+ended_with-requires-2 c κs = _
 
-same-length-9 : tie.Need-same-length-9 invariant-loop decreases-loop
-same-length-9 c = c.before.before.before.loop.invariant.0
+shape_of-partners : tie.Need-shape_of-partners invariant-loop-made decreases-loop-made
+shape_of-partners c = c.loop-made.invariant.0
 
-same-length-10 : tie.Need-same-length-10 invariant-loop decreases-loop
-same-length-10 c = c.before.before.before.loop.invariant.1
+shape_of-marks : tie.Need-shape_of-marks invariant-loop-made decreases-loop-made
+shape_of-marks c = c.loop-made.invariant.1
 
-same-length-11 : tie.Need-same-length-11 invariant-loop decreases-loop
-same-length-11 c = c.before.before.before.loop.invariant.2
+shape_of-lines : tie.Need-shape_of-lines invariant-loop-made decreases-loop-made
+shape_of-lines c = c.loop-made.invariant.2
 
-same-length-12 : tie.Need-same-length-12 invariant-loop decreases-loop
-same-length-12 c = c.before.before.before.loop.invariant.3
+shape_of-plan : tie.Need-shape_of-plan invariant-loop-made decreases-loop-made
+shape_of-plan c = c.loop-made.invariant.3
 
-returns-3 : tie.Need-returns-3 invariant-loop decreases-loop
+returns : tie.Need-returns invariant-loop-made decreases-loop-made
 unfolding graph_in
-returns-3 c = turning_end _ _ _ _ _ _ _ _ _ _ c.before.before.before.loop.invariant.4 (rw c.before.before.before.before.header_of.ensures at c.before.if1.false) c.ended-with2.ensures
+returns c = turning_end _ _ _ _ _ _ _ _ _ _ c.loop-made.invariant.4 (rw c.header_of-h.ensures at c.loop-made-test.false) c.ended_with-2.ensures
 
-pub rounds-spec : {M : Type 1} → statement M
-rounds-spec =
+pub rounds_spec : {M : Type 1} → statement M
+rounds_spec =
     tie.close
     (tie.spec
-    invariant-loop
-    decreases-loop
-    header-of-requires
-    loop-holds
-    mul-if1
-    live-before-requires
+    invariant-loop-made
+    decreases-loop-made
+    header_of-h-requires
+    loop-made-init
+    overflow_mul-h
+    live_before-live-requires
     round-requires
-    enum_told
-    same_length
-    same-length-2
-    same-length-3
-    same-length-4
-    returns
-    enum-known-n
-    add-made
-    goes-on-requires
-    ended-with-requires
-    same-length-5
-    same-length-6
-    same-length-7
-    same-length-8
-    returns-2
-    loop-less
-    loop-again
-    ended-with-requires-2
-    same-length-9
-    same-length-10
-    same-length-11
-    same-length-12
-    returns-3)
+    enum_told-1
+    shape_of-partners-in-Full
+    shape_of-marks-in-Full
+    shape_of-lines-in-Full
+    shape_of-plan-in-Full
+    returns-in-Full
+    enum_known-n
+    overflow_add-made
+    goes_on-requires
+    ended_with-requires
+    shape_of-partners-then-not-goes_on
+    shape_of-marks-then-not-goes_on
+    shape_of-lines-then-not-goes_on
+    shape_of-plan-then-not-goes_on
+    returns-then-not-goes_on
+    loop-made-smaller
+    loop-made-preserved
+    ended_with-requires-2
+    shape_of-partners
+    shape_of-marks
+    shape_of-lines
+    shape_of-plan
+    returns)

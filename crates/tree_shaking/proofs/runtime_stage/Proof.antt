@@ -5,46 +5,46 @@ use native.Mathlib.Omega.{arith}
 use Rattle.tree_shaking.proofs.runtime_stage.Statement.{statement}
 use Rattle.tree_shaking.proofs.runtime_stage.Tie as tie
 
-collect-helpers-requires : tie.Need-collect-helpers-requires
+collect_helpers-requires : tie.Need-collect_helpers-requires
 unfolding graph_in
-collect-helpers-requires c κs = let s = c.before.before.before.before.before.before.before.before in (s.requires.0, (s.requires.1.0.held.wide, s.requires.1.1))
+collect_helpers-requires c κs = (c.requires.0, (c.requires.1.0.held.wide, c.requires.1.1))
 
-collect-depended-runtime-helpers-requires : tie.Need-collect-depended-runtime-helpers-requires
+collect_depended_runtime_helpers-word-requires : tie.Need-collect_depended_runtime_helpers-word-requires
 unfolding graph_in
-collect-depended-runtime-helpers-requires c κs = let s = c.before.before.before.before.before.before.before.before.before.before.before.before.before in (s.requires.0, ((s.requires.1.0.held.wide, omega (arith, s.requires.1.1, c.before.before.before.before.collect-helpers.auto.1.1.1.0)), λ m h. (c.before.before.before.before.collect-helpers.ensures.0 m h).0))
+collect_depended_runtime_helpers-word-requires c κs = (c.requires.0, ((c.requires.1.0.held.wide, omega (arith, c.requires.1.1, c.collect_helpers.auto.1.1.1.0)), λ m h. (c.collect_helpers.ensures.by_index m h).0))
 
 begin-requires : tie.Need-begin-requires
-begin-requires c κs = let s = c.before.before.before.before.before.before.before.before.before.before.before.before.before.before.before.before.before in (s.requires.0.loaded, s.requires.1.0)
+begin-requires c κs = (c.requires.0.loaded, c.requires.1.0)
 
-include-runtime-symbol-requires : tie.Need-include-runtime-symbol-requires
-include-runtime-symbol-requires c κs = (c.before.before.before.before.before.before.before.before.before.before.before.before.before.before.before.before.before.before.before.before.before.before.before.before.before.requires.0, c.before.before.before.before.before.before.before.begin.ensures)
+include_runtime_symbol-requires : tie.Need-include_runtime_symbol-requires
+include_runtime_symbol-requires c κs = (c.requires.0, c.begin.ensures)
 
-same_length : tie.Need-same-length
-same_length c = c.before.before.before.before.before.before.include-runtime-symbol.auto.1.1.0 ∙ c.before.before.before.before.before.before.before.before.before.before.before.before.before.before.begin.auto.1.1.0
+shape_of-partners : tie.Need-shape_of-partners
+shape_of-partners c = c.include_runtime_symbol.auto.1.1.0 ∙ c.begin.auto.1.1.0
 
-same-length-2 : tie.Need-same-length-2
-same-length-2 c = c.before.before.before.before.before.before.include-runtime-symbol.auto.1.1.1.0 ∙ c.before.before.before.before.before.before.before.before.before.before.before.before.before.before.begin.auto.1.1.1.0
+shape_of-marks : tie.Need-shape_of-marks
+shape_of-marks c = c.include_runtime_symbol.auto.1.1.1.0 ∙ c.begin.auto.1.1.1.0
 
-same-length-3 : tie.Need-same-length-3
-same-length-3 c = c.before.before.before.before.before.before.include-runtime-symbol.auto.1.1.1.1.0
+shape_of-lines : tie.Need-shape_of-lines
+shape_of-lines c = c.include_runtime_symbol.auto.1.1.1.1.0
 
-same-length-4 : tie.Need-same-length-4
-same-length-4 c = c.before.before.before.before.before.before.before.before.before.before.before.before.before.before.before.before.before.before.before.before.before.before.before.collect-helpers.auto.1.1.1.0
+shape_of-plan : tie.Need-shape_of-plan
+shape_of-plan c = c.collect_helpers.auto.1.1.1.0
 
 returns : tie.Need-returns
 unfolding graph_in
-returns c = stage_ends _ _ _ _ _ c.before.before.before.before.before.before.before.before.before.before.before.before.before.before.before.before.before.before.before.before.before.before.before.before.before.before.before.before.before.before.before.before.requires.1.0 _ _ c.before.before.before.before.before.before.before.before.before.before.before.before.before.before.before.before.before.before.before.before.before.before.before.collect-helpers.ensures.0 c.before.before.before.before.before.before.before.before.before.before.before.before.before.before.before.before.before.before.before.before.before.before.before.collect-helpers.ensures.1 _ c.before.before.before.before.before.before.before.before.before.before.before.before.before.before.before.before.before.before.collect-depended-runtime-helpers.ensures _ _ _ _ c.before.before.before.before.before.before.include-runtime-symbol.ensures
+returns c = stage_ends _ _ _ _ _ c.requires.1.0 _ _ c.collect_helpers.ensures.by_index c.collect_helpers.ensures.untouched _ c.collect_depended_runtime_helpers-word.ensures _ _ _ _ c.include_runtime_symbol.ensures
 
-pub runtime-stage-spec : {M : Type 1} → statement M
-runtime-stage-spec =
+pub runtime_stage_spec : {M : Type 1} → statement M
+runtime_stage_spec =
     tie.close
     (tie.spec
-    collect-helpers-requires
-    collect-depended-runtime-helpers-requires
+    collect_helpers-requires
+    collect_depended_runtime_helpers-word-requires
     begin-requires
-    include-runtime-symbol-requires
-    same_length
-    same-length-2
-    same-length-3
-    same-length-4
+    include_runtime_symbol-requires
+    shape_of-partners
+    shape_of-marks
+    shape_of-lines
+    shape_of-plan
     returns)

@@ -9,117 +9,117 @@ use native.Mathlib.Omega.{arith}
 use Rattle.tree_shaking.proofs.try_dynamic_entries.Statement.{statement}
 use Rattle.tree_shaking.proofs.try_dynamic_entries.Tie as tie
 
-abbrev invariant-loop : tie.invariant-loop
-invariant-loop numbers tables partners₀ marks₀ lines₀ plan₀ users count h total₀ i₀ partners marks lines plan total i = (length partners ≡ length partners₀) × (length marks ≡ length marks₀) × (length lines ≡ length lines₀) × (length plan ≡ length plan₀) × Trying (graph_in numbers) users (left_at (graph_in numbers) i₀ lines₀ plan₀ total₀) partners marks lines plan total i
+abbrev invariant-loop-i : tie.invariant-loop-i
+invariant-loop-i numbers tables partners₀ marks₀ lines₀ plan₀ users count h total₀ i₀ partners marks lines plan total i = (length partners ≡ length partners₀) × (length marks ≡ length marks₀) × (length lines ≡ length lines₀) × (length plan ≡ length plan₀) × Trying (graph_in numbers) users (left_at (graph_in numbers) i₀ lines₀ plan₀ total₀) partners marks lines plan total i
 
-abbrev decreases-loop : tie.decreases-loop
-decreases-loop numbers tables partners₀ marks₀ lines₀ plan₀ users count h total₀ i₀ partners marks lines plan total i = (header_in numbers).entries - i
+abbrev decreases-loop-i : tie.decreases-loop-i
+decreases-loop-i numbers tables partners₀ marks₀ lines₀ plan₀ users count h total₀ i₀ partners marks lines plan total i = (header_in numbers).entries - i
 
 -- in the loop there is an entry
-at_entry : (c : tie.Then1 invariant-loop decreases-loop) → c.before.before.loop.i < (header_in c.before.before.before.before.before.before.before.before.before.before.before.before.before.before.before.args.numbers.now).entries
-at_entry c = rw (sym c.before.before.before.before.before.before.before.before.header_of.ensures) c.if1.true
+at_entry : (c : tie.In-loop-i invariant-loop-i decreases-loop-i) → c.loop-i.i < (header_in c.args.numbers.now).entries
+at_entry c = rw (sym c.header_of-h.ensures) c.loop-i-test.true
 
-header-of-requires : tie.Need-header-of-requires invariant-loop decreases-loop
-header-of-requires c κs = c.before.before.before.before.before.before.requires.0.loaded.long
+header_of-h-requires : tie.Need-header_of-h-requires invariant-loop-i decreases-loop-i
+header_of-h-requires c κs = c.requires.0.loaded.long
 
-next-live-requires : tie.Need-next-live-requires invariant-loop decreases-loop
+next_live-i-requires : tie.Need-next_live-i-requires invariant-loop-i decreases-loop-i
 unfolding graph_in
-next-live-requires c κs = let s = c.before.before.before.before.before.before.before.before.before in (s.requires.0, ((s.requires.1.1, omega (arith, s.requires.1.1.users_are, s.requires.1.1.all), s.requires.1.0.held.wide)))
+next_live-i-requires c κs = (c.requires.0, ((c.requires.1.1, omega (arith, c.requires.1.1.users_are, c.requires.1.1.all), c.requires.1.0.held.wide)))
 
-loop-holds : tie.Need-loop-init invariant-loop decreases-loop
+loop-i-init : tie.Need-loop-i-init invariant-loop-i decreases-loop-i
 unfolding graph_in
-loop-holds c = let s = c.before.before.before.before.before.before.before.before.before.before.before.before in (refl, refl, refl, refl, trying_begin _ _ _ _ _ _ _ _ s.requires.1.0 _ s.requires.1.1 c.before.before.next-live.ensures)
+loop-i-init c = (refl, refl, refl, refl, trying_begin _ _ _ _ _ _ _ _ c.requires.1.0 _ c.requires.1.1 c.next_live-i.ensures)
 
-include-live-entry-requires : tie.Need-include-live-entry-requires invariant-loop decreases-loop
+include_live_entry-requires : tie.Need-include_live_entry-requires invariant-loop-i decreases-loop-i
 unfolding graph_in
-include-live-entry-requires c κs = let s = c.before.before.before.before.before.before.before.before.before.before.before.before.before.before.before.before.before.before.before in let t = c.before.before.before.before.before.before.loop.invariant.4 in (s.requires.0, (t.working, t.planned.long, t.planned.are_entries, at_entry c.before.before.before.before))
+include_live_entry-requires c κs = let t = c.loop-i.invariant.4 in (c.requires.0, (t.working, t.planned.long, t.planned.are_entries, at_entry c.before.before.before.before))
 
-enum_told : tie.Need-enum-told invariant-loop decreases-loop
-enum_told c = search rules
+enum_told-1 : tie.Need-enum_told-1 invariant-loop-i decreases-loop-i
+enum_told-1 c = search rules
 
-same_length : tie.Need-same-length invariant-loop decreases-loop
-same_length c = search rules
+shape_of-partners-in-Full : tie.Need-shape_of-partners-in-Full invariant-loop-i decreases-loop-i
+shape_of-partners-in-Full c = search rules
 
-same-length-2 : tie.Need-same-length-2 invariant-loop decreases-loop
-same-length-2 c = search rules
+shape_of-marks-in-Full : tie.Need-shape_of-marks-in-Full invariant-loop-i decreases-loop-i
+shape_of-marks-in-Full c = search rules
 
-same-length-3 : tie.Need-same-length-3 invariant-loop decreases-loop
-same-length-3 c = search rules
+shape_of-lines-in-Full : tie.Need-shape_of-lines-in-Full invariant-loop-i decreases-loop-i
+shape_of-lines-in-Full c = search rules
 
-same-length-4 : tie.Need-same-length-4 invariant-loop decreases-loop
-same-length-4 c = search rules
+shape_of-plan-in-Full : tie.Need-shape_of-plan-in-Full invariant-loop-i decreases-loop-i
+shape_of-plan-in-Full c = search rules
 
-returns : tie.Need-returns invariant-loop decreases-loop
+returns-in-Full : tie.Need-returns-in-Full invariant-loop-i decreases-loop-i
 unfolding graph_in
-returns c = let e = c.before.before.before.before.before.before.before.before.before.before.include-live-entry.ensures in progressed_same _ _ _ _ (trying_whole _ _ _ _ _ _ _ _ c.before.before.before.before.before.before.before.before.before.before.before.before.before.before.before.before.before.before.before.before.before.before.before.before.before.before.before.before.before.before.requires.1.0 _ c.before.before.before.before.before.before.before.before.before.before.before.before.before.before.before.before.before.before.before.before.before.before.before.before.before.before.before.before.before.before.requires.1.1 c.before.before.before.before.before.before.before.before.before.before.before.before.before.before.before.before.before.before.before.before.next-live.ensures) _ _ _ _ _ (turn-full _ _ _ _ _ _ _ _ _ c.before.before.before.before.before.before.before.before.before.before.before.before.before.before.before.before.before.loop.invariant.4 (at_entry c.before.before.before.before.before.before.before.before.before.before.before.before.before.before.before) e.2 _ e.1 _ _ _ _ (rw c.enum_told.given.1 at e.0))
+returns-in-Full c = let e = c.include_live_entry.ensures in progressed_same _ _ _ _ (trying_whole _ _ _ _ _ _ _ _ c.requires.1.0 _ c.requires.1.1 c.next_live-i.ensures) _ _ _ _ _ (turn-full _ _ _ _ _ _ _ _ _ c.loop-i.invariant.4 (at_entry c.before.before.before.before.before.before.before.before.before.before.before.before.before.before) e.2 _ e.1 _ _ _ _ (rw c.in-Full.is at e.0))
 
-enum-known-n : tie.Need-enum-known-n invariant-loop decreases-loop
-enum-known-n c = search rules
+enum_known-n : tie.Need-enum_known-n invariant-loop-i decreases-loop-i
+enum_known-n c = search rules
 
-add-next-live : tie.Need-overflow-add-next-live invariant-loop decreases-loop
-add-next-live c = let s = c.before.before.before.before.before.before.before.before.before.before.before.before.before.before.before.before.before.before.before.before.before.before.before.before.before.before.before.before.before.before.before.before.before in record { fits = omega (arith, at_entry c.before.before.before.before.before.before.before.before.before.before.before.before.before.before.before.before.before.before, s.requires.0.loaded.few_entries) }
+overflow_add-i : tie.Need-overflow_add-i invariant-loop-i decreases-loop-i
+overflow_add-i c = record { fits = omega (arith, at_entry c.before.before.before.before.before.before.before.before.before.before.before.before.before.before.before, c.requires.0.loaded.few_entries) }
 
-next-live-requires-2 : tie.Need-next-live-requires-2 invariant-loop decreases-loop
+next_live-i-requires-in-loop-i : tie.Need-next_live-i-requires-in-loop-i invariant-loop-i decreases-loop-i
 unfolding graph_in
-next-live-requires-2 c κs = let s = c.before.before.before.before.before.before.before.before.before.before.before.before.before.before.before.before.before.before.before.before.before.before.before.before.before.before.before.before.before.before.before.before.before in let e = c.before.before.before.before.before.before.before.before.before.before.before.before.before.include-live-entry.ensures in let w = turn-working _ _ _ _ _ _ _ _ _ c.before.before.before.before.before.before.before.before.before.before.before.before.before.before.before.before.before.before.before.before.loop.invariant.4 (at_entry c.before.before.before.before.before.before.before.before.before.before.before.before.before.before.before.before.before.before) e.2 _ e.1 _ _ _ _ (rw c.before.before.before.n.given.1 at e.0) in (s.requires.0, (turn_planned _ _ _ _ _ _ _ _ _ c.before.before.before.before.before.before.before.before.before.before.before.before.before.before.before.before.before.before.before.before.loop.invariant.4 (at_entry c.before.before.before.before.before.before.before.before.before.before.before.before.before.before.before.before.before.before) e.2 _ e.1, omega (arith, at_entry c.before.before.before.before.before.before.before.before.before.before.before.before.before.before.before.before.before.before), w.held.wide))
+next_live-i-requires-in-loop-i c κs = let e = c.include_live_entry.ensures in let w = turn-working _ _ _ _ _ _ _ _ _ c.loop-i.invariant.4 (at_entry c.before.before.before.before.before.before.before.before.before.before.before.before.before.before.before) e.2 _ e.1 _ _ _ _ (rw c.in-Lines.is at e.0) in (c.requires.0, (turn_planned _ _ _ _ _ _ _ _ _ c.loop-i.invariant.4 (at_entry c.before.before.before.before.before.before.before.before.before.before.before.before.before.before.before) e.2 _ e.1, omega (arith, at_entry c.before.before.before.before.before.before.before.before.before.before.before.before.before.before.before), w.held.wide))
 
-loop-less : tie.Need-loop-smaller invariant-loop decreases-loop
-loop-less c = omega (arith, at_entry c.before.before.before.before.before.before.before.before.before.before.before.before.before.before.before.before.before.before.before.before.before, c.before.before.next-live2.ensures.forward)
+loop-i-smaller : tie.Need-loop-i-smaller invariant-loop-i decreases-loop-i
+loop-i-smaller c = omega (arith, at_entry c.before.before.before.before.before.before.before.before.before.before.before.before.before.before.before.before.before.before, c.next_live-i-in-loop-i.ensures.forward)
 
-loop-again : tie.Need-loop-preserved invariant-loop decreases-loop
+loop-i-preserved : tie.Need-loop-i-preserved invariant-loop-i decreases-loop-i
 unfolding graph_in
-loop-again c =
-    let t = c.before.before.before.before.before.before.before.before.before.before.before.before.before.before.before.before.before.before.before.before.before.before.before.loop.invariant in
-    let h = at_entry c.before.before.before.before.before.before.before.before.before.before.before.before.before.before.before.before.before.before.before.before.before in
-    let e = c.before.before.before.before.before.before.before.before.before.before.before.before.before.before.before.before.include-live-entry.ensures in
-    let k = c.before.before.before.before.before.before.before.before.before.before.before.before.before.before.before.before.include-live-entry.auto in
-    let s = rw c.before.before.before.before.before.before.n.given.1 at e.0 in (
+loop-i-preserved c =
+    let t = c.loop-i.invariant in
+    let h = at_entry c.before.before.before.before.before.before.before.before.before.before.before.before.before.before.before.before.before.before in
+    let e = c.include_live_entry.ensures in
+    let k = c.include_live_entry.auto in
+    let s = rw c.in-Lines.is at e.0 in (
       k.1.1.0 ∙ t.0,
       k.1.1.1.0 ∙ t.1,
       k.1.1.1.1.0 ∙ t.2,
-      c.before.before.next-live2.auto.1.1.1.0 ∙ k.1.1.1.1.1.0 ∙ t.3,
-      trying_on _ _ _ _ _ _ _ _ (turn-working _ _ _ _ _ _ _ _ _ t.4 h e.2 _ e.1 _ _ _ _ s) _ (turn_planned _ _ _ _ _ _ _ _ _ t.4 h e.2 _ e.1) _ _ c.before.before.next-live2.ensures (turn_on _ _ _ _ _ _ _ _ _ t.4 h e.2 _ e.1 _ _ _ _ s),
+      c.next_live-i-in-loop-i.auto.1.1.1.0 ∙ k.1.1.1.1.1.0 ∙ t.3,
+      trying_on _ _ _ _ _ _ _ _ (turn-working _ _ _ _ _ _ _ _ _ t.4 h e.2 _ e.1 _ _ _ _ s) _ (turn_planned _ _ _ _ _ _ _ _ _ t.4 h e.2 _ e.1) _ _ c.next_live-i-in-loop-i.ensures (turn_on _ _ _ _ _ _ _ _ _ t.4 h e.2 _ e.1 _ _ _ _ s),
     )
 
-same-length-5 : tie.Need-same-length-5 invariant-loop decreases-loop
-same-length-5 c = c.before.before.loop.invariant.0
+shape_of-partners : tie.Need-shape_of-partners invariant-loop-i decreases-loop-i
+shape_of-partners c = c.loop-i.invariant.0
 
-same-length-6 : tie.Need-same-length-6 invariant-loop decreases-loop
-same-length-6 c = c.before.before.loop.invariant.1
+shape_of-marks : tie.Need-shape_of-marks invariant-loop-i decreases-loop-i
+shape_of-marks c = c.loop-i.invariant.1
 
-same-length-7 : tie.Need-same-length-7 invariant-loop decreases-loop
-same-length-7 c = c.before.before.loop.invariant.2
+shape_of-lines : tie.Need-shape_of-lines invariant-loop-i decreases-loop-i
+shape_of-lines c = c.loop-i.invariant.2
 
-same-length-8 : tie.Need-same-length-8 invariant-loop decreases-loop
-same-length-8 c = c.before.before.loop.invariant.3 ∙ c.before.before.before.before.before.next-live.auto.1.1.1.0
+shape_of-plan : tie.Need-shape_of-plan invariant-loop-i decreases-loop-i
+shape_of-plan c = c.loop-i.invariant.3 ∙ c.next_live-i.auto.1.1.1.0
 
-returns-2 : tie.Need-returns-2 invariant-loop decreases-loop
+returns : tie.Need-returns invariant-loop-i decreases-loop-i
 unfolding graph_in
-returns-2 c = progressed_same _ _ _ _ (trying_whole _ _ _ _ _ _ _ _ c.before.before.before.before.before.before.before.before.before.before.before.before.before.before.before.requires.1.0 _ c.before.before.before.before.before.before.before.before.before.before.before.before.before.before.before.requires.1.1 c.before.before.before.before.before.next-live.ensures) _ _ _ _ _ (trying_done _ _ _ _ _ _ _ _ _ c.before.before.loop.invariant.4 (rw c.before.before.before.before.before.before.before.before.header_of.ensures at c.if1.false))
+returns c = progressed_same _ _ _ _ (trying_whole _ _ _ _ _ _ _ _ c.requires.1.0 _ c.requires.1.1 c.next_live-i.ensures) _ _ _ _ _ (trying_done _ _ _ _ _ _ _ _ _ c.loop-i.invariant.4 (rw c.header_of-h.ensures at c.loop-i-test.false))
 
-pub try-dynamic-entries-spec : {M : Type 1} → statement M
-try-dynamic-entries-spec =
+pub try_dynamic_entries_spec : {M : Type 1} → statement M
+try_dynamic_entries_spec =
     tie.close
     (tie.spec
-    invariant-loop
-    decreases-loop
-    header-of-requires
-    next-live-requires
-    loop-holds
-    include-live-entry-requires
-    enum_told
-    same_length
-    same-length-2
-    same-length-3
-    same-length-4
-    returns
-    enum-known-n
-    add-next-live
-    next-live-requires-2
-    loop-less
-    loop-again
-    same-length-5
-    same-length-6
-    same-length-7
-    same-length-8
-    returns-2)
+    invariant-loop-i
+    decreases-loop-i
+    header_of-h-requires
+    next_live-i-requires
+    loop-i-init
+    include_live_entry-requires
+    enum_told-1
+    shape_of-partners-in-Full
+    shape_of-marks-in-Full
+    shape_of-lines-in-Full
+    shape_of-plan-in-Full
+    returns-in-Full
+    enum_known-n
+    overflow_add-i
+    next_live-i-requires-in-loop-i
+    loop-i-smaller
+    loop-i-preserved
+    shape_of-partners
+    shape_of-marks
+    shape_of-lines
+    shape_of-plan
+    returns)

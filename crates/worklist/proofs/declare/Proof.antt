@@ -12,79 +12,79 @@ use native.Mathlib.Omega.{arith}
 use Rattle.worklist.proofs.declare.Statement.{statement}
 use Rattle.worklist.proofs.declare.Tie as tie
 
-abbrev invariant-loop : tie.invariant-loop
-invariant-loop numbers tables marks₀ lines₀ s a b owner declaring base total₀ i₀ marks lines total i = (length marks ≡ length marks₀) × (length lines ≡ length lines₀) × (i ≤ declaring) × Going (graph_in numbers) base (adds (graph_in numbers) base (lines_of total₀ lines₀) (joined (graph_in numbers) s.0 a b)) (joined_from (graph_in numbers) s.0 a b declaring i) total₀ marks lines total
+abbrev invariant-loop-i : tie.invariant-loop-i
+invariant-loop-i numbers tables marks₀ lines₀ s a b owner declaring base total₀ i₀ marks lines total i = (length marks ≡ length marks₀) × (length lines ≡ length lines₀) × (i ≤ declaring) × Going (graph_in numbers) base (adds (graph_in numbers) base (lines_of total₀ lines₀) (joined (graph_in numbers) s.0 a b)) (joined_from (graph_in numbers) s.0 a b declaring i) total₀ marks lines total
 
-abbrev decreases-loop : tie.decreases-loop
-decreases-loop numbers tables marks₀ lines₀ s a b owner declaring base total₀ i₀ marks lines total i = declaring - i
+abbrev decreases-loop-i : tie.decreases-loop-i
+decreases-loop-i numbers tables marks₀ lines₀ s a b owner declaring base total₀ i₀ marks lines total i = declaring - i
 
-owner-requires : tie.Need-owner-requires invariant-loop decreases-loop
-owner-requires c κs = let s = c.before.before.before.before in (s.requires.0.loaded, s.requires.1.1.0)
+owner-owner-requires : tie.Need-owner-owner-requires invariant-loop-i decreases-loop-i
+owner-owner-requires c κs = (c.requires.0.loaded, c.requires.1.1.0)
 
-declaring-count-requires : tie.Need-declaring-count-requires invariant-loop decreases-loop
-declaring-count-requires c κs = let s = c.before.before.before.before.before in (s.requires.0.loaded, s.requires.1.1.0)
+declaring_count-declaring-requires : tie.Need-declaring_count-declaring-requires invariant-loop-i decreases-loop-i
+declaring_count-declaring-requires c κs = (c.requires.0.loaded, c.requires.1.1.0)
 
-loop-holds : tie.Need-loop-init invariant-loop decreases-loop
-loop-holds c = let s = c.before.before.before.before.before.before in (refl, refl, omega arith, declare_start _ _ _ _ _ c.declaring-count.ensures.0 _ _ _ _ s.requires.1.0)
+loop-i-init : tie.Need-loop-i-init invariant-loop-i decreases-loop-i
+loop-i-init c = (refl, refl, omega arith, declare_start _ _ _ _ _ c.declaring_count-declaring.ensures.0 _ _ _ _ c.requires.1.0)
 
-declaring-requires : tie.Need-declaring-requires invariant-loop decreases-loop
-declaring-requires c κs = let s = c.before.before.before.before.before.before.before.before in (s.requires.0.loaded, (s.requires.1.1.0, omega (arith, c.loop-test.true, c.before.before.declaring-count.ensures.0)))
+declaring-statement-requires : tie.Need-declaring-statement-requires invariant-loop-i decreases-loop-i
+declaring-statement-requires c κs = (c.requires.0.loaded, (c.requires.1.1.0, omega (arith, c.loop-i-test.true, c.declaring_count-declaring.ensures.0)))
 
-add-requires : tie.Need-add-requires invariant-loop decreases-loop
-add-requires c κs = let s = c.before.before.before.before.before.before.before.before.before.before.before in (s.requires.0.loaded, (c.before.before.before.before.loop.invariant.3.held, joined-writable _ _ _ _ _ c.before.before.before.before.before.declaring-count.ensures.0 _ c.before.before.before.loop-test.true _ _ c.before.before.before.before.before.before.owner.ensures.0 c.before.before.declaring.ensures.0 c.before.before.before.before.before.before.owner.ensures.1 c.before.before.declaring.ensures.1 _ (omega (arith, s.requires.1.1.1, c.before.before.before.before.loop.invariant.3.more)) (omega (arith, s.requires.1.1.2, c.before.before.before.before.loop.invariant.3.more))))
+add-requires : tie.Need-add-requires invariant-loop-i decreases-loop-i
+add-requires c κs = (c.requires.0.loaded, (c.loop-i.invariant.3.held, joined-writable _ _ _ _ _ c.declaring_count-declaring.ensures.0 _ c.loop-i-test.true _ _ c.owner-owner.ensures.0 c.declaring-statement.ensures.0 c.owner-owner.ensures.1 c.declaring-statement.ensures.1 _ (omega (arith, c.requires.1.1.1, c.loop-i.invariant.3.more)) (omega (arith, c.requires.1.1.2, c.loop-i.invariant.3.more))))
 
-enum-known-n : tie.Need-enum-known-n invariant-loop decreases-loop
-enum-known-n c = search rules
+enum_known-n : tie.Need-enum_known-n invariant-loop-i decreases-loop-i
+enum_known-n c = search rules
 
-enum_told : tie.Need-enum-told invariant-loop decreases-loop
-enum_told c = search rules
+enum_told-1 : tie.Need-enum_told-1 invariant-loop-i decreases-loop-i
+enum_told-1 c = search rules
 
-same_length : tie.Need-same-length invariant-loop decreases-loop
-same_length c = search rules
+shape_of-marks-in-Full : tie.Need-shape_of-marks-in-Full invariant-loop-i decreases-loop-i
+shape_of-marks-in-Full c = search rules
 
-same-length-2 : tie.Need-same-length-2 invariant-loop decreases-loop
-same-length-2 c = search rules
+shape_of-lines-in-Full : tie.Need-shape_of-lines-in-Full invariant-loop-i decreases-loop-i
+shape_of-lines-in-Full c = search rules
 
-returns : tie.Need-returns invariant-loop decreases-loop
-returns c = declare-full _ _ _ _ _ c.before.before.before.before.before.before.before.before.before.before.before.before.declaring-count.ensures.0 _ _ _ _ _ _ _ c.before.before.before.before.before.before.before.before.before.before.before.loop.invariant.3 c.before.before.before.before.before.before.before.before.before.before.loop-test.true _ _ c.before.before.before.before.before.before.before.before.before.before.before.before.before.owner.ensures.0 c.before.before.before.before.before.before.before.before.before.declaring.ensures.0 _ _ (rw c.enum_told.given.1 at c.before.before.before.before.before.before.add.ensures)
+returns-in-Full : tie.Need-returns-in-Full invariant-loop-i decreases-loop-i
+returns-in-Full c = declare-full _ _ _ _ _ c.declaring_count-declaring.ensures.0 _ _ _ _ _ _ _ c.loop-i.invariant.3 c.loop-i-test.true _ _ c.owner-owner.ensures.0 c.declaring-statement.ensures.0 _ _ (rw c.in-Full.is at c.add.ensures)
 
-add-i : tie.Need-overflow-add-i invariant-loop decreases-loop
-add-i c = record { fits = omega (arith, c.before.before.before.before.before.before.before.before.before.before.before.loop-test.true, c.before.before.before.before.before.before.before.before.before.before.before.before.before.declaring-count.ensures.0) }
+overflow_add-i : tie.Need-overflow_add-i invariant-loop-i decreases-loop-i
+overflow_add-i c = record { fits = omega (arith, c.loop-i-test.true, c.declaring_count-declaring.ensures.0) }
 
-loop-less : tie.Need-loop-smaller invariant-loop decreases-loop
-loop-less c = omega (arith, c.before.before.before.before.before.before.before.before.before.before.before.loop-test.true)
+loop-i-smaller : tie.Need-loop-i-smaller invariant-loop-i decreases-loop-i
+loop-i-smaller c = omega (arith, c.loop-i-test.true)
 
-loop-again : tie.Need-loop-preserved invariant-loop decreases-loop
-loop-again c = (c.before.before.before.before.before.before.before.add.auto.1.1.0 ∙ c.before.before.before.before.before.before.before.before.before.before.before.before.loop.invariant.0, c.before.before.before.before.before.before.before.add.auto.1.1.1.0 ∙ c.before.before.before.before.before.before.before.before.before.before.before.before.loop.invariant.1, omega (arith, c.before.before.before.before.before.before.before.before.before.before.before.loop-test.true), declare-step _ _ _ _ _ c.before.before.before.before.before.before.before.before.before.before.before.before.before.declaring-count.ensures.0 _ _ _ _ _ _ _ c.before.before.before.before.before.before.before.before.before.before.before.before.loop.invariant.3 c.before.before.before.before.before.before.before.before.before.before.before.loop-test.true _ _ c.before.before.before.before.before.before.before.before.before.before.before.before.before.before.owner.ensures.0 c.before.before.before.before.before.before.before.before.before.before.declaring.ensures.0 _ _ _ (rw c.before.n.given.1 at c.before.before.before.before.before.before.before.add.ensures))
+loop-i-preserved : tie.Need-loop-i-preserved invariant-loop-i decreases-loop-i
+loop-i-preserved c = (c.add.auto.1.1.0 ∙ c.loop-i.invariant.0, c.add.auto.1.1.1.0 ∙ c.loop-i.invariant.1, omega (arith, c.loop-i-test.true), declare-step _ _ _ _ _ c.declaring_count-declaring.ensures.0 _ _ _ _ _ _ _ c.loop-i.invariant.3 c.loop-i-test.true _ _ c.owner-owner.ensures.0 c.declaring-statement.ensures.0 _ _ _ (rw c.in-Lines.is at c.add.ensures))
 
-same-length-3 : tie.Need-same-length-3 invariant-loop decreases-loop
-same-length-3 c = search rules
+shape_of-marks : tie.Need-shape_of-marks invariant-loop-i decreases-loop-i
+shape_of-marks c = search rules
 
-same-length-4 : tie.Need-same-length-4 invariant-loop decreases-loop
-same-length-4 c = search rules
+shape_of-lines : tie.Need-shape_of-lines invariant-loop-i decreases-loop-i
+shape_of-lines c = search rules
 
-returns-2 : tie.Need-returns-2 invariant-loop decreases-loop
-returns-2 c = declare-done _ _ _ _ _ c.before.before.declaring-count.ensures.0 _ _ _ _ _ _ _ c.before.loop.invariant.3 c.loop-test.false
+returns : tie.Need-returns invariant-loop-i decreases-loop-i
+returns c = declare-done _ _ _ _ _ c.declaring_count-declaring.ensures.0 _ _ _ _ _ _ _ c.loop-i.invariant.3 c.loop-i-test.false
 
-pub declare-spec : {M : Type 1} → statement M
-declare-spec =
+pub declare_spec : {M : Type 1} → statement M
+declare_spec =
     tie.close
     (tie.spec
-    invariant-loop
-    decreases-loop
-    owner-requires
-    declaring-count-requires
-    loop-holds
-    declaring-requires
+    invariant-loop-i
+    decreases-loop-i
+    owner-owner-requires
+    declaring_count-declaring-requires
+    loop-i-init
+    declaring-statement-requires
     add-requires
-    enum-known-n
-    enum_told
-    same_length
-    same-length-2
-    returns
-    add-i
-    loop-less
-    loop-again
-    same-length-3
-    same-length-4
-    returns-2)
+    enum_known-n
+    enum_told-1
+    shape_of-marks-in-Full
+    shape_of-lines-in-Full
+    returns-in-Full
+    overflow_add-i
+    loop-i-smaller
+    loop-i-preserved
+    shape_of-marks
+    shape_of-lines
+    returns)

@@ -13,79 +13,79 @@ use native.Mathlib.Omega.{arith}
 use Rattle.worklist.proofs.drain_work_items.Statement.{statement}
 use Rattle.worklist.proofs.drain_work_items.Tie as tie
 
-abbrev invariant-loop : tie.invariant-loop
-invariant-loop numbers tables partners₀ marks₀ lines₀ k base total₀ at₀ partners marks lines total at = (length partners ≡ length partners₀) × (length marks ≡ length marks₀) × (length lines ≡ length lines₀) × Draining (graph_in numbers) (last_verdicts (graph_in numbers)) base (drained (graph_in numbers) (last_verdicts (graph_in numbers)) base (mark_count (graph_in numbers)) k (lines_of total₀ lines₀)) k partners marks lines total at
+abbrev invariant-loop-at : tie.invariant-loop-at
+invariant-loop-at numbers tables partners₀ marks₀ lines₀ k base total₀ at₀ partners marks lines total at = (length partners ≡ length partners₀) × (length marks ≡ length marks₀) × (length lines ≡ length lines₀) × Draining (graph_in numbers) (last_verdicts (graph_in numbers)) base (drained (graph_in numbers) (last_verdicts (graph_in numbers)) base (mark_count (graph_in numbers)) k (lines_of total₀ lines₀)) k partners marks lines total at
 
-abbrev decreases-loop : tie.decreases-loop
-decreases-loop numbers tables partners₀ marks₀ lines₀ k base total₀ at₀ partners marks lines total at = base + mark_count (graph_in numbers) - at
+abbrev decreases-loop-at : tie.decreases-loop-at
+decreases-loop-at numbers tables partners₀ marks₀ lines₀ k base total₀ at₀ partners marks lines total at = base + mark_count (graph_in numbers) - at
 
 -- there is a line to handle
-below : (c : tie.In-loop invariant-loop decreases-loop) → c.before.loop.at < c.before.loop.total
-below c = omega (arith, c.loop-test.true, c.before.loop.invariant.3.begun, c.before.loop.invariant.3.low)
+below : (c : tie.In-loop-at invariant-loop-at decreases-loop-at) → c.loop-at.at < c.loop-at.total
+below c = omega (arith, c.loop-at-test.true, c.loop-at.invariant.3.begun, c.loop-at.invariant.3.low)
 
-loop-holds : tie.Need-loop-init invariant-loop decreases-loop
-loop-holds c = let s = c.before.before.before.before.before in (refl, refl, refl, drain_start _ _ _ _ _ _ _ _ s.requires.1.0 s.requires.1.1.0 s.requires.1.1.1.0 s.requires.1.1.1.1)
+loop-at-init : tie.Need-loop-at-init invariant-loop-at decreases-loop-at
+loop-at-init c = (refl, refl, refl, drain_start _ _ _ _ _ _ _ _ c.requires.1.0 c.requires.1.1.0 c.requires.1.1.1.0 c.requires.1.1.1.1)
 
-handle-requires : tie.Need-handle-requires invariant-loop decreases-loop
-handle-requires c κs = let s = c.before.before.before.before.before.before.before.before.before.before in (s.requires.0, (c.before.before.before.before.loop.invariant.3.held, (c.before.before.before.before.loop.invariant.3.linked, (omega (arith, c.before.before.before.before.loop.invariant.3.over, c.before.before.before.before.loop.invariant.3.begun), below c.before.before.before))))
+handle-requires : tie.Need-handle-requires invariant-loop-at decreases-loop-at
+handle-requires c κs = (c.requires.0, (c.loop-at.invariant.3.held, (c.loop-at.invariant.3.linked, (omega (arith, c.loop-at.invariant.3.over, c.loop-at.invariant.3.begun), below c.before.before.before))))
 
-enum-known-n : tie.Need-enum-known-n invariant-loop decreases-loop
-enum-known-n c = search rules
+enum_known-n : tie.Need-enum_known-n invariant-loop-at decreases-loop-at
+enum_known-n c = search rules
 
-enum_told : tie.Need-enum-told invariant-loop decreases-loop
-enum_told c = search rules
+enum_told-1 : tie.Need-enum_told-1 invariant-loop-at decreases-loop-at
+enum_told-1 c = search rules
 
-same_length : tie.Need-same-length invariant-loop decreases-loop
-same_length c = search rules
+shape_of-partners-in-Full : tie.Need-shape_of-partners-in-Full invariant-loop-at decreases-loop-at
+shape_of-partners-in-Full c = search rules
 
-same-length-2 : tie.Need-same-length-2 invariant-loop decreases-loop
-same-length-2 c = search rules
+shape_of-marks-in-Full : tie.Need-shape_of-marks-in-Full invariant-loop-at decreases-loop-at
+shape_of-marks-in-Full c = search rules
 
-same-length-3 : tie.Need-same-length-3 invariant-loop decreases-loop
-same-length-3 c = search rules
+shape_of-lines-in-Full : tie.Need-shape_of-lines-in-Full invariant-loop-at decreases-loop-at
+shape_of-lines-in-Full c = search rules
 
-returns : tie.Need-returns invariant-loop decreases-loop
-returns c = let s = c.before.before.before.before.before.before.before.before.before.before.before.before.before.before.before.before.before.before.before in drain_full _ _ _ _ _ _ _ _ _ _ c.before.before.before.before.before.before.before.before.before.before.before.before.before.loop.invariant.3 (below c.before.before.before.before.before.before.before.before.before.before.before.before) (held_few s.requires.0.loaded _ _ _ _ c.before.before.before.before.before.before.before.before.before.before.before.before.before.loop.invariant.3.held) _ _ _ (rw c.enum_told.given.1 at c.before.before.before.before.before.before.before.before.handle.ensures)
+returns-in-Full : tie.Need-returns-in-Full invariant-loop-at decreases-loop-at
+returns-in-Full c = drain_full _ _ _ _ _ _ _ _ _ _ c.loop-at.invariant.3 (below c.before.before.before.before.before.before.before.before.before.before.before) (held_few c.requires.0.loaded _ _ _ _ c.loop-at.invariant.3.held) _ _ _ (rw c.in-Full.is at c.handle.ensures)
 
-add_at : tie.Need-overflow-add-at invariant-loop decreases-loop
-add_at c = let s = c.before.before.before.before.before.before.before.before.before.before.before.before.before.before.before.before.before.before.before.before in record { fits = omega (arith, below c.before.before.before.before.before.before.before.before.before.before.before.before.before, held_few s.requires.0.loaded _ _ _ _ c.before.before.before.before.before.before.before.before.before.before.before.before.before.before.loop.invariant.3.held, c.before.before.before.before.before.before.before.before.before.before.before.before.before.before.loop.invariant.3.held.base_few, marks_few s.requires.0.loaded) }
+overflow_add-at : tie.Need-overflow_add-at invariant-loop-at decreases-loop-at
+overflow_add-at c = record { fits = omega (arith, below c.before.before.before.before.before.before.before.before.before.before.before, held_few c.requires.0.loaded _ _ _ _ c.loop-at.invariant.3.held, c.loop-at.invariant.3.held.base_few, marks_few c.requires.0.loaded) }
 
-loop-less : tie.Need-loop-smaller invariant-loop decreases-loop
-loop-less c = let s = c.before.before.before.before.before.before.before.before.before.before.before.before.before.before.before.before.before.before.before.before in omega (arith, below c.before.before.before.before.before.before.before.before.before.before.before.before.before, held_few s.requires.0.loaded _ _ _ _ c.before.before.before.before.before.before.before.before.before.before.before.before.before.before.loop.invariant.3.held)
+loop-at-smaller : tie.Need-loop-at-smaller invariant-loop-at decreases-loop-at
+loop-at-smaller c = omega (arith, below c.before.before.before.before.before.before.before.before.before.before.before, held_few c.requires.0.loaded _ _ _ _ c.loop-at.invariant.3.held)
 
-loop-again : tie.Need-loop-preserved invariant-loop decreases-loop
-loop-again c = let s = c.before.before.before.before.before.before.before.before.before.before.before.before.before.before.before.before.before.before.before.before in (c.before.before.before.before.before.before.before.before.before.handle.auto.1.1.0 ∙ c.before.before.before.before.before.before.before.before.before.before.before.before.before.before.loop.invariant.0, c.before.before.before.before.before.before.before.before.before.handle.auto.1.1.1.0 ∙ c.before.before.before.before.before.before.before.before.before.before.before.before.before.before.loop.invariant.1, c.before.before.before.before.before.before.before.before.before.handle.auto.1.1.1.1.0 ∙ c.before.before.before.before.before.before.before.before.before.before.before.before.before.before.loop.invariant.2, drain_step _ _ _ _ _ _ _ _ _ _ c.before.before.before.before.before.before.before.before.before.before.before.before.before.before.loop.invariant.3 (below c.before.before.before.before.before.before.before.before.before.before.before.before.before) (held_few s.requires.0.loaded _ _ _ _ c.before.before.before.before.before.before.before.before.before.before.before.before.before.before.loop.invariant.3.held) _ _ _ _ (rw c.before.n.given.1 at c.before.before.before.before.before.before.before.before.before.handle.ensures))
+loop-at-preserved : tie.Need-loop-at-preserved invariant-loop-at decreases-loop-at
+loop-at-preserved c = (c.handle.auto.1.1.0 ∙ c.loop-at.invariant.0, c.handle.auto.1.1.1.0 ∙ c.loop-at.invariant.1, c.handle.auto.1.1.1.1.0 ∙ c.loop-at.invariant.2, drain_step _ _ _ _ _ _ _ _ _ _ c.loop-at.invariant.3 (below c.before.before.before.before.before.before.before.before.before.before.before) (held_few c.requires.0.loaded _ _ _ _ c.loop-at.invariant.3.held) _ _ _ _ (rw c.in-Lines.is at c.handle.ensures))
 
-same-length-4 : tie.Need-same-length-4 invariant-loop decreases-loop
-same-length-4 c = search rules
+shape_of-partners : tie.Need-shape_of-partners invariant-loop-at decreases-loop-at
+shape_of-partners c = search rules
 
-same-length-5 : tie.Need-same-length-5 invariant-loop decreases-loop
-same-length-5 c = search rules
+shape_of-marks : tie.Need-shape_of-marks invariant-loop-at decreases-loop-at
+shape_of-marks c = search rules
 
-same-length-6 : tie.Need-same-length-6 invariant-loop decreases-loop
-same-length-6 c = search rules
+shape_of-lines : tie.Need-shape_of-lines invariant-loop-at decreases-loop-at
+shape_of-lines c = search rules
 
-returns-2 : tie.Need-returns-2 invariant-loop decreases-loop
-returns-2 c = drain_done _ _ _ _ _ _ _ _ _ _ c.before.loop.invariant.3 c.loop-test.false
+returns : tie.Need-returns invariant-loop-at decreases-loop-at
+returns c = drain_done _ _ _ _ _ _ _ _ _ _ c.loop-at.invariant.3 c.loop-at-test.false
 
-pub drain-work-items-spec : {M : Type 1} → statement M
-drain-work-items-spec =
+pub drain_work_items_spec : {M : Type 1} → statement M
+drain_work_items_spec =
     tie.close
     (tie.spec
-    invariant-loop
-    decreases-loop
-    loop-holds
+    invariant-loop-at
+    decreases-loop-at
+    loop-at-init
     handle-requires
-    enum-known-n
-    enum_told
-    same_length
-    same-length-2
-    same-length-3
-    returns
-    add_at
-    loop-less
-    loop-again
-    same-length-4
-    same-length-5
-    same-length-6
-    returns-2)
+    enum_known-n
+    enum_told-1
+    shape_of-partners-in-Full
+    shape_of-marks-in-Full
+    shape_of-lines-in-Full
+    returns-in-Full
+    overflow_add-at
+    loop-at-smaller
+    loop-at-preserved
+    shape_of-partners
+    shape_of-marks
+    shape_of-lines
+    returns)

@@ -9,63 +9,63 @@ use borrow.Author.Rules.{rules}
 use Rattle.worklist.proofs.handle.Statement.{statement}
 use Rattle.worklist.proofs.handle.Tie as tie
 
-fact-at-requires : tie.Need-fact-at-requires
-fact-at-requires c κs = let s = c.before.before.before.before.before.before in omega (arith, s.requires.1.0.room, s.requires.1.1.1.1)
+fact_at-fact-requires : tie.Need-fact_at-fact-requires
+fact_at-fact-requires c κs = omega (arith, c.requires.1.0.room, c.requires.1.1.1.1)
 
 join-requires : tie.Need-join-requires
-join-requires c κs = let s = c.before.before.before.before.before.before.before.before.before.before in (s.requires.0, (s.requires.1.0, (s.requires.1.1.0, (rw c.before.before.before.fact_at.ensures (s.requires.1.0.good _ s.requires.1.1.1.1), s.requires.1.1.1.0, s.requires.1.1.1.1))))
+join-requires c κs = (c.requires.0, (c.requires.1.0, (c.requires.1.1.0, (rw c.fact_at-fact.ensures (c.requires.1.0.good _ c.requires.1.1.1.1), c.requires.1.1.1.0, c.requires.1.1.1.1))))
 
-enum_told : tie.Need-enum-told
-enum_told c = search rules
+enum_told-1 : tie.Need-enum_told-1
+enum_told-1 c = search rules
 
-enum-known-joined : tie.Need-enum-known-joined
-enum-known-joined c = search rules
+enum_known-joined : tie.Need-enum_known-joined
+enum_known-joined c = search rules
 
 link-requires : tie.Need-link-requires
-link-requires c κs = let s = c.before.before.before.before.before.before.before.before.before.before.before.before.before.before.before.before.before.before.before.before in (s.requires.0, (link-ready _ _ (last_verdicts (graph_in s.args.numbers.now)) _ _ _ _ s.requires.1.1.1.1 c.before.before.before.before.before.before.before.before.before.before.before.before.before.fact_at.ensures _ _ _ (rw c.before.before.before.joined.given.1 at c.before.before.before.before.before.before.before.before.before.join.ensures) s.requires.1.1.1.0, still-linked _ _ (last_verdicts (graph_in s.args.numbers.now)) _ _ _ _ s.requires.1.1.1.1 c.before.before.before.before.before.before.before.before.before.before.before.before.before.fact_at.ensures _ _ _ (rw c.before.before.before.joined.given.1 at c.before.before.before.before.before.before.before.before.before.join.ensures) _ s.requires.1.1.0))
+link-requires c κs = (c.requires.0, (link-ready _ _ (last_verdicts (graph_in c.args.numbers.now)) _ _ _ _ c.requires.1.1.1.1 c.fact_at-fact.ensures _ _ _ (rw c.in-Lines.is at c.join.ensures) c.requires.1.1.1.0, still-linked _ _ (last_verdicts (graph_in c.args.numbers.now)) _ _ _ _ c.requires.1.1.1.1 c.fact_at-fact.ensures _ _ _ (rw c.in-Lines.is at c.join.ensures) _ c.requires.1.1.0))
 
 follow-requires : tie.Need-follow-requires
-follow-requires c κs = let s = c.before.before.before.before.before.before.before.before.before.before.before.before.before.before.before.before.before.before.before.before.before.before.before.before.before in (s.requires.0, (((rw c.before.before.before.before.before.before.before.before.joined.given.1 at c.before.before.before.before.before.before.before.before.before.before.before.before.before.before.join.ensures).held _ refl).1, (rw c.before.before.before.before.before.before.before.before.before.before.before.before.before.before.before.before.before.before.fact_at.ensures (s.requires.1.0.good _ s.requires.1.1.1.1), (link-ready _ _ (last_verdicts (graph_in s.args.numbers.now)) _ _ _ _ s.requires.1.1.1.1 c.before.before.before.before.before.before.before.before.before.before.before.before.before.before.before.before.before.before.fact_at.ensures _ _ _ (rw c.before.before.before.before.before.before.before.before.joined.given.1 at c.before.before.before.before.before.before.before.before.before.before.before.before.before.before.join.ensures) s.requires.1.1.1.0).inside)))
+follow-requires c κs = (c.requires.0, (((rw c.in-Lines.is at c.join.ensures).held _ refl).1, (rw c.fact_at-fact.ensures (c.requires.1.0.good _ c.requires.1.1.1.1), (link-ready _ _ (last_verdicts (graph_in c.args.numbers.now)) _ _ _ _ c.requires.1.1.1.1 c.fact_at-fact.ensures _ _ _ (rw c.in-Lines.is at c.join.ensures) c.requires.1.1.1.0).inside)))
 
-same_length : tie.Need-same-length
-same_length c = search rules
+shape_of-partners-in-Full : tie.Need-shape_of-partners-in-Full
+shape_of-partners-in-Full c = search rules
 
-same-length-2 : tie.Need-same-length-2
-same-length-2 c = search rules
+shape_of-marks-in-Full : tie.Need-shape_of-marks-in-Full
+shape_of-marks-in-Full c = search rules
 
-same-length-3 : tie.Need-same-length-3
-same-length-3 c = search rules
+shape_of-lines-in-Full : tie.Need-shape_of-lines-in-Full
+shape_of-lines-in-Full c = search rules
 
-returns : tie.Need-returns
-returns c = let s = c.before.before.before.before.before.before.before.before.before.before.before.before.before.before.before.before.before in handle_full _ _ _ _ _ _ _ s.requires.1.1.1.1 c.before.before.before.before.before.before.before.before.before.before.fact_at.ensures _ _ _ (rw c.enum_told.given.1 at c.before.before.before.before.before.before.join.ensures)
+returns-in-Full : tie.Need-returns-in-Full
+returns-in-Full c = handle_full _ _ _ _ _ _ _ c.requires.1.1.1.1 c.fact_at-fact.ensures _ _ _ (rw c.in-Full.is at c.join.ensures)
 
-same-length-4 : tie.Need-same-length-4
-same-length-4 c = search rules
+shape_of-partners-in-Lines : tie.Need-shape_of-partners-in-Lines
+shape_of-partners-in-Lines c = search rules
 
-same-length-5 : tie.Need-same-length-5
-same-length-5 c = search rules
+shape_of-marks-in-Lines : tie.Need-shape_of-marks-in-Lines
+shape_of-marks-in-Lines c = search rules
 
-same-length-6 : tie.Need-same-length-6
-same-length-6 c = search rules
+shape_of-lines-in-Lines : tie.Need-shape_of-lines-in-Lines
+shape_of-lines-in-Lines c = search rules
 
-returns-2 : tie.Need-returns-2
-returns-2 c = let s = c.before.before.before.before.before.before.before.before.before.before.before.before.before.before.before.before.before.before.before.before.before.before.before.before.before.before.before.before.before.before in handle-done _ _ (last_verdicts (graph_in s.args.numbers.now)) _ _ _ _ s.requires.1.1.1.1 c.before.before.before.before.before.before.before.before.before.before.before.before.before.before.before.before.before.before.before.before.before.before.before.fact_at.ensures _ _ _ (rw c.before.before.before.before.before.before.before.before.before.before.before.before.before.joined.given.1 at c.before.before.before.before.before.before.before.before.before.before.before.before.before.before.before.before.before.before.before.join.ensures) _ _ _ _ c.before.before.before.before.before.before.before.before.before.link.ensures c.before.before.before.before.follow.ensures
+returns-in-Lines : tie.Need-returns-in-Lines
+returns-in-Lines c = handle-done _ _ (last_verdicts (graph_in c.args.numbers.now)) _ _ _ _ c.requires.1.1.1.1 c.fact_at-fact.ensures _ _ _ (rw c.in-Lines.is at c.join.ensures) _ _ _ _ c.link.ensures c.follow.ensures
 
-pub handle-spec : {M : Type 1} → statement M
-handle-spec =
+pub handle_spec : {M : Type 1} → statement M
+handle_spec =
     tie.close
     (tie.spec
-    fact-at-requires
+    fact_at-fact-requires
     join-requires
-    enum_told
-    enum-known-joined
+    enum_told-1
+    enum_known-joined
     link-requires
     follow-requires
-    same_length
-    same-length-2
-    same-length-3
-    returns
-    same-length-4
-    same-length-5
-    same-length-6
-    returns-2)
+    shape_of-partners-in-Full
+    shape_of-marks-in-Full
+    shape_of-lines-in-Full
+    returns-in-Full
+    shape_of-partners-in-Lines
+    shape_of-marks-in-Lines
+    shape_of-lines-in-Lines
+    returns-in-Lines)

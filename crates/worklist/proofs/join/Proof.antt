@@ -11,112 +11,110 @@ use borrow.Author.Rules.{rules}
 use Rattle.worklist.proofs.join.Statement.{statement}
 use Rattle.worklist.proofs.join.Tie as tie
 
-enum-known-fact : tie.Need-enum-known-fact
-enum-known-fact c = search rules
+enum_known-fact : tie.Need-enum_known-fact
+enum_known-fact c = search rules
 
-join-forwards-requires : tie.Need-join-forwards-requires
-join-forwards-requires c κs = let s = c.before.before.before.before.before.before.before.before.before.before in (s.requires.0, (s.requires.1.0, (s.requires.1.1.0, (good_module _ _ s.requires.1.1.1.0 _ c.before.before.before.fact.given.1, s.requires.1.1.1.1, s.requires.1.1.1.2))))
+join_forwards-requires : tie.Need-join_forwards-requires
+join_forwards-requires c κs = (c.requires.0, (c.requires.1.0, (c.requires.1.1.0, (good_module _ _ c.requires.1.1.1.0 _ c.in-Module.is, c.requires.1.1.1.1, c.requires.1.1.1.2))))
 
-enum-known-fact-2 : tie.Need-enum-known-fact-2
-enum-known-fact-2 c = search rules
+enum_known-fact-in-Forward-1 : tie.Need-enum_known-fact-in-Forward-1
+enum_known-fact-in-Forward-1 c = search rules
 
-owner-requires : tie.Need-owner-requires
-owner-requires c κs = let s = c.before.before.before.before.before.before.before.before in (s.requires.0.loaded, good_forward _ _ s.requires.1.1.1.0 _ c.before.fact2.given.1)
+owner-owner-requires : tie.Need-owner-owner-requires
+owner-owner-requires c κs = (c.requires.0.loaded, good_forward _ _ c.requires.1.1.1.0 _ c.in-Forward.is)
 
-mul-line : tie.Need-overflow-mul-line
-mul-line c = search rules
+offset_bounds-partners-o : tie.Need-offset_bounds-partners-o
+offset_bounds-partners-o c = search rules
 
-shared-slice-read-line : tie.Need-shared-slice-read-line
-shared-slice-read-line c = let s = c.before.before.before.before.before.before.before.before.before.before in owner_linked _ _ _ _ s.requires.1.1.0 _ c.before.owner.ensures.1
+bounds-partners-o : tie.Need-bounds-partners-o
+bounds-partners-o c = owner_linked _ _ _ _ c.requires.1.1.0 _ c.owner-owner.ensures.1
 
-returns : tie.Need-returns
+returns-then-line-eq0 : tie.Need-returns-then-line-eq0
 unfolding graph_in
-returns c = let s = c.before.before.before.before.before.before.before.before.before.before.before in join-alone _ _ _ _ _ _ _ _ s.requires.1.1.0 _ c.before.before.before.before.fact2.given.1 _ c.before.before.owner.ensures.0 c.before.before.owner.ensures.1 c.if1.true s.requires.1.0
+returns-then-line-eq0 c = join-alone _ _ _ _ _ _ _ _ c.requires.1.1.0 _ c.in-Forward.is _ c.owner-owner.ensures.0 c.owner-owner.ensures.1 c.if-line-eq0.true c.requires.1.0
 
 -- the name of the module's line
-named : (c : tie.Joined2) → let s = c.before.before.before.before.before.before.before.before.before.before.before.before.before in c.if2.name ≡ name_of s.args.stage.base (get_or s.args.partners.now c.before.before.before.before.owner.result.0 0)
-named c = ⊎_elim (λ w. w.1 ∙ sym (name_old _ _ w.0.taken)) (λ w. w.1 ∙ sym (name_own _ _ w.0.left)) c.if2.branch
+named : (c : tie.Joined-line-stage) → c.if-line-stage.name ≡ name_of c.args.stage.base (get_or c.args.partners.now c.owner-owner.result.0 0)
+named c = ⊎_elim (λ w. w.1 ∙ sym (name_old _ _ w.0.taken)) (λ w. w.1 ∙ sym (name_own _ _ w.0.left)) c.if-line-stage.branch
 
-add-declare : tie.Need-overflow-add-declare
-add-declare c = let s = c.before.before.before.before.before.before.before.before.before.before.before.before.before.before.before in record { fits = omega (arith, s.requires.1.1.1.2, held_few s.requires.0.loaded _ _ _ _ s.requires.1.0, s.requires.1.0.base_few, marks_few s.requires.0.loaded) }
+overflow_add-k : tie.Need-overflow_add-k
+overflow_add-k c = record { fits = omega (arith, c.requires.1.1.1.2, held_few c.requires.0.loaded _ _ _ _ c.requires.1.0, c.requires.1.0.base_few, marks_few c.requires.0.loaded) }
 
 declare-requires : tie.Need-declare-requires
 unfolding graph_in
 declare-requires c κs =
-    let s = c.before.before.before.before.before.before.before.before.before.before.before.before.before.before.before in
-    let o = c.before.before.before.before.before.before.owner.result.0 in
-    let low = line_low _ _ _ _ s.args.marks.now _ _ _ s.requires.1.1.0 _ c.before.before.before.before.before.before.before.before.fact2.given.1 _ c.before.before.before.before.before.before.owner.ensures.0 c.before.before.before.before.before.before.owner.ensures.1 s.requires.1.1.1.2 in
-    (s.requires.0, (s.requires.1.0, (good_forward _ _ s.requires.1.1.1.0 _ c.before.before.before.before.before.before.before.before.fact2.given.1, omega (arith, s.requires.1.1.1.2), omega (arith, named c.before.before, name_low s.args.stage.base (get_or s.args.partners.now o 0), low))))
+    let o = c.owner-owner.result.0 in
+    let low = line_low _ _ _ _ c.args.marks.now _ _ _ c.requires.1.1.0 _ c.in-Forward.is _ c.owner-owner.ensures.0 c.owner-owner.ensures.1 c.requires.1.1.1.2 in
+    (c.requires.0, (c.requires.1.0, (good_forward _ _ c.requires.1.1.1.0 _ c.in-Forward.is, omega (arith, c.requires.1.1.1.2), omega (arith, named c.before.before, name_low c.args.stage.base (get_or c.args.partners.now o 0), low))))
 
-enum_told : tie.Need-enum-told
-enum_told c = search rules
+enum_told-1 : tie.Need-enum_told-1
+enum_told-1 c = search rules
 
-enum-told-2 : tie.Need-enum-told-2
-enum-told-2 c = search rules
+enum_told-in-Use : tie.Need-enum_told-in-Use
+enum_told-in-Use c = search rules
 
-enum-told-3 : tie.Need-enum-told-3
-enum-told-3 c = search rules
+enum_told-in-CheckedUse : tie.Need-enum_told-in-CheckedUse
+enum_told-in-CheckedUse c = search rules
 
-enum-told-4 : tie.Need-enum-told-4
-enum-told-4 c = search rules
+enum_told-in-Bailout : tie.Need-enum_told-in-Bailout
+enum_told-in-Bailout c = search rules
 
-same_length : tie.Need-same-length
-same_length c = search rules
+shape_of-marks-in-Module : tie.Need-shape_of-marks-in-Module
+shape_of-marks-in-Module c = search rules
 
-same-length-2 : tie.Need-same-length-2
-same-length-2 c = search rules
+shape_of-lines-in-Module : tie.Need-shape_of-lines-in-Module
+shape_of-lines-in-Module c = search rules
 
-returns-2 : tie.Need-returns-2
-returns-2 c = let s = c.before.before.before.before.before.before.before.before.before.before.before.before.before.before.before in join_module _ _ _ _ s.args.marks.now _ _ _ c.before.before.before.before.before.before.before.before.fact.given.1 _ _ _ c.before.before.before.before.join-forwards.ensures
+returns-in-Module : tie.Need-returns-in-Module
+returns-in-Module c = join_module _ _ _ _ c.args.marks.now _ _ _ c.in-Module.is _ _ _ c.join_forwards.ensures
 
-same-length-3 : tie.Need-same-length-3
-same-length-3 c = search rules
+shape_of-marks-after-line-stage : tie.Need-shape_of-marks-after-line-stage
+shape_of-marks-after-line-stage c = search rules
 
-same-length-4 : tie.Need-same-length-4
-same-length-4 c = search rules
+shape_of-lines-after-line-stage : tie.Need-shape_of-lines-after-line-stage
+shape_of-lines-after-line-stage c = search rules
 
-returns-3 : tie.Need-returns-3
+returns-after-line-stage : tie.Need-returns-after-line-stage
 unfolding graph_in
-returns-3 c =
-    let s = c.before.before.before.before.before.before.before.before.before.before.before.before.before.before.before.before.before.before.before.before in
-    join-forward _ _ _ _ s.args.marks.now _ _ _ s.requires.1.1.0 _ c.before.before.before.before.before.before.before.before.before.before.before.before.before.fact2.given.1 _ c.before.before.before.before.before.before.before.before.before.before.before.owner.ensures.0 c.before.before.before.before.before.before.before.before.before.before.before.owner.ensures.1 c.before.before.before.before.before.before.before.before.before.if1.false _ (named c.before.before.before.before.before.before.before) _ _ _ c.before.before.before.before.declare.ensures
+returns-after-line-stage c =
+    join-forward _ _ _ _ c.args.marks.now _ _ _ c.requires.1.1.0 _ c.in-Forward.is _ c.owner-owner.ensures.0 c.owner-owner.ensures.1 c.if-line-eq0.false _ (named c.before.before.before.before.before.before.before) _ _ _ c.declare.ensures
 
-returns-4 : tie.Need-returns-4
-returns-4 c = let s = c.before.before.before.before.before.before.before in join_statement _ _ _ _ _ _ _ _ _ c.enum_told.given.1 s.requires.1.0
+returns-in-Statement : tie.Need-returns-in-Statement
+returns-in-Statement c = join_statement _ _ _ _ _ _ _ _ _ c.in-Statement.is c.requires.1.0
 
-returns-5 : tie.Need-returns-5
-returns-5 c = let s = c.before.before.before.before.before.before.before in join_use _ _ _ _ _ _ _ _ _ c.enum-told2.given.1 s.requires.1.0
+returns-in-Use : tie.Need-returns-in-Use
+returns-in-Use c = join_use _ _ _ _ _ _ _ _ _ c.in-Use.is c.requires.1.0
 
-returns-6 : tie.Need-returns-6
-returns-6 c = let s = c.before.before.before.before.before.before.before in join_checked _ _ _ _ _ _ _ _ _ c.enum-told3.given.1 s.requires.1.0
+returns-in-CheckedUse : tie.Need-returns-in-CheckedUse
+returns-in-CheckedUse c = join_checked _ _ _ _ _ _ _ _ _ c.in-CheckedUse.is c.requires.1.0
 
-returns-7 : tie.Need-returns-7
-returns-7 c = let s = c.before.before.before.before.before.before.before in join_bailout _ _ _ _ _ _ _ _ c.enum-told4.given.1 s.requires.1.0
+returns-in-Bailout : tie.Need-returns-in-Bailout
+returns-in-Bailout c = join_bailout _ _ _ _ _ _ _ _ c.in-Bailout.is c.requires.1.0
 
-pub join-spec : {M : Type 1} → statement M
-join-spec =
+pub join_spec : {M : Type 1} → statement M
+join_spec =
     tie.close
     (tie.spec
-    enum-known-fact
-    join-forwards-requires
-    enum-known-fact-2
-    owner-requires
-    mul-line
-    shared-slice-read-line
-    returns
-    add-declare
+    enum_known-fact
+    join_forwards-requires
+    enum_known-fact-in-Forward-1
+    owner-owner-requires
+    offset_bounds-partners-o
+    bounds-partners-o
+    returns-then-line-eq0
+    overflow_add-k
     declare-requires
-    enum_told
-    enum-told-2
-    enum-told-3
-    enum-told-4
-    same_length
-    same-length-2
-    returns-2
-    same-length-3
-    same-length-4
-    returns-3
-    returns-4
-    returns-5
-    returns-6
-    returns-7)
+    enum_told-1
+    enum_told-in-Use
+    enum_told-in-CheckedUse
+    enum_told-in-Bailout
+    shape_of-marks-in-Module
+    shape_of-lines-in-Module
+    returns-in-Module
+    shape_of-marks-after-line-stage
+    shape_of-lines-after-line-stage
+    returns-after-line-stage
+    returns-in-Statement
+    returns-in-Use
+    returns-in-CheckedUse
+    returns-in-Bailout)

@@ -12,147 +12,146 @@ use native.Mathlib.Omega.{arith}
 use Rattle.worklist.proofs.join_forwards.Statement.{statement}
 use Rattle.worklist.proofs.join_forwards.Tie as tie
 
-abbrev invariant-loop : tie.invariant-loop
-invariant-loop numbers tables partners marks₀ lines₀ k firsts nexts owner base total₀ at₀ marks lines total at = Walking (graph_in numbers) base lines₀ total₀ k owner marks lines total at × (length marks ≡ length marks₀) × (length lines ≡ length lines₀)
+abbrev invariant-loop-at : tie.invariant-loop-at
+invariant-loop-at numbers tables partners marks₀ lines₀ k firsts nexts owner base total₀ at₀ marks lines total at = Walking (graph_in numbers) base lines₀ total₀ k owner marks lines total at × (length marks ≡ length marks₀) × (length lines ≡ length lines₀)
 
-abbrev decreases-loop : tie.decreases-loop
-decreases-loop numbers tables partners marks₀ lines₀ k firsts nexts owner base total₀ at₀ marks lines total at = ahead k at
+abbrev decreases-loop-at : tie.decreases-loop-at
+decreases-loop-at numbers tables partners marks₀ lines₀ k firsts nexts owner base total₀ at₀ marks lines total at = ahead k at
 
 -- the table of the first k lines
-table : (s : tie.Start invariant-loop decreases-loop) → Linked (graph_in s.args.numbers.now) s.args.stage.base s.args.partners.now (lines_of s.args.k s.args.lines.now)
+table : (s : tie.Start invariant-loop-at decreases-loop-at) → Linked (graph_in s.args.numbers.now) s.args.stage.base s.args.partners.now (lines_of s.args.k s.args.lines.now)
 table s = walk_table _ _ _ _ _ _ s.requires.1.1.1.2 s.requires.1.1.0
 
-owned : (s : tie.Start invariant-loop decreases-loop) → s.args.m.0 < (graph_in s.args.numbers.now).header.modules
+owned : (s : tie.Start invariant-loop-at decreases-loop-at) → s.args.m.0 < (graph_in s.args.numbers.now).header.modules
 unfolding graph_in
 owned s = s.requires.1.1.1.0
 
 -- the table has a size
-size_fits : (c : tie.After-header-of invariant-loop decreases-loop) → partners_size c.header_of.result < 18446744073709551616
-size_fits c = let s = c.before.before.before.before.before.before in rw c.header_of.ensures (omega (arith, s.requires.0.loaded.few_modules, s.requires.0.loaded.few_symbols))
+size_fits : (c : tie.After-header_of-h invariant-loop-at decreases-loop-at) → partners_size c.header_of-h.result < 18446744073709551616
+size_fits c = rw c.header_of-h.ensures (omega (arith, c.requires.0.loaded.few_modules, c.requires.0.loaded.few_symbols))
 
 -- its numbers
-its : (c : tie.After-nexts-at invariant-loop decreases-loop) → let s = c.before.before.before.before.before.before.before.before in let h = c.before.before.header_of.result in
-    (h.modules ≡ (graph_in s.args.numbers.now).header.modules)
-    × (s.args.m.0 < h.modules)
+its : (c : tie.After-nexts_at-nexts invariant-loop-at decreases-loop-at) → let h = c.header_of-h.result in
+    (h.modules ≡ (graph_in c.args.numbers.now).header.modules)
+    × (c.args.m.0 < h.modules)
     × (h.modules ≤ 1024)
-    × (3 * h.modules + (graph_in s.args.numbers.now).header.symbols ≤ length s.args.partners.now)
-    × ((graph_in s.args.numbers.now).header.symbols ≤ 16384)
-    × (s.args.k < s.args.stage.count)
-    × (c.before.firsts_at.result ≡ h.modules)
-    × (c.nexts-at.result ≡ 3 * h.modules)
+    × (3 * h.modules + (graph_in c.args.numbers.now).header.symbols ≤ length c.args.partners.now)
+    × ((graph_in c.args.numbers.now).header.symbols ≤ 16384)
+    × (c.args.k < c.args.stage.count)
+    × (c.firsts_at-firsts.result ≡ h.modules)
+    × (c.nexts_at-nexts.result ≡ 3 * h.modules)
 unfolding graph_in
 its c =
-    let s = c.before.before.before.before.before.before.before.before in
-    let m = ap (λ x. x.modules) c.before.before.header_of.ensures in
-    (m, omega (arith, m, s.requires.1.1.1.0), omega (arith, m, s.requires.0.loaded.few_modules), omega (arith, m, s.requires.1.1.0.long), s.requires.0.loaded.few_symbols, s.requires.1.1.1.2, c.before.firsts_at.ensures, c.nexts-at.ensures)
+    let m = ap (λ x. x.modules) c.header_of-h.ensures in
+    (m, omega (arith, m, c.requires.1.1.1.0), omega (arith, m, c.requires.0.loaded.few_modules), omega (arith, m, c.requires.1.1.0.long), c.requires.0.loaded.few_symbols, c.requires.1.1.1.2, c.firsts_at-firsts.ensures, c.nexts_at-nexts.ensures)
 
-header-of-requires : tie.Need-header-of-requires invariant-loop decreases-loop
-header-of-requires c κs = let s = c.before.before.before.before.before in s.requires.0.loaded.long
+header_of-h-requires : tie.Need-header_of-h-requires invariant-loop-at decreases-loop-at
+header_of-h-requires c κs = c.requires.0.loaded.long
 
-firsts-at-requires : tie.Need-firsts-at-requires invariant-loop decreases-loop
-firsts-at-requires c κs = size_fits c
+firsts_at-firsts-requires : tie.Need-firsts_at-firsts-requires invariant-loop-at decreases-loop-at
+firsts_at-firsts-requires c κs = size_fits c
 
-nexts-at-requires : tie.Need-nexts-at-requires invariant-loop decreases-loop
-nexts-at-requires c κs = size_fits c.before
+nexts_at-nexts-requires : tie.Need-nexts_at-nexts-requires invariant-loop-at decreases-loop-at
+nexts_at-nexts-requires c κs = size_fits c.before
 
-add_at : tie.Need-overflow-add-at invariant-loop decreases-loop
-add_at c = let n = its c in omega (arith, n.0, n.1, n.2, n.3, n.4, n.5, n.6, n.7)
+overflow_add-at : tie.Need-overflow_add-at invariant-loop-at decreases-loop-at
+overflow_add-at c = let n = its c in omega (arith, n.0, n.1, n.2, n.3, n.4, n.5, n.6, n.7)
 
-mul_at : tie.Need-overflow-mul-at invariant-loop decreases-loop
-mul_at c = let n = its c in omega (arith, n.0, n.1, n.2, n.3, n.4, n.5, n.6, n.7)
+offset_bounds-partners-firsts : tie.Need-offset_bounds-partners-firsts invariant-loop-at decreases-loop-at
+offset_bounds-partners-firsts c = let n = its c in omega (arith, n.0, n.1, n.2, n.3, n.4, n.5, n.6, n.7)
 
-shared-slice-read-at : tie.Need-shared-slice-read-at invariant-loop decreases-loop
-shared-slice-read-at c = let n = its c.before in omega (arith, n.0, n.1, n.2, n.3, n.4, n.5, n.6, n.7)
+bounds-partners-firsts : tie.Need-bounds-partners-firsts invariant-loop-at decreases-loop-at
+bounds-partners-firsts c = let n = its c.before in omega (arith, n.0, n.1, n.2, n.3, n.4, n.5, n.6, n.7)
 
-loop-holds : tie.Need-loop-init invariant-loop decreases-loop
+loop-at-init : tie.Need-loop-at-init invariant-loop-at decreases-loop-at
 unfolding graph_in
-loop-holds c = let s = c.before.before.before.before.before.before.before.before.before in let n = its c.before in (walk_start _ _ _ _ _ _ _ (table s) (owned s) s.requires.1.1.1.2 _ _ s.requires.1.0 (ap (λ (x : ℕ). get_or s.args.partners.now (x + s.args.m.0) 0) (n.6 ∙ n.0)), refl, refl)
+loop-at-init c = let n = its c.before in (walk_start _ _ _ _ _ _ _ (table c.before.before.before.before.before.before.before.before.before) (owned c.before.before.before.before.before.before.before.before.before) c.requires.1.1.1.2 _ _ c.requires.1.0 (ap (λ (x : ℕ). get_or c.args.partners.now (x + c.args.m.0) 0) (n.6 ∙ n.0)), refl, refl)
 
-sub-fact-at : tie.Need-overflow-sub-fact-at invariant-loop decreases-loop
-sub-fact-at c = omega (arith, c.before.loop-test.true)
+overflow_sub-at : tie.Need-overflow_sub-at invariant-loop-at decreases-loop-at
+overflow_sub-at c = omega (arith, c.loop-at-test.true)
 
-fact-at-requires : tie.Need-fact-at-requires invariant-loop decreases-loop
-fact-at-requires c κs = let s = c.before.before.before.before.before.before.before.before.before.before.before.before in let w = c.before.before.loop.invariant.0 in let z : c.before.before.loop.at ≡ 0 → ⊥ = λ q. omega (arith, q, c.before.loop-test.true) in let n = its c.before.before.before.before in omega (arith, n.5, w.inside z, w.more, w.held.room, c.before.loop-test.true)
+fact_at-requires : tie.Need-fact_at-requires invariant-loop-at decreases-loop-at
+fact_at-requires c κs = let w = c.loop-at.invariant.0 in let z : c.loop-at.at ≡ 0 → ⊥ = λ q. omega (arith, q, c.loop-at-test.true) in let n = its c.before.before.before in omega (arith, n.5, w.inside z, w.more, w.held.room, c.loop-at-test.true)
 
-first-part-requires : tie.Need-first-part-requires invariant-loop decreases-loop
-first-part-requires c κs = search rules
+first_part-requires : tie.Need-first_part-requires invariant-loop-at decreases-loop-at
+first_part-requires c κs = search rules
 
-add-declare : tie.Need-overflow-add-declare invariant-loop decreases-loop
-add-declare c = let s = c.before.before.before.before.before.before.before.before.before.before.before.before.before.before.before.before in omega (arith, s.requires.1.1.1.2, held_few s.requires.0.loaded _ _ _ _ s.requires.1.0, s.requires.1.0.base_few, marks_few s.requires.0.loaded)
+overflow_add-k : tie.Need-overflow_add-k invariant-loop-at decreases-loop-at
+overflow_add-k c = omega (arith, c.requires.1.1.1.2, held_few c.requires.0.loaded _ _ _ _ c.requires.1.0, c.requires.1.0.base_few, marks_few c.requires.0.loaded)
 
-declare-requires : tie.Need-declare-requires invariant-loop decreases-loop
+declare-requires : tie.Need-declare-requires invariant-loop-at decreases-loop-at
 unfolding graph_in
-declare-requires c κs = let s = c.before.before.before.before.before.before.before.before.before.before.before.before.before.before.before.before in let w = c.before.before.before.before.before.before.loop.invariant.0 in let z : c.before.before.before.before.before.before.loop.at ≡ 0 → ⊥ = λ q. omega (arith, q, c.before.before.before.before.before.loop-test.true) in let n = its c.before.before.before.before.before.before.before.before in (s.requires.0, (w.held, (walk-symbol _ _ _ _ _ _ _ (table s) (owned s) s.requires.1.1.1.2 _ _ _ _ w z _ (c.before.before.first_part.ensures ∙ ap first_part c.before.before.before.fact_at.ensures), omega (arith, n.5, w.more), omega (arith, n.5, w.more, w.inside z))))
+declare-requires c κs = let w = c.loop-at.invariant.0 in let z : c.loop-at.at ≡ 0 → ⊥ = λ q. omega (arith, q, c.loop-at-test.true) in let n = its c.before.before.before.before.before.before.before in (c.requires.0, (w.held, (walk-symbol _ _ _ _ _ _ _ (table c.before.before.before.before.before.before.before.before.before.before.before.before.before.before.before) (owned c.before.before.before.before.before.before.before.before.before.before.before.before.before.before.before) c.requires.1.1.1.2 _ _ _ _ w z _ (c.first_part.ensures ∙ ap first_part c.fact_at.ensures), omega (arith, n.5, w.more), omega (arith, n.5, w.more, w.inside z))))
 
-enum-known-n : tie.Need-enum-known-n invariant-loop decreases-loop
-enum-known-n c = search rules
+enum_known-n : tie.Need-enum_known-n invariant-loop-at decreases-loop-at
+enum_known-n c = search rules
 
-enum_told : tie.Need-enum-told invariant-loop decreases-loop
-enum_told c = search rules
+enum_told-1 : tie.Need-enum_told-1 invariant-loop-at decreases-loop-at
+enum_told-1 c = search rules
 
-same_length : tie.Need-same-length invariant-loop decreases-loop
-same_length c = c.before.before.before.before.before.before.declare.auto.1.1.0 ∙ c.before.before.before.before.before.before.before.before.before.before.before.before.before.loop.invariant.1
+shape_of-marks-in-Full : tie.Need-shape_of-marks-in-Full invariant-loop-at decreases-loop-at
+shape_of-marks-in-Full c = c.declare.auto.1.1.0 ∙ c.loop-at.invariant.1
 
-same-length-2 : tie.Need-same-length-2 invariant-loop decreases-loop
-same-length-2 c = c.before.before.before.before.before.before.declare.auto.1.1.1.0 ∙ c.before.before.before.before.before.before.before.before.before.before.before.before.before.loop.invariant.2
+shape_of-lines-in-Full : tie.Need-shape_of-lines-in-Full invariant-loop-at decreases-loop-at
+shape_of-lines-in-Full c = c.declare.auto.1.1.1.0 ∙ c.loop-at.invariant.2
 
-returns : tie.Need-returns invariant-loop decreases-loop
-returns c = let s = c.before.before.before.before.before.before.before.before.before.before.before.before.before.before.before.before.before.before.before.before.before.before.before in let w = c.before.before.before.before.before.before.before.before.before.before.before.before.before.loop.invariant.0 in let z : c.before.before.before.before.before.before.before.before.before.before.before.before.before.loop.at ≡ 0 → ⊥ = λ q. omega (arith, q, c.before.before.before.before.before.before.before.before.before.before.before.before.loop-test.true) in let e = c.enum_told.given.1 in walk_whole _ _ _ _ _ _ s.requires.1.1.1.2 _ _ _ (walk-full _ _ _ _ _ _ _ (table s) (owned s) s.requires.1.1.1.2 _ _ _ _ w z _ (c.before.before.before.before.before.before.before.before.before.first_part.ensures ∙ ap first_part c.before.before.before.before.before.before.before.before.before.before.fact_at.ensures) _ _ (rw e at c.before.before.before.before.before.before.declare.ensures))
+returns-in-Full : tie.Need-returns-in-Full invariant-loop-at decreases-loop-at
+returns-in-Full c = let w = c.loop-at.invariant.0 in let z : c.loop-at.at ≡ 0 → ⊥ = λ q. omega (arith, q, c.loop-at-test.true) in let e = c.in-Full.is in walk_whole _ _ _ _ _ _ c.requires.1.1.1.2 _ _ _ (walk-full _ _ _ _ _ _ _ (table c.before.before.before.before.before.before.before.before.before.before.before.before.before.before.before.before.before.before.before.before.before) (owned c.before.before.before.before.before.before.before.before.before.before.before.before.before.before.before.before.before.before.before.before.before) c.requires.1.1.1.2 _ _ _ _ w z _ (c.first_part.ensures ∙ ap first_part c.fact_at.ensures) _ _ (rw e at c.declare.ensures))
 
-add-at-2 : tie.Need-overflow-add-at-2 invariant-loop decreases-loop
-add-at-2 c = let s = c.before.before.before.before.before.before.before.before.before.before.before.before.before.before.before.before.before.before.before.before.before.before.before.before.before in let w = c.before.before.before.before.before.before.before.before.before.before.before.before.before.before.before.loop.invariant.0 in let z : c.before.before.before.before.before.before.before.before.before.before.before.before.before.before.before.loop.at ≡ 0 → ⊥ = λ q. omega (arith, q, c.before.before.before.before.before.before.before.before.before.before.before.before.before.before.loop-test.true) in let n = its c.before.before.before.before.before.before.before.before.before.before.before.before.before.before.before.before.before in omega (arith, n.0, n.1, n.2, n.3, n.4, n.5, n.6, n.7, walk-symbol _ _ _ _ _ _ _ (table s) (owned s) s.requires.1.1.1.2 _ _ _ _ w z _ (c.before.before.before.before.before.before.before.before.before.before.before.first_part.ensures ∙ ap first_part c.before.before.before.before.before.before.before.before.before.before.before.before.fact_at.ensures))
+overflow_add-at-in-loop-at : tie.Need-overflow_add-at-in-loop-at invariant-loop-at decreases-loop-at
+overflow_add-at-in-loop-at c = let w = c.loop-at.invariant.0 in let z : c.loop-at.at ≡ 0 → ⊥ = λ q. omega (arith, q, c.loop-at-test.true) in let n = its c.before.before.before.before.before.before.before.before.before.before.before.before.before.before in omega (arith, n.0, n.1, n.2, n.3, n.4, n.5, n.6, n.7, walk-symbol _ _ _ _ _ _ _ (table c.before.before.before.before.before.before.before.before.before.before.before.before.before.before.before.before.before.before.before.before.before.before) (owned c.before.before.before.before.before.before.before.before.before.before.before.before.before.before.before.before.before.before.before.before.before.before) c.requires.1.1.1.2 _ _ _ _ w z _ (c.first_part.ensures ∙ ap first_part c.fact_at.ensures))
 
-mul-at-2 : tie.Need-overflow-mul-at-2 invariant-loop decreases-loop
-mul-at-2 c = let s = c.before.before.before.before.before.before.before.before.before.before.before.before.before.before.before.before.before.before.before.before.before.before.before.before.before in let w = c.before.before.before.before.before.before.before.before.before.before.before.before.before.before.before.loop.invariant.0 in let z : c.before.before.before.before.before.before.before.before.before.before.before.before.before.before.before.loop.at ≡ 0 → ⊥ = λ q. omega (arith, q, c.before.before.before.before.before.before.before.before.before.before.before.before.before.before.loop-test.true) in let n = its c.before.before.before.before.before.before.before.before.before.before.before.before.before.before.before.before.before in omega (arith, n.0, n.1, n.2, n.3, n.4, n.5, n.6, n.7, walk-symbol _ _ _ _ _ _ _ (table s) (owned s) s.requires.1.1.1.2 _ _ _ _ w z _ (c.before.before.before.before.before.before.before.before.before.before.before.first_part.ensures ∙ ap first_part c.before.before.before.before.before.before.before.before.before.before.before.before.fact_at.ensures))
+offset_bounds-partners-nexts : tie.Need-offset_bounds-partners-nexts invariant-loop-at decreases-loop-at
+offset_bounds-partners-nexts c = let w = c.loop-at.invariant.0 in let z : c.loop-at.at ≡ 0 → ⊥ = λ q. omega (arith, q, c.loop-at-test.true) in let n = its c.before.before.before.before.before.before.before.before.before.before.before.before.before.before in omega (arith, n.0, n.1, n.2, n.3, n.4, n.5, n.6, n.7, walk-symbol _ _ _ _ _ _ _ (table c.before.before.before.before.before.before.before.before.before.before.before.before.before.before.before.before.before.before.before.before.before.before) (owned c.before.before.before.before.before.before.before.before.before.before.before.before.before.before.before.before.before.before.before.before.before.before) c.requires.1.1.1.2 _ _ _ _ w z _ (c.first_part.ensures ∙ ap first_part c.fact_at.ensures))
 
-shared-slice-read-at-2 : tie.Need-shared-slice-read-at-2 invariant-loop decreases-loop
-shared-slice-read-at-2 c = let s = c.before.before.before.before.before.before.before.before.before.before.before.before.before.before.before.before.before.before.before.before.before.before.before.before.before.before in let w = c.before.before.before.before.before.before.before.before.before.before.before.before.before.before.before.before.loop.invariant.0 in let z : c.before.before.before.before.before.before.before.before.before.before.before.before.before.before.before.before.loop.at ≡ 0 → ⊥ = λ q. omega (arith, q, c.before.before.before.before.before.before.before.before.before.before.before.before.before.before.before.loop-test.true) in let n = its c.before.before.before.before.before.before.before.before.before.before.before.before.before.before.before.before.before.before in omega (arith, n.0, n.1, n.2, n.3, n.4, n.5, n.6, n.7, walk-symbol _ _ _ _ _ _ _ (table s) (owned s) s.requires.1.1.1.2 _ _ _ _ w z _ (c.before.before.before.before.before.before.before.before.before.before.before.before.first_part.ensures ∙ ap first_part c.before.before.before.before.before.before.before.before.before.before.before.before.before.fact_at.ensures))
+bounds-partners-nexts : tie.Need-bounds-partners-nexts invariant-loop-at decreases-loop-at
+bounds-partners-nexts c = let w = c.loop-at.invariant.0 in let z : c.loop-at.at ≡ 0 → ⊥ = λ q. omega (arith, q, c.loop-at-test.true) in let n = its c.before.before.before.before.before.before.before.before.before.before.before.before.before.before.before in omega (arith, n.0, n.1, n.2, n.3, n.4, n.5, n.6, n.7, walk-symbol _ _ _ _ _ _ _ (table c.before.before.before.before.before.before.before.before.before.before.before.before.before.before.before.before.before.before.before.before.before.before.before) (owned c.before.before.before.before.before.before.before.before.before.before.before.before.before.before.before.before.before.before.before.before.before.before.before) c.requires.1.1.1.2 _ _ _ _ w z _ (c.first_part.ensures ∙ ap first_part c.fact_at.ensures))
 
-loop-less : tie.Need-loop-smaller invariant-loop decreases-loop
+loop-at-smaller : tie.Need-loop-at-smaller invariant-loop-at decreases-loop-at
 unfolding graph_in
-loop-less c = let s = c.before.before.before.before.before.before.before.before.before.before.before.before.before.before.before.before.before.before.before.before.before.before.before.before.before.before in let n = its c.before.before.before.before.before.before.before.before.before.before.before.before.before.before.before.before.before.before in let w = c.before.before.before.before.before.before.before.before.before.before.before.before.before.before.before.before.loop.invariant.0 in let z : c.before.before.before.before.before.before.before.before.before.before.before.before.before.before.before.before.loop.at ≡ 0 → ⊥ = λ q. omega (arith, q, c.before.before.before.before.before.before.before.before.before.before.before.before.before.before.before.loop-test.true) in walk-less _ _ _ _ _ _ _ (table s) (owned s) s.requires.1.1.1.2 _ _ _ _ w z _ (c.before.before.before.before.before.before.before.before.before.before.before.before.first_part.ensures ∙ ap first_part c.before.before.before.before.before.before.before.before.before.before.before.before.before.fact_at.ensures) _ (ap (λ (x : ℕ). get_or s.args.partners.now (x + c.before.before.before.before.before.before.before.before.before.before.before.before.first_part.result) 0) (n.7 ∙ ap (λ (x : ℕ). 3 * x) n.0))
+loop-at-smaller c = let n = its c.before.before.before.before.before.before.before.before.before.before.before.before.before.before.before in let w = c.loop-at.invariant.0 in let z : c.loop-at.at ≡ 0 → ⊥ = λ q. omega (arith, q, c.loop-at-test.true) in walk-less _ _ _ _ _ _ _ (table c.before.before.before.before.before.before.before.before.before.before.before.before.before.before.before.before.before.before.before.before.before.before.before) (owned c.before.before.before.before.before.before.before.before.before.before.before.before.before.before.before.before.before.before.before.before.before.before.before) c.requires.1.1.1.2 _ _ _ _ w z _ (c.first_part.ensures ∙ ap first_part c.fact_at.ensures) _ (ap (λ (x : ℕ). get_or c.args.partners.now (x + c.first_part.result) 0) (n.7 ∙ ap (λ (x : ℕ). 3 * x) n.0))
 
-loop-again : tie.Need-loop-preserved invariant-loop decreases-loop
+loop-at-preserved : tie.Need-loop-at-preserved invariant-loop-at decreases-loop-at
 unfolding graph_in
-loop-again c = let s = c.before.before.before.before.before.before.before.before.before.before.before.before.before.before.before.before.before.before.before.before.before.before.before.before.before.before in let n = its c.before.before.before.before.before.before.before.before.before.before.before.before.before.before.before.before.before.before in let w = c.before.before.before.before.before.before.before.before.before.before.before.before.before.before.before.before.loop.invariant.0 in let z : c.before.before.before.before.before.before.before.before.before.before.before.before.before.before.before.before.loop.at ≡ 0 → ⊥ = λ q. omega (arith, q, c.before.before.before.before.before.before.before.before.before.before.before.before.before.before.before.loop-test.true) in let e = c.before.before.before.n.given.1 in (walk_step _ _ _ _ _ _ _ (table s) (owned s) s.requires.1.1.1.2 _ _ _ _ w z _ (c.before.before.before.before.before.before.before.before.before.before.before.before.first_part.ensures ∙ ap first_part c.before.before.before.before.before.before.before.before.before.before.before.before.before.fact_at.ensures) _ _ _ _ (rw e at c.before.before.before.before.before.before.before.before.before.declare.ensures) (ap (λ (x : ℕ). get_or s.args.partners.now (x + c.before.before.before.before.before.before.before.before.before.before.before.before.first_part.result) 0) (n.7 ∙ ap (λ (x : ℕ). 3 * x) n.0)), c.before.before.before.before.before.before.before.before.before.declare.auto.1.1.0 ∙ c.before.before.before.before.before.before.before.before.before.before.before.before.before.before.before.before.loop.invariant.1, c.before.before.before.before.before.before.before.before.before.declare.auto.1.1.1.0 ∙ c.before.before.before.before.before.before.before.before.before.before.before.before.before.before.before.before.loop.invariant.2)
+loop-at-preserved c = let n = its c.before.before.before.before.before.before.before.before.before.before.before.before.before.before.before in let w = c.loop-at.invariant.0 in let z : c.loop-at.at ≡ 0 → ⊥ = λ q. omega (arith, q, c.loop-at-test.true) in let e = c.in-Lines.is in (walk_step _ _ _ _ _ _ _ (table c.before.before.before.before.before.before.before.before.before.before.before.before.before.before.before.before.before.before.before.before.before.before.before) (owned c.before.before.before.before.before.before.before.before.before.before.before.before.before.before.before.before.before.before.before.before.before.before.before) c.requires.1.1.1.2 _ _ _ _ w z _ (c.first_part.ensures ∙ ap first_part c.fact_at.ensures) _ _ _ _ (rw e at c.declare.ensures) (ap (λ (x : ℕ). get_or c.args.partners.now (x + c.first_part.result) 0) (n.7 ∙ ap (λ (x : ℕ). 3 * x) n.0)), c.declare.auto.1.1.0 ∙ c.loop-at.invariant.1, c.declare.auto.1.1.1.0 ∙ c.loop-at.invariant.2)
 
-same-length-3 : tie.Need-same-length-3 invariant-loop decreases-loop
-same-length-3 c = c.before.loop.invariant.1
+shape_of-marks : tie.Need-shape_of-marks invariant-loop-at decreases-loop-at
+shape_of-marks c = c.loop-at.invariant.1
 
-same-length-4 : tie.Need-same-length-4 invariant-loop decreases-loop
-same-length-4 c = c.before.loop.invariant.2
+shape_of-lines : tie.Need-shape_of-lines invariant-loop-at decreases-loop-at
+shape_of-lines c = c.loop-at.invariant.2
 
-returns-2 : tie.Need-returns-2 invariant-loop decreases-loop
-returns-2 c = let s = c.before.before.before.before.before.before.before.before.before.before.before in let w = c.before.loop.invariant.0 in walk_whole _ _ _ _ _ _ s.requires.1.1.1.2 _ _ _ (walk-done _ _ _ _ _ _ _ (table s) (owned s) s.requires.1.1.1.2 _ _ _ _ w (omega (arith, c.loop-test.false)))
+returns : tie.Need-returns invariant-loop-at decreases-loop-at
+returns c = let w = c.loop-at.invariant.0 in walk_whole _ _ _ _ _ _ c.requires.1.1.1.2 _ _ _ (walk-done _ _ _ _ _ _ _ (table c.before.before.before.before.before.before.before.before.before.before.before) (owned c.before.before.before.before.before.before.before.before.before.before.before) c.requires.1.1.1.2 _ _ _ _ w (omega (arith, c.loop-at-test.false)))
 
-pub join-forwards-spec : {M : Type 1} → statement M
-join-forwards-spec =
+pub join_forwards_spec : {M : Type 1} → statement M
+join_forwards_spec =
     tie.close
     (tie.spec
-    invariant-loop
-    decreases-loop
-    header-of-requires
-    firsts-at-requires
-    nexts-at-requires
-    add_at
-    mul_at
-    shared-slice-read-at
-    loop-holds
-    sub-fact-at
-    fact-at-requires
-    first-part-requires
-    add-declare
+    invariant-loop-at
+    decreases-loop-at
+    header_of-h-requires
+    firsts_at-firsts-requires
+    nexts_at-nexts-requires
+    overflow_add-at
+    offset_bounds-partners-firsts
+    bounds-partners-firsts
+    loop-at-init
+    overflow_sub-at
+    fact_at-requires
+    first_part-requires
+    overflow_add-k
     declare-requires
-    enum-known-n
-    enum_told
-    same_length
-    same-length-2
-    returns
-    add-at-2
-    mul-at-2
-    shared-slice-read-at-2
-    loop-less
-    loop-again
-    same-length-3
-    same-length-4
-    returns-2)
+    enum_known-n
+    enum_told-1
+    shape_of-marks-in-Full
+    shape_of-lines-in-Full
+    returns-in-Full
+    overflow_add-at-in-loop-at
+    offset_bounds-partners-nexts
+    bounds-partners-nexts
+    loop-at-smaller
+    loop-at-preserved
+    shape_of-marks
+    shape_of-lines
+    returns)

@@ -10,80 +10,80 @@ use borrow.Author.Rules.{rules}
 use Rattle.worklist.proofs.link.Statement.{statement}
 use Rattle.worklist.proofs.link.Tie as tie
 
-enum-known-fact : tie.Need-enum-known-fact
-enum-known-fact c = search rules
+enum_known-fact : tie.Need-enum_known-fact
+enum_known-fact c = search rules
 
-add-partners : tie.Need-overflow-add-partners
-add-partners c = let s = c.before.before.before.before.before.before.before in omega (arith, s.requires.1.0.inside)
+overflow_add-partners : tie.Need-overflow_add-partners
+overflow_add-partners c = omega (arith, c.requires.1.0.inside)
 
-mul-partners : tie.Need-overflow-mul-partners
+offset_bounds-partners-i : tie.Need-offset_bounds-partners-i
 unfolding graph_in
-mul-partners c = let s = c.before.before.before.before.before.before.before in omega (arith, s.requires.0.loaded.few_modules, module_low _ _ _ _ _ _ s.requires.1.0 _ s.requires.1.1 _ c.before.fact.given.1)
+offset_bounds-partners-i c = omega (arith, c.requires.0.loaded.few_modules, module_low _ _ _ _ _ _ c.requires.1.0 _ c.requires.1.1 _ c.in-Module.is)
 
-slice-write-partners : tie.Need-slice-write-partners
-slice-write-partners c = let s = c.before.before.before.before.before.before.before in module_entry _ _ _ _ _ _ s.requires.1.0 _ s.requires.1.1 _ c.before.fact.given.1
+bounds-partners-i : tie.Need-bounds-partners-i
+bounds-partners-i c = module_entry _ _ _ _ _ _ c.requires.1.0 _ c.requires.1.1 _ c.in-Module.is
 
-enum-known-fact-2 : tie.Need-enum-known-fact-2
-enum-known-fact-2 c = search rules
+enum_known-fact-in-Forward-1 : tie.Need-enum_known-fact-in-Forward-1
+enum_known-fact-in-Forward-1 c = search rules
 
-link-forward-requires : tie.Need-link-forward-requires
-link-forward-requires c κs = let s = c.before.before.before.before.before.before.before.before in (s.requires.0, (subst (λ x. LinkReady (graph_in s.args.numbers.now) s.args.stage.base s.args.lines.now s.args.stage.count s.args.k x) c.before.before.fact2.given.1 s.requires.1.0, s.requires.1.1))
+link_forward-requires : tie.Need-link_forward-requires
+link_forward-requires c κs = (c.requires.0, (subst (λ x. LinkReady (graph_in c.args.numbers.now) c.args.stage.base c.args.lines.now c.args.stage.count c.args.k x) c.in-Forward.is c.requires.1.0, c.requires.1.1))
 
-enum_told : tie.Need-enum-told
-enum_told c = search rules
+enum_told-1 : tie.Need-enum_told-1
+enum_told-1 c = search rules
 
-enum-told-2 : tie.Need-enum-told-2
-enum-told-2 c = search rules
+enum_told-in-Use : tie.Need-enum_told-in-Use
+enum_told-in-Use c = search rules
 
-enum-told-3 : tie.Need-enum-told-3
-enum-told-3 c = search rules
+enum_told-in-CheckedUse : tie.Need-enum_told-in-CheckedUse
+enum_told-in-CheckedUse c = search rules
 
-enum-told-4 : tie.Need-enum-told-4
-enum-told-4 c = search rules
+enum_told-in-Bailout : tie.Need-enum_told-in-Bailout
+enum_told-in-Bailout c = search rules
 
-same_length : tie.Need-same-length
-same_length c = let s = c.before.before.before.before.before.before.before in length-set s.args.partners.now c.before.fact.given.0.0.0 (s.args.k + 1)
+shape_of-partners-in-Module : tie.Need-shape_of-partners-in-Module
+shape_of-partners-in-Module c = length-set c.args.partners.now c.in-Module.m.0 (c.args.k + 1)
 
-returns : tie.Need-returns
-returns c = let s = c.before.before.before.before.before.before.before in row_module _ _ _ _ _ _ s.requires.1.0 _ s.requires.1.1 _ c.before.fact.given.1
+returns-in-Module : tie.Need-returns-in-Module
+returns-in-Module c = row_module _ _ _ _ _ _ c.requires.1.0 _ c.requires.1.1 _ c.in-Module.is
 
-same-length-2 : tie.Need-same-length-2
-same-length-2 c = search rules
+shape_of-partners-in-Forward : tie.Need-shape_of-partners-in-Forward
+shape_of-partners-in-Forward c = search rules
 
-returns-2 : tie.Need-returns-2
-returns-2 c = c.before.before.link-forward.ensures
+returns-in-Forward : tie.Need-returns-in-Forward
+returns-in-Forward c = c.link_forward.ensures
 
-returns-3 : tie.Need-returns-3
-returns-3 c = let s = c.before.before.before.before.before.before in let q = ap kind_of c.enum_told.given.1 in row_other _ _ _ _ _ _ s.requires.1.0 _ s.requires.1.1 (λ z. omega (arith, q, z)) (λ z. omega (arith, q, z))
+returns-in-Statement : tie.Need-returns-in-Statement
+returns-in-Statement c = let q = ap kind_of c.in-Statement.is in row_other _ _ _ _ _ _ c.requires.1.0 _ c.requires.1.1 (λ z. omega (arith, q, z)) (λ z. omega (arith, q, z))
 
-returns-4 : tie.Need-returns-4
-returns-4 c = let s = c.before.before.before.before.before.before in let q = ap kind_of c.enum-told2.given.1 in row_other _ _ _ _ _ _ s.requires.1.0 _ s.requires.1.1 (λ z. omega (arith, q, z)) (λ z. omega (arith, q, z))
+returns-in-Use : tie.Need-returns-in-Use
+returns-in-Use c = let q = ap kind_of c.in-Use.is in row_other _ _ _ _ _ _ c.requires.1.0 _ c.requires.1.1 (λ z. omega (arith, q, z)) (λ z. omega (arith, q, z))
 
-returns-5 : tie.Need-returns-5
-returns-5 c = let s = c.before.before.before.before.before.before in let q = ap kind_of c.enum-told3.given.1 in row_other _ _ _ _ _ _ s.requires.1.0 _ s.requires.1.1 (λ z. omega (arith, q, z)) (λ z. omega (arith, q, z))
+returns-in-CheckedUse : tie.Need-returns-in-CheckedUse
+returns-in-CheckedUse c = let q = ap kind_of c.in-CheckedUse.is in row_other _ _ _ _ _ _ c.requires.1.0 _ c.requires.1.1 (λ z. omega (arith, q, z)) (λ z. omega (arith, q, z))
 
-returns-6 : tie.Need-returns-6
-returns-6 c = let s = c.before.before.before.before.before.before in let q = ap kind_of c.enum-told4.given.1 in row_other _ _ _ _ _ _ s.requires.1.0 _ s.requires.1.1 (λ z. omega (arith, q, z)) (λ z. omega (arith, q, z))
+returns-in-Bailout : tie.Need-returns-in-Bailout
+returns-in-Bailout c = let q = ap kind_of c.in-Bailout.is in row_other _ _ _ _ _ _ c.requires.1.0 _ c.requires.1.1 (λ z. omega (arith, q, z)) (λ z. omega (arith, q, z))
 
-pub link-spec : {M : Type 1} → statement M
-link-spec =
+pub link_spec : {M : Type 1} → statement M
+link_spec =
     tie.close
     (tie.spec
-    enum-known-fact
-    add-partners
-    mul-partners
-    slice-write-partners
-    enum-known-fact-2
-    link-forward-requires
-    enum_told
-    enum-told-2
-    enum-told-3
-    enum-told-4
-    same_length
-    returns
-    same-length-2
-    returns-2
-    returns-3
-    returns-4
-    returns-5
-    returns-6)
+    enum_known-fact
+    overflow_add-partners
+    offset_bounds-partners-i
+    bounds-partners-i
+    enum_known-fact-in-Forward-1
+    link_forward-requires
+    enum_told-1
+    enum_told-in-Use
+    enum_told-in-CheckedUse
+    enum_told-in-Bailout
+    shape_of-partners-in-Module
+    returns-in-Module
+    shape_of-partners-in-Forward
+    returns-in-Forward
+    returns-in-Statement
+    returns-in-Use
+    returns-in-CheckedUse
+    returns-in-Bailout)

@@ -16,177 +16,173 @@ use Rattle.worklist.proofs.link_forward.Statement.{statement}
 use Rattle.worklist.proofs.link_forward.Tie as tie
 
 -- the table has a size
-size_fits : (c : tie.After-header-of) → partners_size c.header_of.result < 18446744073709551616
-size_fits c = let s = c.before.before.before.before.before in rw c.header_of.ensures (omega (arith, s.requires.0.loaded.few_modules, s.requires.0.loaded.few_symbols))
+size_fits : (c : tie.After-header_of-h) → partners_size c.header_of-h.result < 18446744073709551616
+size_fits c = rw c.header_of-h.ensures (omega (arith, c.requires.0.loaded.few_modules, c.requires.0.loaded.few_symbols))
 
 -- the numbers of the table
-its : (c : tie.After-owner) → let s = c.before.before.before.before.before.before.before.before.before in
-    (c.before.before.before.before.header_of.result.modules ≡ (graph_in s.args.numbers.now).header.modules)
-    × (c.owner.result.0 < c.before.before.before.before.header_of.result.modules)
-    × (c.before.before.before.before.header_of.result.modules ≤ 1024)
-    × (3 * c.before.before.before.before.header_of.result.modules + (graph_in s.args.numbers.now).header.symbols ≤ length s.args.partners.now)
-    × (s.args.s.0 < (graph_in s.args.numbers.now).header.symbols)
-    × ((graph_in s.args.numbers.now).header.symbols ≤ 16384)
-    × (s.args.k < s.args.stage.count)
-    × (6 * s.args.stage.count ≤ length s.args.lines.now)
-    × (c.owner.result.0 ≡ owner (symbol_of (graph_in s.args.numbers.now) s.args.s.0))
-    × (length s.args.lines.now < 9223372036854775808)
-    × (c.before.before.before.firsts_at.result ≡ c.before.before.before.before.header_of.result.modules)
-    × (c.before.before.lasts-at.result ≡ 2 * c.before.before.before.before.header_of.result.modules)
-    × (c.before.nexts-at.result ≡ 3 * c.before.before.before.before.header_of.result.modules)
+its : (c : tie.After-owner-owner) → (c.header_of-h.result.modules ≡ (graph_in c.args.numbers.now).header.modules)
+    × (c.owner-owner.result.0 < c.header_of-h.result.modules)
+    × (c.header_of-h.result.modules ≤ 1024)
+    × (3 * c.header_of-h.result.modules + (graph_in c.args.numbers.now).header.symbols ≤ length c.args.partners.now)
+    × (c.args.s.0 < (graph_in c.args.numbers.now).header.symbols)
+    × ((graph_in c.args.numbers.now).header.symbols ≤ 16384)
+    × (c.args.k < c.args.stage.count)
+    × (6 * c.args.stage.count ≤ length c.args.lines.now)
+    × (c.owner-owner.result.0 ≡ owner (symbol_of (graph_in c.args.numbers.now) c.args.s.0))
+    × (length c.args.lines.now < 9223372036854775808)
+    × (c.firsts_at-firsts.result ≡ c.header_of-h.result.modules)
+    × (c.lasts_at-lasts.result ≡ 2 * c.header_of-h.result.modules)
+    × (c.nexts_at-nexts.result ≡ 3 * c.header_of-h.result.modules)
 unfolding graph_in
 its c =
-    let s = c.before.before.before.before.before.before.before.before.before in
-    let m = ap (λ x. x.modules) c.before.before.before.before.header_of.ensures in (
+    let m = ap (λ x. x.modules) c.header_of-h.ensures in (
       m,
-      omega (arith, m, c.owner.ensures.1),
-      omega (arith, m, s.requires.0.loaded.few_modules),
-      omega (arith, m, s.requires.1.1.long),
-      symbol_low _ _ _ _ _ _ s.requires.1.0 _ s.requires.1.1 _ refl,
-      s.requires.0.loaded.few_symbols,
-      s.requires.1.0.inside,
-      s.requires.1.0.room,
-      c.owner.ensures.0,
-      omega (arith, s.well-formed.1.1.1.0),
-      c.before.before.before.firsts_at.ensures,
-      c.before.before.lasts-at.ensures,
-      c.before.nexts-at.ensures,
+      omega (arith, m, c.owner-owner.ensures.1),
+      omega (arith, m, c.requires.0.loaded.few_modules),
+      omega (arith, m, c.requires.1.1.long),
+      symbol_low _ _ _ _ _ _ c.requires.1.0 _ c.requires.1.1 _ refl,
+      c.requires.0.loaded.few_symbols,
+      c.requires.1.0.inside,
+      c.requires.1.0.room,
+      c.owner-owner.ensures.0,
+      omega (arith, c.well-formed.1.1.1.0),
+      c.firsts_at-firsts.ensures,
+      c.lasts_at-lasts.ensures,
+      c.nexts_at-nexts.ensures,
     )
 
 -- the table where the branches meet is as long as it was
-as_long : (c : tie.Joined1) → length c.if1.partners ≡ length c.before.before.before.before.before.before.before.before.before.before.before.before.args.partners.now
-as_long c = ⊎_elim (λ w. set_long c.before.before.before.before.before.before.before.before.before.before.before.before.args.partners.now (c.before.before.before.before.before.before.firsts_at.result + c.before.before.before.owner.result.0) (c.before.before.before.before.before.before.before.before.before.before.before.before.args.k + 1) w.2) (λ w. set_long c.before.before.before.before.before.before.before.before.before.before.before.before.args.partners.now (c.before.before.before.before.nexts-at.result + w.2.result) (c.before.before.before.before.before.before.before.before.before.before.before.before.args.k + 1) w.3) c.if1.branch
+as_long : (c : tie.Joined-last-eq0) → length c.if-last-eq0.partners ≡ length c.args.partners.now
+as_long c = ⊎_elim (λ w. set_long c.args.partners.now (c.firsts_at-firsts.result + c.owner-owner.result.0) (c.args.k + 1) w.2) (λ w. set_long c.args.partners.now (c.nexts_at-nexts.result + w.2.result) (c.args.k + 1) w.3) c.if-last-eq0.branch
 
 -- what was the last forward's symbol
-before : (c : tie.After-first-part) → let s = c.before.before.before.before.before.before.before.before.before.before.before.before.before.before in c.first_part.result < (graph_in s.args.numbers.now).header.symbols
+before : (c : tie.After-first_part-before) → c.first_part-before.result < (graph_in c.args.numbers.now).header.symbols
 before c =
-    let s = c.before.before.before.before.before.before.before.before.before.before.before.before.before.before in
     let n = its c.before.before.before.before.before in
-    before-fits _ _ _ _ _ _ s.requires.1.0 _ s.requires.1.1 _ refl _ n.8 (omega (arith, n.0, n.1)) _ n.0 (rw c.before.before.before.before.before.before.before.lasts-at.ensures at c.before.before.if1.false) _ (rw c.before.before.before.before.before.before.before.lasts-at.ensures at (c.first_part.ensures ∙ ap first_part c.before.fact_at.ensures))
+    before-fits _ _ _ _ _ _ c.requires.1.0 _ c.requires.1.1 _ refl _ n.8 (omega (arith, n.0, n.1)) _ n.0 (rw c.lasts_at-lasts.ensures at c.if-last-eq0.false) _ (rw c.lasts_at-lasts.ensures at (c.first_part-before.ensures ∙ ap first_part c.fact_at.ensures))
 
-header-of-requires : tie.Need-header-of-requires
-header-of-requires c κs = let s = c.before.before.before.before in s.requires.0.loaded.long
+header_of-h-requires : tie.Need-header_of-h-requires
+header_of-h-requires c κs = c.requires.0.loaded.long
 
-firsts-at-requires : tie.Need-firsts-at-requires
-firsts-at-requires c κs = size_fits c
+firsts_at-firsts-requires : tie.Need-firsts_at-firsts-requires
+firsts_at-firsts-requires c κs = size_fits c
 
-lasts-at-requires : tie.Need-lasts-at-requires
-lasts-at-requires c κs = size_fits c.before
+lasts_at-lasts-requires : tie.Need-lasts_at-lasts-requires
+lasts_at-lasts-requires c κs = size_fits c.before
 
-nexts-at-requires : tie.Need-nexts-at-requires
-nexts-at-requires c κs = size_fits c.before.before
+nexts_at-nexts-requires : tie.Need-nexts_at-nexts-requires
+nexts_at-nexts-requires c κs = size_fits c.before.before
 
-owner-requires : tie.Need-owner-requires
+owner-owner-requires : tie.Need-owner-owner-requires
 unfolding graph_in
-owner-requires c κs = let s = c.before.before.before.before.before.before.before.before in (s.requires.0.loaded, symbol_low _ _ _ _ _ _ s.requires.1.0 _ s.requires.1.1 _ refl)
+owner-owner-requires c κs = (c.requires.0.loaded, symbol_low _ _ _ _ _ _ c.requires.1.0 _ c.requires.1.1 _ refl)
 
-add-last : tie.Need-overflow-add-last
-add-last c = let n = its c.before in omega (arith, n.0, n.1, n.2, n.3, n.4, n.5, n.6, n.7, n.10, n.11, n.12)
+overflow_add-last : tie.Need-overflow_add-last
+overflow_add-last c = let n = its c.before in omega (arith, n.0, n.1, n.2, n.3, n.4, n.5, n.6, n.7, n.10, n.11, n.12)
 
-mul-last : tie.Need-overflow-mul-last
-mul-last c = let n = its c.before in omega (arith, n.0, n.1, n.2, n.3, n.4, n.5, n.6, n.7, n.10, n.11, n.12)
+offset_bounds-partners-lasts : tie.Need-offset_bounds-partners-lasts
+offset_bounds-partners-lasts c = let n = its c.before in omega (arith, n.0, n.1, n.2, n.3, n.4, n.5, n.6, n.7, n.10, n.11, n.12)
 
-slice-read-last : tie.Need-slice-read-last
-slice-read-last c = let n = its c.before.before in omega (arith, n.0, n.1, n.2, n.3, n.4, n.5, n.6, n.7, n.10, n.11, n.12)
+bounds-partners-lasts : tie.Need-bounds-partners-lasts
+bounds-partners-lasts c = let n = its c.before.before in omega (arith, n.0, n.1, n.2, n.3, n.4, n.5, n.6, n.7, n.10, n.11, n.12)
 
-add-partners : tie.Need-overflow-add-partners
-add-partners c = let n = its c.before.before.before in omega (arith, n.6, n.7, n.9)
+overflow_add-partners : tie.Need-overflow_add-partners
+overflow_add-partners c = let n = its c.before.before.before in omega (arith, n.6, n.7, n.9)
 
-add-partners-2 : tie.Need-overflow-add-partners-2
-add-partners-2 c = let n = its c.before.before.before.before in omega (arith, n.0, n.1, n.2, n.3, n.4, n.5, n.6, n.7, n.10, n.11, n.12)
+overflow_add-partners-then-last-eq0 : tie.Need-overflow_add-partners-then-last-eq0
+overflow_add-partners-then-last-eq0 c = let n = its c.before.before.before.before in omega (arith, n.0, n.1, n.2, n.3, n.4, n.5, n.6, n.7, n.10, n.11, n.12)
 
-mul-partners : tie.Need-overflow-mul-partners
-mul-partners c = let n = its c.before.before.before.before in omega (arith, n.0, n.1, n.2, n.3, n.4, n.5, n.6, n.7, n.10, n.11, n.12)
+offset_bounds-partners-firsts : tie.Need-offset_bounds-partners-firsts
+offset_bounds-partners-firsts c = let n = its c.before.before.before.before in omega (arith, n.0, n.1, n.2, n.3, n.4, n.5, n.6, n.7, n.10, n.11, n.12)
 
-slice-write-partners : tie.Need-slice-write-partners
-slice-write-partners c = let n = its c.before.before.before.before in omega (arith, n.0, n.1, n.2, n.3, n.4, n.5, n.6, n.7, n.10, n.11, n.12)
+bounds-partners-firsts : tie.Need-bounds-partners-firsts
+bounds-partners-firsts c = let n = its c.before.before.before.before in omega (arith, n.0, n.1, n.2, n.3, n.4, n.5, n.6, n.7, n.10, n.11, n.12)
 
-sub-fact-at : tie.Need-overflow-sub-fact-at
-sub-fact-at c = let n = its c.before.before.before in omega (arith, n.0, n.1, n.2, n.3, n.4, n.5, n.6, n.7, n.10, n.11, n.12, c.if1.false)
+overflow_sub-last : tie.Need-overflow_sub-last
+overflow_sub-last c = let n = its c.before.before.before in omega (arith, n.0, n.1, n.2, n.3, n.4, n.5, n.6, n.7, n.10, n.11, n.12, c.if-last-eq0.false)
 
-fact-at-requires : tie.Need-fact-at-requires
-fact-at-requires c κs = let s = c.before.before.before.before.before.before.before.before.before.before.before.before in let e = rw c.before.before.before.before.before.lasts-at.ensures at c.if1.false in let n = its c.before.before.before in rw c.before.before.before.before.before.lasts-at.ensures (omega (arith, e, n.6, n.7, last_fits _ _ _ _ _ _ s.requires.1.0 _ s.requires.1.1 _ refl _ n.8 (omega (arith, n.0, n.1)) _ n.0 e))
+fact_at-requires : tie.Need-fact_at-requires
+fact_at-requires c κs = let e = rw c.lasts_at-lasts.ensures at c.if-last-eq0.false in let n = its c.before.before.before in rw c.lasts_at-lasts.ensures (omega (arith, e, n.6, n.7, last_fits _ _ _ _ _ _ c.requires.1.0 _ c.requires.1.1 _ refl _ n.8 (omega (arith, n.0, n.1)) _ n.0 e))
 
-first-part-requires : tie.Need-first-part-requires
-first-part-requires c κs = search rules
+first_part-before-requires : tie.Need-first_part-before-requires
+first_part-before-requires c κs = search rules
 
-add-partners-3 : tie.Need-overflow-add-partners-3
-add-partners-3 c = let n = its c.before.before.before.before.before in omega (arith, n.6, n.7, n.9)
+overflow_add-partners-else-last-eq0 : tie.Need-overflow_add-partners-else-last-eq0
+overflow_add-partners-else-last-eq0 c = let n = its c.before.before.before.before.before in omega (arith, n.6, n.7, n.9)
 
-add-partners-4 : tie.Need-overflow-add-partners-4
-add-partners-4 c = let n = its c.before.before.before.before.before in omega (arith, n.0, n.1, n.2, n.3, n.4, n.5, n.6, n.7, n.10, n.11, n.12, before c)
+overflow_add-partners-else-last-eq0-2 : tie.Need-overflow_add-partners-else-last-eq0-2
+overflow_add-partners-else-last-eq0-2 c = let n = its c.before.before.before.before.before in omega (arith, n.0, n.1, n.2, n.3, n.4, n.5, n.6, n.7, n.10, n.11, n.12, before c)
 
-mul-partners-2 : tie.Need-overflow-mul-partners-2
-mul-partners-2 c = let n = its c.before.before.before.before.before in omega (arith, n.0, n.1, n.2, n.3, n.4, n.5, n.6, n.7, n.10, n.11, n.12, before c)
+offset_bounds-partners-nexts : tie.Need-offset_bounds-partners-nexts
+offset_bounds-partners-nexts c = let n = its c.before.before.before.before.before in omega (arith, n.0, n.1, n.2, n.3, n.4, n.5, n.6, n.7, n.10, n.11, n.12, before c)
 
-slice-write-partners-2 : tie.Need-slice-write-partners-2
-slice-write-partners-2 c = let n = its c.before.before.before.before.before in omega (arith, n.0, n.1, n.2, n.3, n.4, n.5, n.6, n.7, n.10, n.11, n.12, before c)
+bounds-partners-nexts : tie.Need-bounds-partners-nexts
+bounds-partners-nexts c = let n = its c.before.before.before.before.before in omega (arith, n.0, n.1, n.2, n.3, n.4, n.5, n.6, n.7, n.10, n.11, n.12, before c)
 
-add-partners-5 : tie.Need-overflow-add-partners-5
-add-partners-5 c = let n = its c.before.before.before in omega (arith, n.6, n.7, n.9)
+overflow_add-partners-2 : tie.Need-overflow_add-partners-2
+overflow_add-partners-2 c = let n = its c.before.before.before in omega (arith, n.6, n.7, n.9)
 
-add-partners-6 : tie.Need-overflow-add-partners-6
-add-partners-6 c = let n = its c.before.before.before.before in omega (arith, n.0, n.1, n.2, n.3, n.4, n.5, n.6, n.7, n.10, n.11, n.12)
+overflow_add-partners-3 : tie.Need-overflow_add-partners-3
+overflow_add-partners-3 c = let n = its c.before.before.before.before in omega (arith, n.0, n.1, n.2, n.3, n.4, n.5, n.6, n.7, n.10, n.11, n.12)
 
-mul-partners-3 : tie.Need-overflow-mul-partners-3
-mul-partners-3 c = let n = its c.before.before.before.before in omega (arith, n.0, n.1, n.2, n.3, n.4, n.5, n.6, n.7, n.10, n.11, n.12)
+offset_bounds-partners-lasts-2 : tie.Need-offset_bounds-partners-lasts-2
+offset_bounds-partners-lasts-2 c = let n = its c.before.before.before.before in omega (arith, n.0, n.1, n.2, n.3, n.4, n.5, n.6, n.7, n.10, n.11, n.12)
 
-slice-write-partners-3 : tie.Need-slice-write-partners-3
-slice-write-partners-3 c = let n = its c.before.before.before.before in omega (arith, n.0, n.1, n.2, n.3, n.4, n.5, n.6, n.7, n.10, n.11, n.12, as_long c.before)
+bounds-partners-lasts-2 : tie.Need-bounds-partners-lasts-2
+bounds-partners-lasts-2 c = let n = its c.before.before.before.before in omega (arith, n.0, n.1, n.2, n.3, n.4, n.5, n.6, n.7, n.10, n.11, n.12, as_long c.before)
 
-add-partners-7 : tie.Need-overflow-add-partners-7
-add-partners-7 c = let n = its c.before.before.before.before.before in omega (arith, n.0, n.1, n.2, n.3, n.4, n.5, n.6, n.7, n.10, n.11, n.12)
+overflow_add-partners-4 : tie.Need-overflow_add-partners-4
+overflow_add-partners-4 c = let n = its c.before.before.before.before.before in omega (arith, n.0, n.1, n.2, n.3, n.4, n.5, n.6, n.7, n.10, n.11, n.12)
 
-mul-partners-4 : tie.Need-overflow-mul-partners-4
-mul-partners-4 c = let n = its c.before.before.before.before.before in omega (arith, n.0, n.1, n.2, n.3, n.4, n.5, n.6, n.7, n.10, n.11, n.12)
+offset_bounds-partners-nexts-2 : tie.Need-offset_bounds-partners-nexts-2
+offset_bounds-partners-nexts-2 c = let n = its c.before.before.before.before.before in omega (arith, n.0, n.1, n.2, n.3, n.4, n.5, n.6, n.7, n.10, n.11, n.12)
 
-slice-write-partners-4 : tie.Need-slice-write-partners-4
-slice-write-partners-4 c = let n = its c.before.before.before.before.before in omega (arith, n.0, n.1, n.2, n.3, n.4, n.5, n.6, n.7, n.10, n.11, n.12, as_long c.before.before, length-set c.before.before.if1.partners (c.before.before.before.before.before.before.before.lasts-at.result + c.before.before.before.before.before.owner.result.0) (c.before.before.before.before.before.before.before.before.before.before.before.before.before.before.args.k + 1))
+bounds-partners-nexts-2 : tie.Need-bounds-partners-nexts-2
+bounds-partners-nexts-2 c = let n = its c.before.before.before.before.before in omega (arith, n.0, n.1, n.2, n.3, n.4, n.5, n.6, n.7, n.10, n.11, n.12, as_long c.before.before, length-set c.if-last-eq0.partners (c.lasts_at-lasts.result + c.owner-owner.result.0) (c.args.k + 1))
 
-same_length : tie.Need-same-length
-same_length c = let s = c.before.before.before.before.before.before.before.before.before.before.before.before.before.before in let a = c.before.before.before.before.before.before.before.lasts-at.result + c.before.before.before.before.before.owner.result.0 in let v = s.args.k + 1 in length-set (set c.before.before.if1.partners a v) (c.before.before.before.before.before.before.nexts-at.result + s.args.s.0) 0 ∙ length-set c.before.before.if1.partners a v ∙ as_long c.before.before
+shape_of-partners : tie.Need-shape_of-partners
+shape_of-partners c = let a = c.lasts_at-lasts.result + c.owner-owner.result.0 in let v = c.args.k + 1 in length-set (set c.if-last-eq0.partners a v) (c.nexts_at-nexts.result + c.args.s.0) 0 ∙ length-set c.if-last-eq0.partners a v ∙ as_long c.before.before
 
 returns : tie.Need-returns
-returns c = let s = c.before.before.before.before.before.before.before.before.before.before.before.before.before.before in
-    let n = its c.before.before.before.before.before in
-    let firsts = c.before.before.before.before.before.before.before.before.firsts_at.ensures in
-    let lasts = c.before.before.before.before.before.before.before.lasts-at.ensures in
-    let nexts = c.before.before.before.before.before.before.nexts-at.ensures in
-    let o : c.before.before.before.before.before.owner.result.0 < (graph_in s.args.numbers.now).header.modules = omega (arith, n.0, n.1) in
+returns c = let n = its c.before.before.before.before.before in
+    let firsts = c.firsts_at-firsts.ensures in
+    let lasts = c.lasts_at-lasts.ensures in
+    let nexts = c.nexts_at-nexts.ensures in
+    let o : c.owner-owner.result.0 < (graph_in c.args.numbers.now).header.modules = omega (arith, n.0, n.1) in
     rw (lasts, nexts) (⊎_elim
-    (λ w. written-first _ _ _ _ _ _ s.requires.1.0 _ s.requires.1.1 _ refl _ n.8 o _ n.0 _ (rw lasts at w.0.taken) (rw firsts at w.2))
-    (λ w. written_behind _ _ _ _ _ _ s.requires.1.0 _ s.requires.1.1 _ refl _ n.8 o _ n.0 _ (rw lasts at w.0.left) _ (rw lasts at (w.2.ensures ∙ ap first_part w.1.ensures)) (rw nexts at w.3))
-    c.before.before.if1.branch)
+    (λ w. written-first _ _ _ _ _ _ c.requires.1.0 _ c.requires.1.1 _ refl _ n.8 o _ n.0 _ (rw lasts at w.0.taken) (rw firsts at w.2))
+    (λ w. written_behind _ _ _ _ _ _ c.requires.1.0 _ c.requires.1.1 _ refl _ n.8 o _ n.0 _ (rw lasts at w.0.left) _ (rw lasts at (w.2.ensures ∙ ap first_part w.1.ensures)) (rw nexts at w.3))
+    c.if-last-eq0.branch)
 
-pub link-forward-spec : {M : Type 1} → statement M
-link-forward-spec =
+pub link_forward_spec : {M : Type 1} → statement M
+link_forward_spec =
     tie.close
     (tie.spec
-    header-of-requires
-    firsts-at-requires
-    lasts-at-requires
-    nexts-at-requires
-    owner-requires
-    add-last
-    mul-last
-    slice-read-last
-    add-partners
-    add-partners-2
-    mul-partners
-    slice-write-partners
-    sub-fact-at
-    fact-at-requires
-    first-part-requires
-    add-partners-3
-    add-partners-4
-    mul-partners-2
-    slice-write-partners-2
-    add-partners-5
-    add-partners-6
-    mul-partners-3
-    slice-write-partners-3
-    add-partners-7
-    mul-partners-4
-    slice-write-partners-4
-    same_length
+    header_of-h-requires
+    firsts_at-firsts-requires
+    lasts_at-lasts-requires
+    nexts_at-nexts-requires
+    owner-owner-requires
+    overflow_add-last
+    offset_bounds-partners-lasts
+    bounds-partners-lasts
+    overflow_add-partners
+    overflow_add-partners-then-last-eq0
+    offset_bounds-partners-firsts
+    bounds-partners-firsts
+    overflow_sub-last
+    fact_at-requires
+    first_part-before-requires
+    overflow_add-partners-else-last-eq0
+    overflow_add-partners-else-last-eq0-2
+    offset_bounds-partners-nexts
+    bounds-partners-nexts
+    overflow_add-partners-2
+    overflow_add-partners-3
+    offset_bounds-partners-lasts-2
+    bounds-partners-lasts-2
+    overflow_add-partners-4
+    offset_bounds-partners-nexts-2
+    bounds-partners-nexts-2
+    shape_of-partners
     returns)

@@ -5,50 +5,50 @@ use Rattle.worklist.proofs.start.Statement.{statement}
 use Rattle.worklist.proofs.start.Tie as tie
 
 add-requires : tie.Need-add-requires
-add-requires c κs = let s = c.before.before.before.before.before.before.before in (s.requires.0.loaded, (s.requires.1.0, start_writable _ _ _ s.requires.1.1.1))
+add-requires c κs = (c.requires.0.loaded, (c.requires.1.0, start_writable _ _ _ c.requires.1.1.1))
 
-enum_told : tie.Need-enum-told
-enum_told c = search rules
+enum_told-1 : tie.Need-enum_told-1
+enum_told-1 c = search rules
 
-enum-known-n : tie.Need-enum-known-n
-enum-known-n c = search rules
+enum_known-n : tie.Need-enum_known-n
+enum_known-n c = search rules
 
-drain-work-items-requires : tie.Need-drain-work-items-requires
-drain-work-items-requires c κs = let s = c.before.before.before.before.before.before.before.before.before.before.before.before.before.before.before.before.before.before in let w = rw c.before.before.before.before.n.given.1 at c.before.before.before.before.before.before.before.before.before.before.add.ensures in (s.requires.0, ((w.held _ refl).1, (start-linked _ _ _ _ _ _ _ _ w _ s.requires.1.1.0, (s.requires.1.0.base_inside, start-more _ _ _ _ _ _ _ _ w))))
+drain_work_items-requires : tie.Need-drain_work_items-requires
+drain_work_items-requires c κs = let w = rw c.in-Lines.is at c.add.ensures in (c.requires.0, ((w.held _ refl).1, (start-linked _ _ _ _ _ _ _ _ w _ c.requires.1.1.0, (c.requires.1.0.base_inside, start-more _ _ _ _ _ _ _ _ w))))
 
-same_length : tie.Need-same-length
-same_length c = search rules
+shape_of-marks-in-Full : tie.Need-shape_of-marks-in-Full
+shape_of-marks-in-Full c = search rules
 
-same-length-2 : tie.Need-same-length-2
-same-length-2 c = search rules
+shape_of-lines-in-Full : tie.Need-shape_of-lines-in-Full
+shape_of-lines-in-Full c = search rules
 
-returns : tie.Need-returns
-returns c = start_full _ _ _ _ _ _ _ _ _ (rw c.enum_told.given.1 at c.before.before.before.before.before.before.add.ensures)
+returns-in-Full : tie.Need-returns-in-Full
+returns-in-Full c = start_full _ _ _ _ _ _ _ _ _ (rw c.in-Full.is at c.add.ensures)
 
-same-length-3 : tie.Need-same-length-3
-same-length-3 c = search rules
+shape_of-partners : tie.Need-shape_of-partners
+shape_of-partners c = search rules
 
-same-length-4 : tie.Need-same-length-4
-same-length-4 c = search rules
+shape_of-marks-in-Lines : tie.Need-shape_of-marks-in-Lines
+shape_of-marks-in-Lines c = search rules
 
-same-length-5 : tie.Need-same-length-5
-same-length-5 c = search rules
+shape_of-lines-in-Lines : tie.Need-shape_of-lines-in-Lines
+shape_of-lines-in-Lines c = search rules
 
-returns-2 : tie.Need-returns-2
-returns-2 c = start-done _ _ _ _ _ _ _ _ (rw c.before.before.before.before.before.before.before.before.before.before.before.n.given.1 at c.before.before.before.before.before.before.before.before.before.before.before.before.before.before.before.before.before.add.ensures) _ _ _ _ _ c.before.before.before.before.before.before.drain-work-items.ensures
+returns-in-Lines : tie.Need-returns-in-Lines
+returns-in-Lines c = start-done _ _ _ _ _ _ _ _ (rw c.in-Lines.is at c.add.ensures) _ _ _ _ _ c.drain_work_items.ensures
 
 pub start_spec : {M : Type 1} → statement M
 start_spec =
     tie.close
     (tie.spec
     add-requires
-    enum_told
-    enum-known-n
-    drain-work-items-requires
-    same_length
-    same-length-2
-    returns
-    same-length-3
-    same-length-4
-    same-length-5
-    returns-2)
+    enum_told-1
+    enum_known-n
+    drain_work_items-requires
+    shape_of-marks-in-Full
+    shape_of-lines-in-Full
+    returns-in-Full
+    shape_of-partners
+    shape_of-marks-in-Lines
+    shape_of-lines-in-Lines
+    returns-in-Lines)

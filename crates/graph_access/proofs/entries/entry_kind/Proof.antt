@@ -9,7 +9,11 @@ number-requires c κs = search rules
 
 returns : tie.Need-returns
 unfolding entry_kind
-returns c = let s = c.before.before.before in found_below c.number.ensures (entry_kind_below s.requires.0 _ s.requires.1)
+returns c = found_below c.number.ensures (entry_kind_below c.requires.0 _ c.requires.1)
 
-pub entry-kind-spec : {M : Type 1} → statement M
-entry-kind-spec = tie.close (tie.spec number-requires returns)
+pub entry_kind_spec : {M : Type 1} → statement M
+entry_kind_spec =
+    tie.close
+    (tie.spec
+    number-requires
+    returns)

@@ -9,7 +9,11 @@ number-requires c κs = search rules
 
 returns : tie.Need-returns
 unfolding entry_module
-returns c = let s = c.before.before.before in found_below c.number.ensures (entry_module_below s.requires.0 _ s.requires.1)
+returns c = found_below c.number.ensures (entry_module_below c.requires.0 _ c.requires.1)
 
-pub entry-module-spec : {M : Type 1} → statement M
-entry-module-spec = tie.close (tie.spec number-requires returns)
+pub entry_module_spec : {M : Type 1} → statement M
+entry_module_spec =
+    tie.close
+    (tie.spec
+    number-requires
+    returns)

@@ -12,47 +12,47 @@ use Rattle.graph_access.proofs.entries.number.Statement.{statement}
 use Rattle.graph_access.proofs.entries.number.Tie as tie
 
 -- the table of the entries
-table : (c : tie.After-section) → let s = c.before.before.before in EntryTable s.args.numbers.now c.section.result.now
-table c = let s = c.before.before.before in rw c.section.ensures s.requires.0.of_entries
+table : (c : tie.After-section-places) → EntryTable c.args.numbers.now c.section-places.result.now
+table c = rw c.section-places.ensures c.requires.0.of_entries
 
 -- the number is there
-here : (c : tie.After-section) → let s = c.before.before.before in get_or c.section.result.now s.args.e.0 0 + s.args.i < length s.args.numbers.now
-here c = let s = c.before.before.before in number_inside _ _ (table c) _ s.requires.1.0 _ s.requires.1.1
+here : (c : tie.After-section-places) → get_or c.section-places.result.now c.args.e.0 0 + c.args.i < length c.args.numbers.now
+here c = number_inside _ _ (table c) _ c.requires.1.0 _ c.requires.1.1
 
-section-requires : tie.Need-section-requires
-section-requires c κs = inside c.before.before.requires.0.laid 4 (omega arith)
+section-places-requires : tie.Need-section-places-requires
+section-places-requires c κs = inside c.requires.0.laid 4 (omega arith)
 
-mul-p : tie.Need-overflow-mul-p
-mul-p c = search rules
+offset_bounds-places-a : tie.Need-offset_bounds-places-a
+offset_bounds-places-a c = search rules
 
-shared-slice-read-p : tie.Need-shared-slice-read-p
-shared-slice-read-p c = let s = c.before.before.before.before in omega (arith, (table c.before).long, s.requires.1.0)
+bounds-places-a : tie.Need-bounds-places-a
+bounds-places-a c = omega (arith, (table c.before).long, c.requires.1.0)
 
-add_wide : tie.Need-overflow-add-wide
-add_wide c = omega (arith, here c.before)
+overflow_add-p : tie.Need-overflow_add-p
+overflow_add-p c = omega (arith, here c.before)
 
-mul_wide : tie.Need-overflow-mul-wide
-mul_wide c = omega (arith, here c.before)
+offset_bounds-numbers-p : tie.Need-offset_bounds-numbers-p
+offset_bounds-numbers-p c = omega (arith, here c.before)
 
-shared-slice-read-wide : tie.Need-shared-slice-read-wide
-shared-slice-read-wide c = omega (arith, here c.before.before)
+bounds-numbers-p : tie.Need-bounds-numbers-p
+bounds-numbers-p c = omega (arith, here c.before.before)
 
 wide-requires : tie.Need-wide-requires
 wide-requires c κs = search rules
 
 returns : tie.Need-returns
 unfolding entry_of graph_in
-returns c = let s = c.before.before.before.before.before.before in c.wide.ensures ∙ number_same _ _ (table c.before.before.before) _ s.requires.1.0 _ s.requires.1.1
+returns c = c.wide.ensures ∙ number_same _ _ (table c.before.before.before) _ c.requires.1.0 _ c.requires.1.1
 
-pub number-spec : {M : Type 1} → statement M
-number-spec =
+pub number_spec : {M : Type 1} → statement M
+number_spec =
     tie.close
     (tie.spec
-    section-requires
-    mul-p
-    shared-slice-read-p
-    add_wide
-    mul_wide
-    shared-slice-read-wide
+    section-places-requires
+    offset_bounds-places-a
+    bounds-places-a
+    overflow_add-p
+    offset_bounds-numbers-p
+    bounds-numbers-p
     wide-requires
     returns)

@@ -5,21 +5,27 @@ use borrow.Author.Rules.{rules}
 use Rattle.graph_access.proofs.helpers.helper_symbol.Statement.{statement}
 use Rattle.graph_access.proofs.helpers.helper_symbol.Tie as tie
 
-add_wide : tie.Need-overflow-add-wide
-add_wide c = let s = c.before.before in omega (arith, helper_there s.requires.0 _ s.requires.1)
+overflow_add-k : tie.Need-overflow_add-k
+overflow_add-k c = omega (arith, helper_there c.requires.0 _ c.requires.1)
 
-mul_wide : tie.Need-overflow-mul-wide
-mul_wide c = let s = c.before.before in omega (arith, helper_there s.requires.0 _ s.requires.1)
+offset_bounds-numbers-k : tie.Need-offset_bounds-numbers-k
+offset_bounds-numbers-k c = omega (arith, helper_there c.requires.0 _ c.requires.1)
 
-shared-slice-read-wide : tie.Need-shared-slice-read-wide
-shared-slice-read-wide c = let s = c.before.before.before in omega (arith, helper_there s.requires.0 _ s.requires.1)
+bounds-numbers-k : tie.Need-bounds-numbers-k
+bounds-numbers-k c = omega (arith, helper_there c.requires.0 _ c.requires.1)
 
 wide-requires : tie.Need-wide-requires
 wide-requires c κs = search rules
 
 returns : tie.Need-returns
-returns c = let s = c.before.before.before.before in found_below (c.wide.ensures ∙ helper_is s.requires.0 _ s.requires.1) (helper_symbol_below s.requires.0 _ s.requires.1)
+returns c = found_below (c.wide.ensures ∙ helper_is c.requires.0 _ c.requires.1) (helper_symbol_below c.requires.0 _ c.requires.1)
 
-pub helper-symbol-spec : {M : Type 1} → statement M
-helper-symbol-spec =
-    tie.close (tie.spec add_wide mul_wide shared-slice-read-wide wide-requires returns)
+pub helper_symbol_spec : {M : Type 1} → statement M
+helper_symbol_spec =
+    tie.close
+    (tie.spec
+    overflow_add-k
+    offset_bounds-numbers-k
+    bounds-numbers-k
+    wide-requires
+    returns)

@@ -7,68 +7,68 @@ use native.Mathlib.Omega.{arith}
 use Rattle.graph_access.proofs.lists.list_place.Statement.{statement}
 use Rattle.graph_access.proofs.lists.list_place.Tie as tie
 
-abbrev invariant-loop : tie.invariant-loop
-invariant-loop numbers at widths j i₀ p₀ i p = (i ≤ j) × (p ≡ place_of numbers at widths i)
+abbrev invariant-loop-i : tie.invariant-loop-i
+invariant-loop-i numbers at widths j i₀ p₀ i p = (i ≤ j) × (p ≡ place_of numbers at widths i)
 
-abbrev decreases-loop : tie.decreases-loop
-decreases-loop numbers at widths j i₀ p₀ i p = j - i
+abbrev decreases-loop-i : tie.decreases-loop-i
+decreases-loop-i numbers at widths j i₀ p₀ i p = j - i
 
-loop-holds : tie.Need-loop-init invariant-loop decreases-loop
+loop-i-init : tie.Need-loop-i-init invariant-loop-i decreases-loop-i
 unfolding place_of
-loop-holds c = (omega arith, refl)
+loop-i-init c = (omega arith, refl)
 
-add-p : tie.Need-overflow-add-p invariant-loop decreases-loop
-add-p c = omega (arith, turn_inside _ _ _ _ c.before.before.before.before.requires _ _ c.before.loop.invariant.1 c.loop-test.true)
+overflow_add-p : tie.Need-overflow_add-p invariant-loop-i decreases-loop-i
+overflow_add-p c = omega (arith, turn_inside _ _ _ _ c.requires _ _ c.loop-i.invariant.1 c.loop-i-test.true)
 
-mul-p : tie.Need-overflow-mul-p invariant-loop decreases-loop
-mul-p c = omega (arith, turn_width _ _ _ _ c.before.before.before.before.requires _ _ c.before.loop.invariant.1 c.loop-test.true)
+offset_bounds-widths-i : tie.Need-offset_bounds-widths-i invariant-loop-i decreases-loop-i
+offset_bounds-widths-i c = omega (arith, turn_width _ _ _ _ c.requires _ _ c.loop-i.invariant.1 c.loop-i-test.true)
 
-shared-slice-read-p : tie.Need-shared-slice-read-p invariant-loop decreases-loop
-shared-slice-read-p c = turn_width _ _ _ _ c.before.before.before.before.before.requires _ _ c.before.before.loop.invariant.1 c.before.loop-test.true
+bounds-widths-i : tie.Need-bounds-widths-i invariant-loop-i decreases-loop-i
+bounds-widths-i c = turn_width _ _ _ _ c.requires _ _ c.loop-i.invariant.1 c.loop-i-test.true
 
-mul_wide : tie.Need-overflow-mul-wide invariant-loop decreases-loop
-mul_wide c = omega (arith, turn_inside _ _ _ _ c.before.before.before.before.before.requires _ _ c.before.before.loop.invariant.1 c.before.loop-test.true)
+offset_bounds-numbers-p : tie.Need-offset_bounds-numbers-p invariant-loop-i decreases-loop-i
+offset_bounds-numbers-p c = omega (arith, turn_inside _ _ _ _ c.requires _ _ c.loop-i.invariant.1 c.loop-i-test.true)
 
-shared-slice-read-wide : tie.Need-shared-slice-read-wide invariant-loop decreases-loop
-shared-slice-read-wide c = turn_inside _ _ _ _ c.before.before.before.before.before.before.requires _ _ c.before.before.before.loop.invariant.1 c.before.before.loop-test.true
+bounds-numbers-p : tie.Need-bounds-numbers-p invariant-loop-i decreases-loop-i
+bounds-numbers-p c = turn_inside _ _ _ _ c.requires _ _ c.loop-i.invariant.1 c.loop-i-test.true
 
-wide-requires : tie.Need-wide-requires invariant-loop decreases-loop
+wide-requires : tie.Need-wide-requires invariant-loop-i decreases-loop-i
 wide-requires c κs = search rules
 
-mul-p-2 : tie.Need-overflow-mul-p-2 invariant-loop decreases-loop
-mul-p-2 c = rw c.wide.ensures (omega (arith, turn_ends _ _ _ _ c.before.before.before.before.before.before.before.requires _ _ c.before.before.before.before.loop.invariant.1 c.before.before.before.loop-test.true))
+overflow_mul-p : tie.Need-overflow_mul-p invariant-loop-i decreases-loop-i
+overflow_mul-p c = rw c.wide.ensures (omega (arith, turn_ends _ _ _ _ c.requires _ _ c.loop-i.invariant.1 c.loop-i-test.true))
 
-add-p-2 : tie.Need-overflow-add-p-2 invariant-loop decreases-loop
-add-p-2 c = rw c.wide.ensures (omega (arith, turn_ends _ _ _ _ c.before.before.before.before.before.before.before.requires _ _ c.before.before.before.before.loop.invariant.1 c.before.before.before.loop-test.true))
+overflow_add-p-in-loop-i : tie.Need-overflow_add-p-in-loop-i invariant-loop-i decreases-loop-i
+overflow_add-p-in-loop-i c = rw c.wide.ensures (omega (arith, turn_ends _ _ _ _ c.requires _ _ c.loop-i.invariant.1 c.loop-i-test.true))
 
-add-i : tie.Need-overflow-add-i invariant-loop decreases-loop
-add-i c = search rules
+overflow_add-i : tie.Need-overflow_add-i invariant-loop-i decreases-loop-i
+overflow_add-i c = search rules
 
-loop-less : tie.Need-loop-smaller invariant-loop decreases-loop
-loop-less c = search rules
+loop-i-smaller : tie.Need-loop-i-smaller invariant-loop-i decreases-loop-i
+loop-i-smaller c = search rules
 
-loop-again : tie.Need-loop-preserved invariant-loop decreases-loop
-loop-again c = (omega arith, rw c.wide.ensures (turn_next _ _ _ _ c.before.before.before.before.before.before.before.requires _ _ c.before.before.before.before.loop.invariant.1 c.before.before.before.loop-test.true))
+loop-i-preserved : tie.Need-loop-i-preserved invariant-loop-i decreases-loop-i
+loop-i-preserved c = (omega arith, rw c.wide.ensures (turn_next _ _ _ _ c.requires _ _ c.loop-i.invariant.1 c.loop-i-test.true))
 
-returns : tie.Need-returns invariant-loop decreases-loop
-returns c = let l = c.before.loop.invariant in let z : c.before.loop.i ≡ c.before.before.before.before.args.j = omega (arith, l.0, c.loop-test.false) in l.1 ∙ ap (λ k. place_of c.before.before.before.before.args.numbers.now c.before.before.before.before.args.at c.before.before.before.before.args.widths.now k) z
+returns : tie.Need-returns invariant-loop-i decreases-loop-i
+returns c = let l = c.loop-i.invariant in let z : c.loop-i.i ≡ c.args.j = omega (arith, l.0, c.loop-i-test.false) in l.1 ∙ ap (λ k. place_of c.args.numbers.now c.args.at c.args.widths.now k) z
 
-pub list-place-spec : {M : Type 1} → statement M
-list-place-spec =
+pub list_place_spec : {M : Type 1} → statement M
+list_place_spec =
     tie.close
     (tie.spec
-    invariant-loop
-    decreases-loop
-    loop-holds
-    add-p
-    mul-p
-    shared-slice-read-p
-    mul_wide
-    shared-slice-read-wide
+    invariant-loop-i
+    decreases-loop-i
+    loop-i-init
+    overflow_add-p
+    offset_bounds-widths-i
+    bounds-widths-i
+    offset_bounds-numbers-p
+    bounds-numbers-p
     wide-requires
-    mul-p-2
-    add-p-2
-    add-i
-    loop-less
-    loop-again
+    overflow_mul-p
+    overflow_add-p-in-loop-i
+    overflow_add-i
+    loop-i-smaller
+    loop-i-preserved
     returns)

@@ -8,33 +8,33 @@ use borrow.Author.Rules.{rules}
 use Rattle.graph_access.proofs.lists.module_list.Statement.{statement}
 use Rattle.graph_access.proofs.lists.module_list.Tie as tie
 
-mul-p : tie.Need-overflow-mul-p
-mul-p c = search rules
+offset_bounds-modules-m : tie.Need-offset_bounds-modules-m
+offset_bounds-modules-m c = search rules
 
-shared-slice-read-p : tie.Need-shared-slice-read-p
-shared-slice-read-p c = let s = c.before.before.before in omega (arith, s.requires.0.long, s.requires.1.0)
+bounds-modules-m : tie.Need-bounds-modules-m
+bounds-modules-m c = omega (arith, c.requires.0.long, c.requires.1.0)
 
-add-list-place : tie.Need-overflow-add-list-place
-add-list-place c = let s = c.before.before.before in omega (arith, at-inside _ _ s.requires.0 _ s.requires.1.0 11 (omega arith))
+overflow_add-p : tie.Need-overflow_add-p
+overflow_add-p c = omega (arith, at-inside _ _ c.requires.0 _ c.requires.1.0 11 (omega arith))
 
-slice-aggregate-list-place : tie.Need-slice-aggregate-list-place
-slice-aggregate-list-place c = search rules
+slice_bounds-list_place-end : tie.Need-slice_bounds-list_place-end
+slice_bounds-list_place-end c = search rules
 
-list-place-requires : tie.Need-list-place-requires
+list_place-requires : tie.Need-list_place-requires
 unfolding module_widths
-list-place-requires c κs = let s = c.before.before.before.before in rw (its-place _ _ s.requires.0 _ s.requires.1.0) (module_inside _ _ s.requires.0 _ s.requires.1.0 _ s.requires.1.1)
+list_place-requires c κs = rw (its-place _ _ c.requires.0 _ c.requires.1.0) (module_inside _ _ c.requires.0 _ c.requires.1.0 _ c.requires.1.1)
 
 returns : tie.Need-returns
 unfolding module_widths
-returns c = let s = c.before.before.before.before.before in c.list-place.ensures ∙ ap (λ p. place_of s.args.numbers.now (p + 12) module_widths s.args.j) (its-place _ _ s.requires.0 _ s.requires.1.0)
+returns c = c.list_place.ensures ∙ ap (λ p. place_of c.args.numbers.now (p + 12) module_widths c.args.j) (its-place _ _ c.requires.0 _ c.requires.1.0)
 
-pub module-list-spec : {M : Type 1} → statement M
-module-list-spec =
+pub module_list_spec : {M : Type 1} → statement M
+module_list_spec =
     tie.close
     (tie.spec
-    mul-p
-    shared-slice-read-p
-    add-list-place
-    slice-aggregate-list-place
-    list-place-requires
+    offset_bounds-modules-m
+    bounds-modules-m
+    overflow_add-p
+    slice_bounds-list_place-end
+    list_place-requires
     returns)

@@ -13,60 +13,60 @@ use Rattle.graph_access.proofs.lists.module_list_number.Statement.{statement}
 use Rattle.graph_access.proofs.lists.module_list_number.Tie as tie
 
 -- the list, at its place
-its : (c : tie.After-module-list) → let s = c.before.before.before in Stands s.args.numbers.now c.module-list.result (get_or module_widths s.args.j 0) (get_or (get_or (modules_in s.args.numbers.now) s.args.m no_item).rows s.args.j [])
-its c = let s = c.before.before.before in rw c.module-list.ensures (module_stands _ _ s.requires.0 _ s.requires.1.0 _ s.requires.1.1)
+its : (c : tie.After-module_list-p) → Stands c.args.numbers.now c.module_list-p.result (get_or module_widths c.args.j 0) (get_or (get_or (modules_in c.args.numbers.now) c.args.m no_item).rows c.args.j [])
+its c = rw c.module_list-p.ensures (module_stands _ _ c.requires.0 _ c.requires.1.0 _ c.requires.1.1)
 
-module-list-requires : tie.Need-module-list-requires
-module-list-requires c κs = search rules
+module_list-p-requires : tie.Need-module_list-p-requires
+module_list-p-requires c κs = search rules
 
-add_wide : tie.Need-overflow-add-wide
-add_wide c = omega (arith, (its c).inside)
+overflow_add-p : tie.Need-overflow_add-p
+overflow_add-p c = omega (arith, (its c).inside)
 
-mul_wide : tie.Need-overflow-mul-wide
-mul_wide c = search rules
+offset_bounds-widths-j : tie.Need-offset_bounds-widths-j
+offset_bounds-widths-j c = search rules
 
-array-read-wide : tie.Need-array-read-wide
-array-read-wide c = search rules
+bounds-widths-j : tie.Need-bounds-widths-j
+bounds-widths-j c = search rules
 
-mul-wide-2 : tie.Need-overflow-mul-wide-2
+overflow_mul-widths : tie.Need-overflow_mul-widths
 unfolding module_widths
-mul-wide-2 c = let s = c.before.before.before in omega (arith, (its c).here _ _ s.requires.1.2 s.requires.1.3)
+overflow_mul-widths c = omega (arith, (its c).here _ _ c.requires.1.2 c.requires.1.3)
 
-add-wide-2 : tie.Need-overflow-add-wide-2
+overflow_add-p-2 : tie.Need-overflow_add-p-2
 unfolding module_widths
-add-wide-2 c = let s = c.before.before.before in omega (arith, (its c).here _ _ s.requires.1.2 s.requires.1.3)
+overflow_add-p-2 c = omega (arith, (its c).here _ _ c.requires.1.2 c.requires.1.3)
 
-add-wide-3 : tie.Need-overflow-add-wide-3
+overflow_add-p-3 : tie.Need-overflow_add-p-3
 unfolding module_widths
-add-wide-3 c = let s = c.before.before.before in omega (arith, (its c).here _ _ s.requires.1.2 s.requires.1.3)
+overflow_add-p-3 c = omega (arith, (its c).here _ _ c.requires.1.2 c.requires.1.3)
 
-mul-wide-3 : tie.Need-overflow-mul-wide-3
+offset_bounds-numbers-p : tie.Need-offset_bounds-numbers-p
 unfolding module_widths
-mul-wide-3 c = let s = c.before.before.before in omega (arith, (its c).here _ _ s.requires.1.2 s.requires.1.3)
+offset_bounds-numbers-p c = omega (arith, (its c).here _ _ c.requires.1.2 c.requires.1.3)
 
-shared-slice-read-wide : tie.Need-shared-slice-read-wide
+bounds-numbers-p : tie.Need-bounds-numbers-p
 unfolding module_widths
-shared-slice-read-wide c = let s = c.before.before.before.before in (its c.before).here _ _ s.requires.1.2 s.requires.1.3
+bounds-numbers-p c = (its c.before).here _ _ c.requires.1.2 c.requires.1.3
 
 wide-requires : tie.Need-wide-requires
 wide-requires c κs = search rules
 
 returns : tie.Need-returns
 unfolding module_widths
-returns c = let s = c.before.before.before.before.before in c.wide.ensures ∙ sym ((its c.before.before).same _ _ s.requires.1.2 s.requires.1.3)
+returns c = c.wide.ensures ∙ sym ((its c.before.before).same _ _ c.requires.1.2 c.requires.1.3)
 
-pub module-list-number-spec : {M : Type 1} → statement M
-module-list-number-spec =
+pub module_list_number_spec : {M : Type 1} → statement M
+module_list_number_spec =
     tie.close
     (tie.spec
-    module-list-requires
-    add_wide
-    mul_wide
-    array-read-wide
-    mul-wide-2
-    add-wide-2
-    add-wide-3
-    mul-wide-3
-    shared-slice-read-wide
+    module_list-p-requires
+    overflow_add-p
+    offset_bounds-widths-j
+    bounds-widths-j
+    overflow_mul-widths
+    overflow_add-p-2
+    overflow_add-p-3
+    offset_bounds-numbers-p
+    bounds-numbers-p
     wide-requires
     returns)

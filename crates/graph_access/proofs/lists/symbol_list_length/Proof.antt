@@ -13,17 +13,17 @@ use Rattle.graph_access.proofs.lists.symbol_list_length.Statement.{statement}
 use Rattle.graph_access.proofs.lists.symbol_list_length.Tie as tie
 
 -- the list, at its place
-its : (c : tie.After-symbol-list) → let s = c.before.before.before in Stands s.args.numbers.now c.symbol-list.result (get_or symbol_widths s.args.j 0) (get_or (get_or (symbols_in s.args.numbers.now) s.args.s no_item).rows s.args.j [])
-its c = let s = c.before.before.before in rw c.symbol-list.ensures (symbol_stands _ _ s.requires.0 _ s.requires.1.0 _ s.requires.1.1)
+its : (c : tie.After-symbol_list-p) → Stands c.args.numbers.now c.symbol_list-p.result (get_or symbol_widths c.args.j 0) (get_or (get_or (symbols_in c.args.numbers.now) c.args.s no_item).rows c.args.j [])
+its c = rw c.symbol_list-p.ensures (symbol_stands _ _ c.requires.0 _ c.requires.1.0 _ c.requires.1.1)
 
-symbol-list-requires : tie.Need-symbol-list-requires
-symbol-list-requires c κs = search rules
+symbol_list-p-requires : tie.Need-symbol_list-p-requires
+symbol_list-p-requires c κs = search rules
 
-mul_wide : tie.Need-overflow-mul-wide
-mul_wide c = omega (arith, (its c).inside)
+offset_bounds-numbers-p : tie.Need-offset_bounds-numbers-p
+offset_bounds-numbers-p c = omega (arith, (its c).inside)
 
-shared-slice-read-wide : tie.Need-shared-slice-read-wide
-shared-slice-read-wide c = (its c.before).inside
+bounds-numbers-p : tie.Need-bounds-numbers-p
+bounds-numbers-p c = (its c.before).inside
 
 wide-requires : tie.Need-wide-requires
 wide-requires c κs = search rules
@@ -31,6 +31,12 @@ wide-requires c κs = search rules
 returns : tie.Need-returns
 returns c = c.wide.ensures ∙ (its c.before.before).counted
 
-pub symbol-list-length-spec : {M : Type 1} → statement M
-symbol-list-length-spec =
-    tie.close (tie.spec symbol-list-requires mul_wide shared-slice-read-wide wide-requires returns)
+pub symbol_list_length_spec : {M : Type 1} → statement M
+symbol_list_length_spec =
+    tie.close
+    (tie.spec
+    symbol_list-p-requires
+    offset_bounds-numbers-p
+    bounds-numbers-p
+    wide-requires
+    returns)

@@ -5,13 +5,17 @@ use Rattle.graph_access.proofs.Indexes.{found_below, namespace_row_below}
 use Rattle.graph_access.proofs.modules.commonjs_namespace_module.Statement.{statement}
 use Rattle.graph_access.proofs.modules.commonjs_namespace_module.Tie as tie
 
-list-number-requires : tie.Need-list-number-requires
+list_number-requires : tie.Need-list_number-requires
 unfolding common_js_namespaces module_widths
-list-number-requires c κs = let s = c.before.before in (s.requires.0, (s.requires.1.0, omega arith, s.requires.1.1, omega arith))
+list_number-requires c κs = (c.requires.0, (c.requires.1.0, omega arith, c.requires.1.1, omega arith))
 
 returns : tie.Need-returns
 unfolding common_js_namespaces namespace_module
-returns c = let s = c.before.before.before in found_below c.list-number.ensures (namespace_row_below s.requires.0 _ _ s.requires.1.0 s.requires.1.1).1
+returns c = found_below c.list_number.ensures (namespace_row_below c.requires.0 _ _ c.requires.1.0 c.requires.1.1).1
 
-pub commonjs-namespace-module-spec : {M : Type 1} → statement M
-commonjs-namespace-module-spec = tie.close (tie.spec list-number-requires returns)
+pub commonjs_namespace_module_spec : {M : Type 1} → statement M
+commonjs_namespace_module_spec =
+    tie.close
+    (tie.spec
+    list_number-requires
+    returns)

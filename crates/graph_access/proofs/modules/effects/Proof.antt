@@ -9,7 +9,11 @@ number-requires c κs = search rules
 
 returns : tie.Need-returns
 unfolding effects
-returns c = let s = c.before.before.before in found_below c.number.ensures (effects_below s.requires.0 _ s.requires.1)
+returns c = found_below c.number.ensures (effects_below c.requires.0 _ c.requires.1)
 
-pub effects-spec : {M : Type 1} → statement M
-effects-spec = tie.close (tie.spec number-requires returns)
+pub effects_spec : {M : Type 1} → statement M
+effects_spec =
+    tie.close
+    (tie.spec
+    number-requires
+    returns)

@@ -4,13 +4,17 @@ use Rattle.graph_access.specs.Names.{enum_members, enum_member}
 use Rattle.graph_access.proofs.modules.enum_member.Statement.{statement}
 use Rattle.graph_access.proofs.modules.enum_member.Tie as tie
 
-list-number-requires : tie.Need-list-number-requires
+list_number-requires : tie.Need-list_number-requires
 unfolding enum_members module_widths
-list-number-requires c κs = let s = c.before.before in (s.requires.0, (s.requires.1.0, omega arith, s.requires.1.1, omega arith))
+list_number-requires c κs = (c.requires.0, (c.requires.1.0, omega arith, c.requires.1.1, omega arith))
 
 returns : tie.Need-returns
 unfolding enum_members enum_member
-returns c = c.list-number.ensures
+returns c = c.list_number.ensures
 
-pub enum-member-spec : {M : Type 1} → statement M
-enum-member-spec = tie.close (tie.spec list-number-requires returns)
+pub enum_member_spec : {M : Type 1} → statement M
+enum_member_spec =
+    tie.close
+    (tie.spec
+    list_number-requires
+    returns)

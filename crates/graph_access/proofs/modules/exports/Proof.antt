@@ -10,5 +10,9 @@ returns : tie.Need-returns
 unfolding exports
 returns c = c.number.ensures
 
-pub exports-spec : {M : Type 1} → statement M
-exports-spec = tie.close (tie.spec number-requires returns)
+pub exports_spec : {M : Type 1} → statement M
+exports_spec =
+    tie.close
+    (tie.spec
+    number-requires
+    returns)

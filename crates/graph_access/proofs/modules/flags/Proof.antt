@@ -10,5 +10,9 @@ returns : tie.Need-returns
 unfolding flags
 returns c = c.number.ensures
 
-pub flags-spec : {M : Type 1} → statement M
-flags-spec = tie.close (tie.spec number-requires returns)
+pub flags_spec : {M : Type 1} → statement M
+flags_spec =
+    tie.close
+    (tie.spec
+    number-requires
+    returns)

@@ -5,13 +5,17 @@ use Rattle.graph_access.proofs.Indexes.{found_at_most, record_target_below}
 use Rattle.graph_access.proofs.modules.import_record_target.Statement.{statement}
 use Rattle.graph_access.proofs.modules.import_record_target.Tie as tie
 
-list-number-requires : tie.Need-list-number-requires
+list_number-requires : tie.Need-list_number-requires
 unfolding import_records module_widths
-list-number-requires c κs = let s = c.before.before in (s.requires.0, (s.requires.1.0, omega arith, s.requires.1.1, omega arith))
+list_number-requires c κs = (c.requires.0, (c.requires.1.0, omega arith, c.requires.1.1, omega arith))
 
 returns : tie.Need-returns
 unfolding import_records import_record_target
-returns c = let s = c.before.before.before in found_at_most c.list-number.ensures (record_target_below s.requires.0 _ _ s.requires.1.0 s.requires.1.1)
+returns c = found_at_most c.list_number.ensures (record_target_below c.requires.0 _ _ c.requires.1.0 c.requires.1.1)
 
-pub import-record-target-spec : {M : Type 1} → statement M
-import-record-target-spec = tie.close (tie.spec list-number-requires returns)
+pub import_record_target_spec : {M : Type 1} → statement M
+import_record_target_spec =
+    tie.close
+    (tie.spec
+    list_number-requires
+    returns)

@@ -13,5 +13,9 @@ returns : tie.Need-returns
 unfolding normal kind
 returns c = ap (λ n. eqb n 1) c.number.ensures
 
-pub is-normal-spec : {M : Type 1} → statement M
-is-normal-spec = tie.close (tie.spec number-requires returns)
+pub is_normal_spec : {M : Type 1} → statement M
+is_normal_spec =
+    tie.close
+    (tie.spec
+    number-requires
+    returns)

@@ -6,15 +6,20 @@ use Rattle.graph_access.proofs.modules.list_number.Statement.{statement}
 use Rattle.graph_access.proofs.modules.list_number.Tie as tie
 
 section-requires : tie.Need-section-requires
-section-requires c κs = inside c.before.before.requires.0.laid 0 (omega arith)
+section-requires c κs = inside c.requires.0.laid 0 (omega arith)
 
-module-list-number-requires : tie.Need-module-list-number-requires
+module_list_number-requires : tie.Need-module_list_number-requires
 unfolding module_of graph_in
-module-list-number-requires c κs = let s = c.before.before.before in (rw c.section.ensures s.requires.0.of_modules, s.requires.1)
+module_list_number-requires c κs = (rw c.section.ensures c.requires.0.of_modules, c.requires.1)
 
 returns : tie.Need-returns
 unfolding module_of graph_in
-returns c = c.module-list-number.ensures
+returns c = c.module_list_number.ensures
 
-pub list-number-spec : {M : Type 1} → statement M
-list-number-spec = tie.close (tie.spec section-requires module-list-number-requires returns)
+pub list_number_spec : {M : Type 1} → statement M
+list_number_spec =
+    tie.close
+    (tie.spec
+    section-requires
+    module_list_number-requires
+    returns)

@@ -10,5 +10,9 @@ returns : tie.Need-returns
 unfolding module_type
 returns c = c.number.ensures
 
-pub module-type-spec : {M : Type 1} → statement M
-module-type-spec = tie.close (tie.spec number-requires returns)
+pub module_type_spec : {M : Type 1} → statement M
+module_type_spec =
+    tie.close
+    (tie.spec
+    number-requires
+    returns)

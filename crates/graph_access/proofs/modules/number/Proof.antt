@@ -6,14 +6,19 @@ use Rattle.graph_access.proofs.modules.number.Statement.{statement}
 use Rattle.graph_access.proofs.modules.number.Tie as tie
 
 section-requires : tie.Need-section-requires
-section-requires c κs = inside c.before.before.requires.0.laid 0 (omega arith)
+section-requires c κs = inside c.requires.0.laid 0 (omega arith)
 
-module-number-requires : tie.Need-module-number-requires
-module-number-requires c κs = let s = c.before.before.before in (rw c.section.ensures s.requires.0.of_modules, s.requires.1)
+module_number-requires : tie.Need-module_number-requires
+module_number-requires c κs = (rw c.section.ensures c.requires.0.of_modules, c.requires.1)
 
 returns : tie.Need-returns
 unfolding module_of graph_in
-returns c = c.module-number.ensures
+returns c = c.module_number.ensures
 
-pub number-spec : {M : Type 1} → statement M
-number-spec = tie.close (tie.spec section-requires module-number-requires returns)
+pub number_spec : {M : Type 1} → statement M
+number_spec =
+    tie.close
+    (tie.spec
+    section-requires
+    module_number-requires
+    returns)

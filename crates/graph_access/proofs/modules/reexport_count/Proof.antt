@@ -10,5 +10,9 @@ returns : tie.Need-returns
 unfolding reexport_count
 returns c = c.number.ensures
 
-pub reexport-count-spec : {M : Type 1} → statement M
-reexport-count-spec = tie.close (tie.spec number-requires returns)
+pub reexport_count_spec : {M : Type 1} → statement M
+reexport_count_spec =
+    tie.close
+    (tie.spec
+    number-requires
+    returns)

@@ -4,13 +4,17 @@ use Rattle.graph_access.specs.Names.{resolved_exports, export_from_common_js}
 use Rattle.graph_access.proofs.modules.resolved_export_from_commonjs.Statement.{statement}
 use Rattle.graph_access.proofs.modules.resolved_export_from_commonjs.Tie as tie
 
-list-number-requires : tie.Need-list-number-requires
+list_number-requires : tie.Need-list_number-requires
 unfolding resolved_exports module_widths
-list-number-requires c κs = let s = c.before.before in (s.requires.0, (s.requires.1.0, omega arith, s.requires.1.1, omega arith))
+list_number-requires c κs = (c.requires.0, (c.requires.1.0, omega arith, c.requires.1.1, omega arith))
 
 returns : tie.Need-returns
 unfolding resolved_exports export_from_common_js
-returns c = c.list-number.ensures
+returns c = c.list_number.ensures
 
-pub resolved-export-from-commonjs-spec : {M : Type 1} → statement M
-resolved-export-from-commonjs-spec = tie.close (tie.spec list-number-requires returns)
+pub resolved_export_from_commonjs_spec : {M : Type 1} → statement M
+resolved_export_from_commonjs_spec =
+    tie.close
+    (tie.spec
+    list_number-requires
+    returns)

@@ -9,7 +9,11 @@ number-requires c κs = search rules
 
 returns : tie.Need-returns
 unfolding scan_effects
-returns c = let s = c.before.before.before in found_below c.number.ensures (scan_effects_below s.requires.0 _ s.requires.1)
+returns c = found_below c.number.ensures (scan_effects_below c.requires.0 _ c.requires.1)
 
-pub scan-effects-spec : {M : Type 1} → statement M
-scan-effects-spec = tie.close (tie.spec number-requires returns)
+pub scan_effects_spec : {M : Type 1} → statement M
+scan_effects_spec =
+    tie.close
+    (tie.spec
+    number-requires
+    returns)

@@ -10,5 +10,9 @@ returns : tie.Need-returns
 unfolding scan_statement_count
 returns c = c.number.ensures
 
-pub scan-statement-count-spec : {M : Type 1} → statement M
-scan-statement-count-spec = tie.close (tie.spec number-requires returns)
+pub scan_statement_count_spec : {M : Type 1} → statement M
+scan_statement_count_spec =
+    tie.close
+    (tie.spec
+    number-requires
+    returns)

@@ -10,7 +10,11 @@ number-requires c κs = search rules
 
 returns : tie.Need-returns
 unfolding statement_count
-returns c = let s = c.before.before.before in found_at_most (c.number.ensures ∙ sym (statements_counted s.requires.0 _ s.requires.1)) (statements_few s.requires.0 _ s.requires.1)
+returns c = found_at_most (c.number.ensures ∙ sym (statements_counted c.requires.0 _ c.requires.1)) (statements_few c.requires.0 _ c.requires.1)
 
-pub statement-count-spec : {M : Type 1} → statement M
-statement-count-spec = tie.close (tie.spec number-requires returns)
+pub statement_count_spec : {M : Type 1} → statement M
+statement_count_spec =
+    tie.close
+    (tie.spec
+    number-requires
+    returns)

@@ -11,4 +11,8 @@ unfolding wrap
 returns c = c.number.ensures
 
 pub wrap_spec : {M : Type 1} → statement M
-wrap_spec = tie.close (tie.spec number-requires returns)
+wrap_spec =
+    tie.close
+    (tie.spec
+    number-requires
+    returns)

@@ -9,7 +9,11 @@ number-requires c κs = search rules
 
 returns : tie.Need-returns
 unfolding wrapper
-returns c = let s = c.before.before.before in found_at_most c.number.ensures (wrapper_below s.requires.0 _ s.requires.1)
+returns c = found_at_most c.number.ensures (wrapper_below c.requires.0 _ c.requires.1)
 
-pub wrapper-spec : {M : Type 1} → statement M
-wrapper-spec = tie.close (tie.spec number-requires returns)
+pub wrapper_spec : {M : Type 1} → statement M
+wrapper_spec =
+    tie.close
+    (tie.spec
+    number-requires
+    returns)

@@ -5,21 +5,27 @@ use borrow.Author.Rules.{rules}
 use Rattle.graph_access.proofs.statements.bits.Statement.{statement}
 use Rattle.graph_access.proofs.statements.bits.Tie as tie
 
-place-requires : tie.Need-place-requires
-place-requires c κs = search rules
+place-p-requires : tie.Need-place-p-requires
+place-p-requires c κs = search rules
 
-mul_wide : tie.Need-overflow-mul-wide
-mul_wide c = let s = c.before.before.before in omega (arith, bits_there s.requires.0 s.requires.1.0 s.requires.1.1 c.place.ensures)
+offset_bounds-numbers-p : tie.Need-offset_bounds-numbers-p
+offset_bounds-numbers-p c = omega (arith, bits_there c.requires.0 c.requires.1.0 c.requires.1.1 c.place-p.ensures)
 
-shared-slice-read-wide : tie.Need-shared-slice-read-wide
-shared-slice-read-wide c = let s = c.before.before.before.before in bits_there s.requires.0 s.requires.1.0 s.requires.1.1 c.before.place.ensures
+bounds-numbers-p : tie.Need-bounds-numbers-p
+bounds-numbers-p c = bits_there c.requires.0 c.requires.1.0 c.requires.1.1 c.place-p.ensures
 
 wide-requires : tie.Need-wide-requires
 wide-requires c κs = search rules
 
 returns : tie.Need-returns
-returns c = let s = c.before.before.before.before.before in c.wide.ensures ∙ bits_are s.requires.0 s.requires.1.0 s.requires.1.1 c.before.before.place.ensures
+returns c = c.wide.ensures ∙ bits_are c.requires.0 c.requires.1.0 c.requires.1.1 c.place-p.ensures
 
-pub bits-spec : {M : Type 1} → statement M
-bits-spec =
-    tie.close (tie.spec place-requires mul_wide shared-slice-read-wide wide-requires returns)
+pub bits_spec : {M : Type 1} → statement M
+bits_spec =
+    tie.close
+    (tie.spec
+    place-p-requires
+    offset_bounds-numbers-p
+    bounds-numbers-p
+    wide-requires
+    returns)

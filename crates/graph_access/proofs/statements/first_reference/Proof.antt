@@ -4,39 +4,39 @@ use borrow.Author.Rules.{rules}
 use Rattle.graph_access.proofs.statements.first_reference.Statement.{statement}
 use Rattle.graph_access.proofs.statements.first_reference.Tie as tie
 
-place-requires : tie.Need-place-requires
-place-requires c κs = search rules
+place-p-requires : tie.Need-place-p-requires
+place-p-requires c κs = search rules
 
-add_wide : tie.Need-overflow-add-wide
-add_wide c = let s = c.before.before.before in omega (arith, (import_records s.requires.0 s.requires.1.0 s.requires.1.1 c.place.ensures).inside)
+overflow_add-p : tie.Need-overflow_add-p
+overflow_add-p c = omega (arith, (import_records c.requires.0 c.requires.1.0 c.requires.1.1 c.place-p.ensures).inside)
 
-mul_wide : tie.Need-overflow-mul-wide
-mul_wide c = let s = c.before.before.before in omega (arith, (import_records s.requires.0 s.requires.1.0 s.requires.1.1 c.place.ensures).inside)
+offset_bounds-numbers-p : tie.Need-offset_bounds-numbers-p
+offset_bounds-numbers-p c = omega (arith, (import_records c.requires.0 c.requires.1.0 c.requires.1.1 c.place-p.ensures).inside)
 
-shared-slice-read-wide : tie.Need-shared-slice-read-wide
-shared-slice-read-wide c = let s = c.before.before.before.before in (import_records s.requires.0 s.requires.1.0 s.requires.1.1 c.before.place.ensures).inside
+bounds-numbers-p : tie.Need-bounds-numbers-p
+bounds-numbers-p c = (import_records c.requires.0 c.requires.1.0 c.requires.1.1 c.place-p.ensures).inside
 
-wide-requires : tie.Need-wide-requires
-wide-requires c κs = search rules
+wide-imports-requires : tie.Need-wide-imports-requires
+wide-imports-requires c κs = search rules
 
-add-result : tie.Need-overflow-add-result
-add-result c = let s = c.before.before.before.before.before in omega (arith, (references_behind s.requires.0 s.requires.1.0 s.requires.1.1 c.before.before.place.ensures c.wide.ensures).inside)
+overflow_add-result : tie.Need-overflow_add-result
+overflow_add-result c = omega (arith, (references_behind c.requires.0 c.requires.1.0 c.requires.1.1 c.place-p.ensures c.wide-imports.ensures).inside)
 
-add-result-2 : tie.Need-overflow-add-result-2
-add-result-2 c = let s = c.before.before.before.before.before in omega (arith, (references_behind s.requires.0 s.requires.1.0 s.requires.1.1 c.before.before.place.ensures c.wide.ensures).inside)
+overflow_add-result-2 : tie.Need-overflow_add-result-2
+overflow_add-result-2 c = omega (arith, (references_behind c.requires.0 c.requires.1.0 c.requires.1.1 c.place-p.ensures c.wide-imports.ensures).inside)
 
 returns : tie.Need-returns
-returns c = let s = c.before.before.before.before.before in (references_behind s.requires.0 s.requires.1.0 s.requires.1.1 c.before.before.place.ensures c.wide.ensures).follow
+returns c = (references_behind c.requires.0 c.requires.1.0 c.requires.1.1 c.place-p.ensures c.wide-imports.ensures).follow
 
-pub first-reference-spec : {M : Type 1} → statement M
-first-reference-spec =
+pub first_reference_spec : {M : Type 1} → statement M
+first_reference_spec =
     tie.close
     (tie.spec
-    place-requires
-    add_wide
-    mul_wide
-    shared-slice-read-wide
-    wide-requires
-    add-result
-    add-result-2
+    place-p-requires
+    overflow_add-p
+    offset_bounds-numbers-p
+    bounds-numbers-p
+    wide-imports-requires
+    overflow_add-result
+    overflow_add-result-2
     returns)

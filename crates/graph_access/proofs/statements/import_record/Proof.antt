@@ -7,36 +7,36 @@ use borrow.Author.Rules.{rules}
 use Rattle.graph_access.proofs.statements.import_record.Statement.{statement}
 use Rattle.graph_access.proofs.statements.import_record.Tie as tie
 
-place-requires : tie.Need-place-requires
-place-requires c κs = search rules
+place-p-requires : tie.Need-place-p-requires
+place-p-requires c κs = search rules
 
-add_wide : tie.Need-overflow-add-wide
-add_wide c = let s = c.before.before.before in omega (arith, (import_records s.requires.0 s.requires.1.0 s.requires.1.1 c.place.ensures).here _ s.requires.1.2)
+overflow_add-p : tie.Need-overflow_add-p
+overflow_add-p c = omega (arith, (import_records c.requires.0 c.requires.1.0 c.requires.1.1 c.place-p.ensures).here _ c.requires.1.2)
 
-add-wide-2 : tie.Need-overflow-add-wide-2
-add-wide-2 c = let s = c.before.before.before in omega (arith, (import_records s.requires.0 s.requires.1.0 s.requires.1.1 c.place.ensures).here _ s.requires.1.2)
+overflow_add-p-2 : tie.Need-overflow_add-p-2
+overflow_add-p-2 c = omega (arith, (import_records c.requires.0 c.requires.1.0 c.requires.1.1 c.place-p.ensures).here _ c.requires.1.2)
 
-mul_wide : tie.Need-overflow-mul-wide
-mul_wide c = let s = c.before.before.before in omega (arith, (import_records s.requires.0 s.requires.1.0 s.requires.1.1 c.place.ensures).here _ s.requires.1.2)
+offset_bounds-numbers-p : tie.Need-offset_bounds-numbers-p
+offset_bounds-numbers-p c = omega (arith, (import_records c.requires.0 c.requires.1.0 c.requires.1.1 c.place-p.ensures).here _ c.requires.1.2)
 
-shared-slice-read-wide : tie.Need-shared-slice-read-wide
-shared-slice-read-wide c = let s = c.before.before.before.before in omega (arith, (import_records s.requires.0 s.requires.1.0 s.requires.1.1 c.before.place.ensures).here _ s.requires.1.2)
+bounds-numbers-p : tie.Need-bounds-numbers-p
+bounds-numbers-p c = omega (arith, (import_records c.requires.0 c.requires.1.0 c.requires.1.1 c.place-p.ensures).here _ c.requires.1.2)
 
 wide-requires : tie.Need-wide-requires
 wide-requires c κs = search rules
 
 returns : tie.Need-returns
 unfolding only
-returns c = let s = c.before.before.before.before.before in found_below (c.wide.ensures ∙ sym ((import_records s.requires.0 s.requires.1.0 s.requires.1.1 c.before.before.place.ensures).same _ s.requires.1.2)) (statement_record_below s.requires.0 _ _ _ s.requires.1.0 s.requires.1.1 s.requires.1.2)
+returns c = found_below (c.wide.ensures ∙ sym ((import_records c.requires.0 c.requires.1.0 c.requires.1.1 c.place-p.ensures).same _ c.requires.1.2)) (statement_record_below c.requires.0 _ _ _ c.requires.1.0 c.requires.1.1 c.requires.1.2)
 
-pub import-record-spec : {M : Type 1} → statement M
-import-record-spec =
+pub import_record_spec : {M : Type 1} → statement M
+import_record_spec =
     tie.close
     (tie.spec
-    place-requires
-    add_wide
-    add-wide-2
-    mul_wide
-    shared-slice-read-wide
+    place-p-requires
+    overflow_add-p
+    overflow_add-p-2
+    offset_bounds-numbers-p
+    bounds-numbers-p
     wide-requires
     returns)

@@ -7,26 +7,32 @@ use borrow.Author.Rules.{rules}
 use Rattle.graph_access.proofs.statements.import_record_count.Statement.{statement}
 use Rattle.graph_access.proofs.statements.import_record_count.Tie as tie
 
-place-requires : tie.Need-place-requires
-place-requires c κs = search rules
+place-p-requires : tie.Need-place-p-requires
+place-p-requires c κs = search rules
 
-add_wide : tie.Need-overflow-add-wide
-add_wide c = let s = c.before.before.before in omega (arith, (import_records s.requires.0 s.requires.1.0 s.requires.1.1 c.place.ensures).inside)
+overflow_add-p : tie.Need-overflow_add-p
+overflow_add-p c = omega (arith, (import_records c.requires.0 c.requires.1.0 c.requires.1.1 c.place-p.ensures).inside)
 
-mul_wide : tie.Need-overflow-mul-wide
-mul_wide c = let s = c.before.before.before in omega (arith, (import_records s.requires.0 s.requires.1.0 s.requires.1.1 c.place.ensures).inside)
+offset_bounds-numbers-p : tie.Need-offset_bounds-numbers-p
+offset_bounds-numbers-p c = omega (arith, (import_records c.requires.0 c.requires.1.0 c.requires.1.1 c.place-p.ensures).inside)
 
-shared-slice-read-wide : tie.Need-shared-slice-read-wide
-shared-slice-read-wide c = let s = c.before.before.before.before in (import_records s.requires.0 s.requires.1.0 s.requires.1.1 c.before.place.ensures).inside
+bounds-numbers-p : tie.Need-bounds-numbers-p
+bounds-numbers-p c = (import_records c.requires.0 c.requires.1.0 c.requires.1.1 c.place-p.ensures).inside
 
 wide-requires : tie.Need-wide-requires
 wide-requires c κs = search rules
 
 returns : tie.Need-returns
 unfolding statement_import_records
-returns c = let s = c.before.before.before.before.before in found_at_most (c.wide.ensures ∙ (import_records s.requires.0 s.requires.1.0 s.requires.1.1 c.before.before.place.ensures).counted) (statement_list_few s.requires.0 _ _ 0 s.requires.1.0 s.requires.1.1 (omega arith))
+returns c = found_at_most (c.wide.ensures ∙ (import_records c.requires.0 c.requires.1.0 c.requires.1.1 c.place-p.ensures).counted) (statement_list_few c.requires.0 _ _ 0 c.requires.1.0 c.requires.1.1 (omega arith))
 
-pub import-record-count-spec : {M : Type 1} → statement M
-import-record-count-spec =
+pub import_record_count_spec : {M : Type 1} → statement M
+import_record_count_spec =
     tie.close
-    (tie.spec place-requires add_wide mul_wide shared-slice-read-wide wide-requires returns)
+    (tie.spec
+    place-p-requires
+    overflow_add-p
+    offset_bounds-numbers-p
+    bounds-numbers-p
+    wide-requires
+    returns)

@@ -12,26 +12,32 @@ use Rattle.graph_access.proofs.statements.number_of.Statement.{statement}
 use Rattle.graph_access.proofs.statements.number_of.Tie as tie
 
 -- where those of its module begin
-first : (c : tie.After-section) → let s = c.before.before.before in get_or c.section.result.now s.args.m.0 0 ≡ first_of (modules_in s.args.numbers.now) s.args.m.0
-first c = let s = c.before.before.before in rw c.section.ensures (in_first s.requires.0 _ s.requires.1.0)
+first : (c : tie.After-section-firsts) → get_or c.section-firsts.result.now c.args.m.0 0 ≡ first_of (modules_in c.args.numbers.now) c.args.m.0
+first c = rw c.section-firsts.ensures (in_first c.requires.0 _ c.requires.1.0)
 
-section-requires : tie.Need-section-requires
-section-requires c κs = inside c.before.before.requires.0.laid 2 (omega arith)
+section-firsts-requires : tie.Need-section-firsts-requires
+section-firsts-requires c κs = inside c.requires.0.laid 2 (omega arith)
 
-mul-result : tie.Need-overflow-mul-result
-mul-result c = search rules
+offset_bounds-firsts-a : tie.Need-offset_bounds-firsts-a
+offset_bounds-firsts-a c = search rules
 
-shared-slice-read-result : tie.Need-shared-slice-read-result
-shared-slice-read-result c = let s = c.before.before.before.before in rw c.before.section.ensures (omega (arith, s.requires.0.of_statements.long, s.requires.1.0))
+bounds-firsts-a : tie.Need-bounds-firsts-a
+bounds-firsts-a c = rw c.section-firsts.ensures (omega (arith, c.requires.0.of_statements.long, c.requires.1.0))
 
-add-result : tie.Need-overflow-add-result
+overflow_add-result : tie.Need-overflow_add-result
 unfolding statement_list graph_in
-add-result c = let s = c.before.before.before.before.before in omega (arith, first c.before.before, number-below s.requires.0 _ s.requires.1.0 _ s.requires.1.1, s.requires.0.few_statements)
+overflow_add-result c = omega (arith, first c.before.before, number-below c.requires.0 _ c.requires.1.0 _ c.requires.1.1, c.requires.0.few_statements)
 
 returns : tie.Need-returns
 unfolding graph_in
-returns c = let s = c.before.before.before.before.before in ap (λ j. j + s.args.i.0) (first c.before.before)
+returns c = ap (λ j. j + c.args.i.0) (first c.before.before)
 
-pub number-of-spec : {M : Type 1} → statement M
-number-of-spec =
-    tie.close (tie.spec section-requires mul-result shared-slice-read-result add-result returns)
+pub number_of_spec : {M : Type 1} → statement M
+number_of_spec =
+    tie.close
+    (tie.spec
+    section-firsts-requires
+    offset_bounds-firsts-a
+    bounds-firsts-a
+    overflow_add-result
+    returns)

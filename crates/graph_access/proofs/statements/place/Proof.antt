@@ -11,48 +11,48 @@ use Rattle.graph_access.proofs.statements.place.Statement.{statement}
 use Rattle.graph_access.proofs.statements.place.Tie as tie
 
 -- the tables of the statements
-table : (c : tie.After-section2) → let s = c.before.before.before.before in StatementTable s.args.numbers.now c.before.section.result.now c.section2.result.now
-table c = let s = c.before.before.before.before in rw (c.before.section.ensures, c.section2.ensures) s.requires.0.of_statements
+table : (c : tie.After-section-places) → StatementTable c.args.numbers.now c.section-firsts.result.now c.section-places.result.now
+table c = rw (c.section-firsts.ensures, c.section-places.ensures) c.requires.0.of_statements
 
 -- its place is there
-here : (c : tie.After-section2) → let s = c.before.before.before.before in get_or c.before.section.result.now s.args.m.0 0 + s.args.i.0 < length c.section2.result.now
+here : (c : tie.After-section-places) → get_or c.section-firsts.result.now c.args.m.0 0 + c.args.i.0 < length c.section-places.result.now
 unfolding statement_list graph_in
-here c = let s = c.before.before.before.before in index-inside _ _ _ _ s.requires.0.of_modules (table c) _ s.requires.1.0 _ s.requires.1.1
+here c = index-inside _ _ _ _ c.requires.0.of_modules (table c) _ c.requires.1.0 _ c.requires.1.1
 
-section-requires : tie.Need-section-requires
-section-requires c κs = inside c.before.before.requires.0.laid 2 (omega arith)
+section-firsts-requires : tie.Need-section-firsts-requires
+section-firsts-requires c κs = inside c.requires.0.laid 2 (omega arith)
 
-section-requires-2 : tie.Need-section-requires-2
-section-requires-2 c κs = inside c.before.before.before.requires.0.laid 3 (omega arith)
+section-places-requires : tie.Need-section-places-requires
+section-places-requires c κs = inside c.requires.0.laid 3 (omega arith)
 
-mul-first : tie.Need-overflow-mul-first
-mul-first c = search rules
+offset_bounds-firsts-a : tie.Need-offset_bounds-firsts-a
+offset_bounds-firsts-a c = search rules
 
-shared-slice-read-first : tie.Need-shared-slice-read-first
-shared-slice-read-first c = let s = c.before.before.before.before.before in omega (arith, (table c.before).long, s.requires.1.0)
+bounds-firsts-a : tie.Need-bounds-firsts-a
+bounds-firsts-a c = omega (arith, (table c.before).long, c.requires.1.0)
 
-add-result : tie.Need-overflow-add-result
-add-result c = omega (arith, here c.before.before)
+overflow_add-result : tie.Need-overflow_add-result
+overflow_add-result c = omega (arith, here c.before.before)
 
-mul-result : tie.Need-overflow-mul-result
-mul-result c = omega (arith, here c.before.before)
+offset_bounds-places-first : tie.Need-offset_bounds-places-first
+offset_bounds-places-first c = omega (arith, here c.before.before)
 
-shared-slice-read-result : tie.Need-shared-slice-read-result
-shared-slice-read-result c = here c.before.before.before
+bounds-places-first : tie.Need-bounds-places-first
+bounds-places-first c = here c.before.before.before
 
 returns : tie.Need-returns
 unfolding statement_of statement_list graph_in
-returns c = let s = c.before.before.before.before.before.before.before in place-there _ _ _ _ s.requires.0.of_modules (table c.before.before.before) _ s.requires.1.0 _ s.requires.1.1
+returns c = place-there _ _ _ _ c.requires.0.of_modules (table c.before.before.before) _ c.requires.1.0 _ c.requires.1.1
 
-pub place-spec : {M : Type 1} → statement M
-place-spec =
+pub place_spec : {M : Type 1} → statement M
+place_spec =
     tie.close
     (tie.spec
-    section-requires
-    section-requires-2
-    mul-first
-    shared-slice-read-first
-    add-result
-    mul-result
-    shared-slice-read-result
+    section-firsts-requires
+    section-places-requires
+    offset_bounds-firsts-a
+    bounds-firsts-a
+    overflow_add-result
+    offset_bounds-places-first
+    bounds-places-first
     returns)

@@ -7,52 +7,52 @@ use borrow.Author.Rules.{rules}
 use Rattle.graph_access.proofs.statements.reference_count.Statement.{statement}
 use Rattle.graph_access.proofs.statements.reference_count.Tie as tie
 
-place-requires : tie.Need-place-requires
-place-requires c κs = search rules
+place-p-requires : tie.Need-place-p-requires
+place-p-requires c κs = search rules
 
-add_wide : tie.Need-overflow-add-wide
-add_wide c = let s = c.before.before.before in omega (arith, (import_records s.requires.0 s.requires.1.0 s.requires.1.1 c.place.ensures).inside)
+overflow_add-p : tie.Need-overflow_add-p
+overflow_add-p c = omega (arith, (import_records c.requires.0 c.requires.1.0 c.requires.1.1 c.place-p.ensures).inside)
 
-mul_wide : tie.Need-overflow-mul-wide
-mul_wide c = let s = c.before.before.before in omega (arith, (import_records s.requires.0 s.requires.1.0 s.requires.1.1 c.place.ensures).inside)
+offset_bounds-numbers-p : tie.Need-offset_bounds-numbers-p
+offset_bounds-numbers-p c = omega (arith, (import_records c.requires.0 c.requires.1.0 c.requires.1.1 c.place-p.ensures).inside)
 
-shared-slice-read-wide : tie.Need-shared-slice-read-wide
-shared-slice-read-wide c = let s = c.before.before.before.before in (import_records s.requires.0 s.requires.1.0 s.requires.1.1 c.before.place.ensures).inside
+bounds-numbers-p : tie.Need-bounds-numbers-p
+bounds-numbers-p c = (import_records c.requires.0 c.requires.1.0 c.requires.1.1 c.place-p.ensures).inside
+
+wide-imports-requires : tie.Need-wide-imports-requires
+wide-imports-requires c κs = search rules
+
+overflow_add-p-2 : tie.Need-overflow_add-p-2
+overflow_add-p-2 c = omega (arith, (references_behind c.requires.0 c.requires.1.0 c.requires.1.1 c.place-p.ensures c.wide-imports.ensures).inside)
+
+overflow_add-p-3 : tie.Need-overflow_add-p-3
+overflow_add-p-3 c = omega (arith, (references_behind c.requires.0 c.requires.1.0 c.requires.1.1 c.place-p.ensures c.wide-imports.ensures).inside)
+
+offset_bounds-numbers-p-2 : tie.Need-offset_bounds-numbers-p-2
+offset_bounds-numbers-p-2 c = omega (arith, (references_behind c.requires.0 c.requires.1.0 c.requires.1.1 c.place-p.ensures c.wide-imports.ensures).inside)
+
+bounds-numbers-p-2 : tie.Need-bounds-numbers-p-2
+bounds-numbers-p-2 c = (references_behind c.requires.0 c.requires.1.0 c.requires.1.1 c.place-p.ensures c.wide-imports.ensures).inside
 
 wide-requires : tie.Need-wide-requires
 wide-requires c κs = search rules
 
-add-wide-2 : tie.Need-overflow-add-wide-2
-add-wide-2 c = let s = c.before.before.before.before.before in omega (arith, (references_behind s.requires.0 s.requires.1.0 s.requires.1.1 c.before.before.place.ensures c.wide.ensures).inside)
-
-add-wide-3 : tie.Need-overflow-add-wide-3
-add-wide-3 c = let s = c.before.before.before.before.before in omega (arith, (references_behind s.requires.0 s.requires.1.0 s.requires.1.1 c.before.before.place.ensures c.wide.ensures).inside)
-
-mul-wide-2 : tie.Need-overflow-mul-wide-2
-mul-wide-2 c = let s = c.before.before.before.before.before in omega (arith, (references_behind s.requires.0 s.requires.1.0 s.requires.1.1 c.before.before.place.ensures c.wide.ensures).inside)
-
-shared-slice-read-wide-2 : tie.Need-shared-slice-read-wide-2
-shared-slice-read-wide-2 c = let s = c.before.before.before.before.before.before in (references_behind s.requires.0 s.requires.1.0 s.requires.1.1 c.before.before.before.place.ensures c.before.wide.ensures).inside
-
-wide-requires-2 : tie.Need-wide-requires-2
-wide-requires-2 c κs = search rules
-
 returns : tie.Need-returns
 unfolding references
-returns c = let s = c.before.before.before.before.before.before.before in found_at_most (c.wide2.ensures ∙ (references_behind s.requires.0 s.requires.1.0 s.requires.1.1 c.before.before.before.before.place.ensures c.before.before.wide.ensures).counted) (statement_list_few s.requires.0 _ _ 1 s.requires.1.0 s.requires.1.1 (omega arith))
+returns c = found_at_most (c.wide.ensures ∙ (references_behind c.requires.0 c.requires.1.0 c.requires.1.1 c.place-p.ensures c.wide-imports.ensures).counted) (statement_list_few c.requires.0 _ _ 1 c.requires.1.0 c.requires.1.1 (omega arith))
 
-pub reference-count-spec : {M : Type 1} → statement M
-reference-count-spec =
+pub reference_count_spec : {M : Type 1} → statement M
+reference_count_spec =
     tie.close
     (tie.spec
-    place-requires
-    add_wide
-    mul_wide
-    shared-slice-read-wide
+    place-p-requires
+    overflow_add-p
+    offset_bounds-numbers-p
+    bounds-numbers-p
+    wide-imports-requires
+    overflow_add-p-2
+    overflow_add-p-3
+    offset_bounds-numbers-p-2
+    bounds-numbers-p-2
     wide-requires
-    add-wide-2
-    add-wide-3
-    mul-wide-2
-    shared-slice-read-wide-2
-    wide-requires-2
     returns)

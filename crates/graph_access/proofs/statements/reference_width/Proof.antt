@@ -6,51 +6,51 @@ use borrow.Author.Rules.{rules}
 use Rattle.graph_access.proofs.statements.reference_width.Statement.{statement}
 use Rattle.graph_access.proofs.statements.reference_width.Tie as tie
 
-mul-kind : tie.Need-overflow-mul-kind
-mul-kind c = omega (arith, kind_inside _ _ c.before.requires)
+offset_bounds-numbers-p : tie.Need-offset_bounds-numbers-p
+offset_bounds-numbers-p c = omega (arith, kind_inside _ _ c.requires)
 
-shared-slice-read-kind : tie.Need-shared-slice-read-kind
-shared-slice-read-kind c = kind_inside _ _ c.before.before.requires
+bounds-numbers-p : tie.Need-bounds-numbers-p
+bounds-numbers-p c = kind_inside _ _ c.requires
 
-returns : tie.Need-returns
-returns c = sym (width_0 _ _ c.if1.true)
+returns-then-kind-eq0 : tie.Need-returns-then-kind-eq0
+returns-then-kind-eq0 c = sym (width_0 _ _ c.if-kind-eq0.true)
 
-returns-2 : tie.Need-returns-2
-returns-2 c = sym (width_1 _ _ c.if2.true)
+returns-then-kind-eq1 : tie.Need-returns-then-kind-eq1
+returns-then-kind-eq1 c = sym (width_1 _ _ c.if-kind-eq1.true)
 
-add_wide : tie.Need-overflow-add-wide
-add_wide c = omega (arith, count_inside _ _ c.before.before.before.before.before.requires c.if3.true)
+overflow_add-p : tie.Need-overflow_add-p
+overflow_add-p c = omega (arith, count_inside _ _ c.requires c.if-kind-eq2.true)
 
-mul_wide : tie.Need-overflow-mul-wide
-mul_wide c = omega (arith, count_inside _ _ c.before.before.before.before.before.requires c.if3.true)
+offset_bounds-numbers-p-then-kind-eq2 : tie.Need-offset_bounds-numbers-p-then-kind-eq2
+offset_bounds-numbers-p-then-kind-eq2 c = omega (arith, count_inside _ _ c.requires c.if-kind-eq2.true)
 
-shared-slice-read-wide : tie.Need-shared-slice-read-wide
-shared-slice-read-wide c = count_inside _ _ c.before.before.before.before.before.before.requires c.before.if3.true
+bounds-numbers-p-then-kind-eq2 : tie.Need-bounds-numbers-p-then-kind-eq2
+bounds-numbers-p-then-kind-eq2 c = count_inside _ _ c.requires c.if-kind-eq2.true
 
 wide-requires : tie.Need-wide-requires
 wide-requires c κs = search rules
 
-add-result : tie.Need-overflow-add-result
-add-result c = let s = c.before.before.before.before.before.before.before in omega (arith, c.wide.ensures, width_2 s.args.numbers.now s.args.p c.before.before.if3.true, s.requires)
+overflow_add-result : tie.Need-overflow_add-result
+overflow_add-result c = omega (arith, c.wide.ensures, width_2 c.args.numbers.now c.args.p c.if-kind-eq2.true, c.requires)
 
-returns-3 : tie.Need-returns-3
-returns-3 c = ap (λ x. 4 + x) c.wide.ensures ∙ sym (width_2 _ _ c.before.before.if3.true)
+returns-then-kind-eq2 : tie.Need-returns-then-kind-eq2
+returns-then-kind-eq2 c = ap (λ x. 4 + x) c.wide.ensures ∙ sym (width_2 _ _ c.if-kind-eq2.true)
 
-returns-4 : tie.Need-returns-4
-returns-4 c = sym (width_other _ _ c.before.before.if1.false c.before.if2.false c.if3.false)
+returns : tie.Need-returns
+returns c = sym (width_other _ _ c.if-kind-eq0.false c.if-kind-eq1.false c.if-kind-eq2.false)
 
-pub reference-width-spec : {M : Type 1} → statement M
-reference-width-spec =
+pub reference_width_spec : {M : Type 1} → statement M
+reference_width_spec =
     tie.close
     (tie.spec
-    mul-kind
-    shared-slice-read-kind
-    returns
-    returns-2
-    add_wide
-    mul_wide
-    shared-slice-read-wide
+    offset_bounds-numbers-p
+    bounds-numbers-p
+    returns-then-kind-eq0
+    returns-then-kind-eq1
+    overflow_add-p
+    offset_bounds-numbers-p-then-kind-eq2
+    bounds-numbers-p-then-kind-eq2
     wide-requires
-    add-result
-    returns-3
-    returns-4)
+    overflow_add-result
+    returns-then-kind-eq2
+    returns)

@@ -10,5 +10,9 @@ returns : tie.Need-returns
 unfolding alias_name
 returns c = c.number.ensures
 
-pub alias-name-spec : {M : Type 1} → statement M
-alias-name-spec = tie.close (tie.spec number-requires returns)
+pub alias_name_spec : {M : Type 1} → statement M
+alias_name_spec =
+    tie.close
+    (tie.spec
+    number-requires
+    returns)

@@ -9,7 +9,11 @@ number-requires c κs = search rules
 
 returns : tie.Need-returns
 unfolding alias_namespace
-returns c = let s = c.before.before.before in found_at_most c.number.ensures (alias_below s.requires.0 _ s.requires.1)
+returns c = found_at_most c.number.ensures (alias_below c.requires.0 _ c.requires.1)
 
-pub alias-namespace-spec : {M : Type 1} → statement M
-alias-namespace-spec = tie.close (tie.spec number-requires returns)
+pub alias_namespace_spec : {M : Type 1} → statement M
+alias_namespace_spec =
+    tie.close
+    (tie.spec
+    number-requires
+    returns)

@@ -10,5 +10,9 @@ returns : tie.Need-returns
 unfolding constant_bits
 returns c = c.number.ensures
 
-pub constant-bits-spec : {M : Type 1} → statement M
-constant-bits-spec = tie.close (tie.spec number-requires returns)
+pub constant_bits_spec : {M : Type 1} → statement M
+constant_bits_spec =
+    tie.close
+    (tie.spec
+    number-requires
+    returns)

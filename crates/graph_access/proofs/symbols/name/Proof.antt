@@ -10,5 +10,9 @@ returns : tie.Need-returns
 unfolding symbol_name
 returns c = c.number.ensures
 
-pub name-spec : {M : Type 1} → statement M
-name-spec = tie.close (tie.spec number-requires returns)
+pub name_spec : {M : Type 1} → statement M
+name_spec =
+    tie.close
+    (tie.spec
+    number-requires
+    returns)

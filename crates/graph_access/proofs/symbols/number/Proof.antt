@@ -6,14 +6,19 @@ use Rattle.graph_access.proofs.symbols.number.Statement.{statement}
 use Rattle.graph_access.proofs.symbols.number.Tie as tie
 
 section-requires : tie.Need-section-requires
-section-requires c κs = inside c.before.before.requires.0.laid 1 (omega arith)
+section-requires c κs = inside c.requires.0.laid 1 (omega arith)
 
-symbol-number-requires : tie.Need-symbol-number-requires
-symbol-number-requires c κs = let s = c.before.before.before in (rw c.section.ensures s.requires.0.of_symbols, s.requires.1)
+symbol_number-requires : tie.Need-symbol_number-requires
+symbol_number-requires c κs = (rw c.section.ensures c.requires.0.of_symbols, c.requires.1)
 
 returns : tie.Need-returns
 unfolding symbol_of graph_in
-returns c = c.symbol-number.ensures
+returns c = c.symbol_number.ensures
 
-pub number-spec : {M : Type 1} → statement M
-number-spec = tie.close (tie.spec section-requires symbol-number-requires returns)
+pub number_spec : {M : Type 1} → statement M
+number_spec =
+    tie.close
+    (tie.spec
+    section-requires
+    symbol_number-requires
+    returns)

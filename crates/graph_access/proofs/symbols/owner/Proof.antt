@@ -9,7 +9,11 @@ number-requires c κs = search rules
 
 returns : tie.Need-returns
 unfolding owner
-returns c = let s = c.before.before.before in found_below c.number.ensures (owner_below s.requires.0 _ s.requires.1)
+returns c = found_below c.number.ensures (owner_below c.requires.0 _ c.requires.1)
 
-pub owner-spec : {M : Type 1} → statement M
-owner-spec = tie.close (tie.spec number-requires returns)
+pub owner_spec : {M : Type 1} → statement M
+owner_spec =
+    tie.close
+    (tie.spec
+    number-requires
+    returns)

@@ -9,7 +9,11 @@ number-requires c κs = search rules
 
 returns : tie.Need-returns
 unfolding root_of symbol_of
-returns c = let s = c.before.before.before in found_below c.number.ensures (root_below s.requires.0 _ s.requires.1)
+returns c = found_below c.number.ensures (root_below c.requires.0 _ c.requires.1)
 
-pub root-spec : {M : Type 1} → statement M
-root-spec = tie.close (tie.spec number-requires returns)
+pub root_spec : {M : Type 1} → statement M
+root_spec =
+    tie.close
+    (tie.spec
+    number-requires
+    returns)

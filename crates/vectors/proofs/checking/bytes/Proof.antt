@@ -4,47 +4,47 @@ use borrow.Author.Rules.{rules}
 use Rattle.vectors.proofs.checking.bytes.Statement.{statement}
 use Rattle.vectors.proofs.checking.bytes.Tie as tie
 
-abbrev invariant-loop : tie.invariant-loop
-invariant-loop row₀ from digits at₀ i₀ row at i = i ≤ length digits
+abbrev invariant-loop-i : tie.invariant-loop-i
+invariant-loop-i row₀ from digits at₀ i₀ row at i = i ≤ length digits
 
-abbrev decreases-loop : tie.decreases-loop
-decreases-loop row₀ from digits at₀ i₀ row at i = length digits - i
+abbrev decreases-loop-i : tie.decreases-loop-i
+decreases-loop-i row₀ from digits at₀ i₀ row at i = length digits - i
 
-loop-holds : tie.Need-loop-init invariant-loop decreases-loop
-loop-holds c = search rules
+loop-i-init : tie.Need-loop-i-init invariant-loop-i decreases-loop-i
+loop-i-init c = search rules
 
-shared-slice-read-wide : tie.Need-shared-slice-read-wide invariant-loop decreases-loop
-shared-slice-read-wide c = search rules
+bounds-digits-i : tie.Need-bounds-digits-i invariant-loop-i decreases-loop-i
+bounds-digits-i c = search rules
 
-wide-requires : tie.Need-wide-requires invariant-loop decreases-loop
+wide-requires : tie.Need-wide-requires invariant-loop-i decreases-loop-i
 wide-requires c κs = search rules
 
-put-requires : tie.Need-put-requires invariant-loop decreases-loop
-put-requires c κs = search rules
+put-at-requires : tie.Need-put-at-requires invariant-loop-i decreases-loop-i
+put-at-requires c κs = search rules
 
-add-i : tie.Need-overflow-add-i invariant-loop decreases-loop
-add-i c = search rules
+overflow_add-i : tie.Need-overflow_add-i invariant-loop-i decreases-loop-i
+overflow_add-i c = search rules
 
-loop-less : tie.Need-loop-smaller invariant-loop decreases-loop
-loop-less c = search rules
+loop-i-smaller : tie.Need-loop-i-smaller invariant-loop-i decreases-loop-i
+loop-i-smaller c = search rules
 
-loop-again : tie.Need-loop-preserved invariant-loop decreases-loop
-loop-again c = search rules
+loop-i-preserved : tie.Need-loop-i-preserved invariant-loop-i decreases-loop-i
+loop-i-preserved c = search rules
 
-returns : tie.Need-returns invariant-loop decreases-loop
+returns : tie.Need-returns invariant-loop-i decreases-loop-i
 returns c = search rules
 
-pub bytes-spec : {M : Type 1} → statement M
-bytes-spec =
+pub bytes_spec : {M : Type 1} → statement M
+bytes_spec =
     tie.close
     (tie.spec
-    invariant-loop
-    decreases-loop
-    loop-holds
-    shared-slice-read-wide
+    invariant-loop-i
+    decreases-loop-i
+    loop-i-init
+    bounds-digits-i
     wide-requires
-    put-requires
-    add-i
-    loop-less
-    loop-again
+    put-at-requires
+    overflow_add-i
+    loop-i-smaller
+    loop-i-preserved
     returns)

@@ -7,21 +7,26 @@ use borrow.Author.Rules.{rules}
 use Rattle.vectors.proofs.checking.first_checked.Statement.{statement}
 use Rattle.vectors.proofs.checking.first_checked.Tie as tie
 
-slice-aggregate-checked : tie.Need-slice-aggregate-checked
-slice-aggregate-checked c =
-    let a = c.before.before.before.args in
+slice_bounds-checked-end : tie.Need-slice_bounds-checked-end
+slice_bounds-checked-end c =
+    let a = c.args in
     let fits : a.count ≤ length a.row.now = omega arith in
     sym (length-take-le a.count a.row.now fits)
 
 checked-requires : tie.Need-checked-requires
 checked-requires c κs = search rules
 
-returns : tie.Need-returns
-returns c = search rules
+returns-then-count-row : tie.Need-returns-then-count-row
+returns-then-count-row c = search rules
 
-returns-2 : tie.Need-returns-2
-returns-2 c = search rules
+returns-else-count-row : tie.Need-returns-else-count-row
+returns-else-count-row c = search rules
 
-pub first-checked-spec : {M : Type 1} → statement M
-first-checked-spec =
-    tie.close (tie.spec slice-aggregate-checked checked-requires returns returns-2)
+pub first_checked_spec : {M : Type 1} → statement M
+first_checked_spec =
+    tie.close
+    (tie.spec
+    slice_bounds-checked-end
+    checked-requires
+    returns-then-count-row
+    returns-else-count-row)

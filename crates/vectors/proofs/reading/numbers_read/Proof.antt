@@ -5,59 +5,55 @@ use borrow.Author.Rules.{rules}
 use Rattle.vectors.proofs.reading.numbers_read.Statement.{statement}
 use Rattle.vectors.proofs.reading.numbers_read.Tie as tie
 
-abbrev invariant-loop : tie.invariant-loop
-invariant-loop numbers n i₀ t4 i = (i ≤ length numbers) × (length t4 ≡ 1)
+abbrev invariant-loop-i : tie.invariant-loop-i
+invariant-loop-i numbers n i₀ t4 i = (i ≤ length numbers) × (length t4 ≡ 1)
 
-abbrev decreases-loop : tie.decreases-loop
-decreases-loop numbers n i₀ t4 i = length numbers - i
+abbrev decreases-loop-i : tie.decreases-loop-i
+decreases-loop-i numbers n i₀ t4 i = length numbers - i
 
-loop-holds : tie.Need-loop-init invariant-loop decreases-loop
-loop-holds c = search rules
+loop-i-init : tie.Need-loop-i-init invariant-loop-i decreases-loop-i
+loop-i-init c = search rules
 
-mul_wide : tie.Need-overflow-mul-wide invariant-loop decreases-loop
-mul_wide c = search rules
+offset_bounds-numbers-i : tie.Need-offset_bounds-numbers-i invariant-loop-i decreases-loop-i
+offset_bounds-numbers-i c = search rules
 
-shared-slice-read-wide : tie.Need-shared-slice-read-wide invariant-loop decreases-loop
-shared-slice-read-wide c = search rules
+bounds-numbers-i : tie.Need-bounds-numbers-i invariant-loop-i decreases-loop-i
+bounds-numbers-i c = search rules
 
-wide-requires : tie.Need-wide-requires invariant-loop decreases-loop
+wide-requires : tie.Need-wide-requires invariant-loop-i decreases-loop-i
 wide-requires c κs = search rules
 
-number-requires : tie.Need-number-requires invariant-loop decreases-loop
+number-requires : tie.Need-number-requires invariant-loop-i decreases-loop-i
 number-requires c κs = search rules
 
-add-i : tie.Need-overflow-add-i invariant-loop decreases-loop
-add-i c = search rules
+overflow_add-i : tie.Need-overflow_add-i invariant-loop-i decreases-loop-i
+overflow_add-i c = search rules
 
-loop-less : tie.Need-loop-smaller invariant-loop decreases-loop
-loop-less c = search rules
+loop-i-smaller : tie.Need-loop-i-smaller invariant-loop-i decreases-loop-i
+loop-i-smaller c = search rules
 
-loop-again : tie.Need-loop-preserved invariant-loop decreases-loop
-loop-again c = search rules
+loop-i-preserved : tie.Need-loop-i-preserved invariant-loop-i decreases-loop-i
+loop-i-preserved c = search rules
 
-slice-aggregate-word : tie.Need-slice-aggregate-word invariant-loop decreases-loop
-slice-aggregate-word c = search rules
-
-word-requires : tie.Need-word-requires invariant-loop decreases-loop
+word-requires : tie.Need-word-requires invariant-loop-i decreases-loop-i
 word-requires c κs = search rules
 
-returns : tie.Need-returns invariant-loop decreases-loop
+returns : tie.Need-returns invariant-loop-i decreases-loop-i
 returns c = search rules
 
-pub numbers-read-spec : {M : Type 1} → statement M
-numbers-read-spec =
+pub numbers_read_spec : {M : Type 1} → statement M
+numbers_read_spec =
     tie.close
     (tie.spec
-    invariant-loop
-    decreases-loop
-    loop-holds
-    mul_wide
-    shared-slice-read-wide
+    invariant-loop-i
+    decreases-loop-i
+    loop-i-init
+    offset_bounds-numbers-i
+    bounds-numbers-i
     wide-requires
     number-requires
-    add-i
-    loop-less
-    loop-again
-    slice-aggregate-word
+    overflow_add-i
+    loop-i-smaller
+    loop-i-preserved
     word-requires
     returns)

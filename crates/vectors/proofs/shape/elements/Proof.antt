@@ -3,51 +3,51 @@ use borrow.Author.Rules.{rules}
 use Rattle.vectors.proofs.shape.elements.Statement.{statement}
 use Rattle.vectors.proofs.shape.elements.Tie as tie
 
-abbrev invariant-loop : tie.invariant-loop
-invariant-loop row₀ from list count at₀ k₀ row at k = k ≤ count
+abbrev invariant-loop-k : tie.invariant-loop-k
+invariant-loop-k row₀ from list count at₀ k₀ row at k = k ≤ count
 
-abbrev decreases-loop : tie.decreases-loop
-decreases-loop row₀ from list count at₀ k₀ row at k = count - k
+abbrev decreases-loop-k : tie.decreases-loop-k
+decreases-loop-k row₀ from list count at₀ k₀ row at k = count - k
 
-loop-holds : tie.Need-loop-init invariant-loop decreases-loop
-loop-holds c = search rules
+loop-k-init : tie.Need-loop-k-init invariant-loop-k decreases-loop-k
+loop-k-init c = search rules
 
-first-requires : tie.Need-first-requires invariant-loop decreases-loop
+first-requires : tie.Need-first-requires invariant-loop-k decreases-loop-k
 first-requires c κs = search rules
 
-put-requires : tie.Need-put-requires invariant-loop decreases-loop
-put-requires c κs = search rules
+put-at-requires : tie.Need-put-at-requires invariant-loop-k decreases-loop-k
+put-at-requires c κs = search rules
 
-width-requires : tie.Need-width-requires invariant-loop decreases-loop
+width-requires : tie.Need-width-requires invariant-loop-k decreases-loop-k
 width-requires c κs = search rules
 
-zeros-requires : tie.Need-zeros-requires invariant-loop decreases-loop
-zeros-requires c κs = search rules
+zeros-at-requires : tie.Need-zeros-at-requires invariant-loop-k decreases-loop-k
+zeros-at-requires c κs = search rules
 
-add-k : tie.Need-overflow-add-k invariant-loop decreases-loop
-add-k c = search rules
+overflow_add-k : tie.Need-overflow_add-k invariant-loop-k decreases-loop-k
+overflow_add-k c = search rules
 
-loop-less : tie.Need-loop-smaller invariant-loop decreases-loop
-loop-less c = search rules
+loop-k-smaller : tie.Need-loop-k-smaller invariant-loop-k decreases-loop-k
+loop-k-smaller c = search rules
 
-loop-again : tie.Need-loop-preserved invariant-loop decreases-loop
-loop-again c = search rules
+loop-k-preserved : tie.Need-loop-k-preserved invariant-loop-k decreases-loop-k
+loop-k-preserved c = search rules
 
-returns : tie.Need-returns invariant-loop decreases-loop
+returns : tie.Need-returns invariant-loop-k decreases-loop-k
 returns c = search rules
 
-pub elements-spec : {M : Type 1} → statement M
-elements-spec =
+pub elements_spec : {M : Type 1} → statement M
+elements_spec =
     tie.close
     (tie.spec
-    invariant-loop
-    decreases-loop
-    loop-holds
+    invariant-loop-k
+    decreases-loop-k
+    loop-k-init
     first-requires
-    put-requires
+    put-at-requires
     width-requires
-    zeros-requires
-    add-k
-    loop-less
-    loop-again
+    zeros-at-requires
+    overflow_add-k
+    loop-k-smaller
+    loop-k-preserved
     returns)

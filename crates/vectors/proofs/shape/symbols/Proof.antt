@@ -3,31 +3,39 @@ use borrow.Author.Rules.{rules}
 use Rattle.vectors.proofs.shape.symbols.Statement.{statement}
 use Rattle.vectors.proofs.shape.symbols.Tie as tie
 
-abbrev invariant-loop : tie.invariant-loop
-invariant-loop row₀ from s at₀ x₀ row at x = x ≤ s.symbols
+abbrev invariant-loop-x : tie.invariant-loop-x
+invariant-loop-x row₀ from s at₀ x₀ row at x = x ≤ s.symbols
 
-abbrev decreases-loop : tie.decreases-loop
-decreases-loop row₀ from s at₀ x₀ row at x = s.symbols - x
+abbrev decreases-loop-x : tie.decreases-loop-x
+decreases-loop-x row₀ from s at₀ x₀ row at x = s.symbols - x
 
-loop-holds : tie.Need-loop-init invariant-loop decreases-loop
-loop-holds c = search rules
+loop-x-init : tie.Need-loop-x-init invariant-loop-x decreases-loop-x
+loop-x-init c = search rules
 
-symbol-requires : tie.Need-symbol-requires invariant-loop decreases-loop
-symbol-requires c κs = search rules
+symbol-at-requires : tie.Need-symbol-at-requires invariant-loop-x decreases-loop-x
+symbol-at-requires c κs = search rules
 
-add-x : tie.Need-overflow-add-x invariant-loop decreases-loop
-add-x c = search rules
+overflow_add-x : tie.Need-overflow_add-x invariant-loop-x decreases-loop-x
+overflow_add-x c = search rules
 
-loop-less : tie.Need-loop-smaller invariant-loop decreases-loop
-loop-less c = search rules
+loop-x-smaller : tie.Need-loop-x-smaller invariant-loop-x decreases-loop-x
+loop-x-smaller c = search rules
 
-loop-again : tie.Need-loop-preserved invariant-loop decreases-loop
-loop-again c = search rules
+loop-x-preserved : tie.Need-loop-x-preserved invariant-loop-x decreases-loop-x
+loop-x-preserved c = search rules
 
-returns : tie.Need-returns invariant-loop decreases-loop
+returns : tie.Need-returns invariant-loop-x decreases-loop-x
 returns c = search rules
 
-pub symbols-spec : {M : Type 1} → statement M
-symbols-spec =
+pub symbols_spec : {M : Type 1} → statement M
+symbols_spec =
     tie.close
-    (tie.spec invariant-loop decreases-loop loop-holds symbol-requires add-x loop-less loop-again returns)
+    (tie.spec
+    invariant-loop-x
+    decreases-loop-x
+    loop-x-init
+    symbol-at-requires
+    overflow_add-x
+    loop-x-smaller
+    loop-x-preserved
+    returns)
