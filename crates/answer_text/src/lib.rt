@@ -1,4 +1,5 @@
 // What the program prints for a file.
+#![tactic(auto)]
 ghost use Rattle.std.specs.Prelude.{◌≡◌, ℕ, ◌+◌, ◌*◌, ◌<◌, length};
 ghost use Rattle.leb128.specs.Read.{read_of};
 ghost use Rattle.determine_side_effects.specs.graph_crate.Check.{graph_in};

@@ -1,7 +1,7 @@
 -- Walks that stop at the first element that fails a test: what is left, from here, is the whole answer.
 use Prim.Native.Nat.{ℕ, ◌+◌, ◌*◌, ◌/◌, ◌<◌, ◌≤◌}
 use mathlib.Core.Path.{◌≡◌, refl, ap, ◌∙◌, sym}
-use mathlib.Core.Bool.{Bool, true, false, and_true}
+use mathlib.Core.Bool.{Bool, true, false, and-true}
 use mathlib.Core.List.{List, []}
 use native.Mathlib.Numerals.{add-one}
 use native.Mathlib.Omega.{arith}
@@ -137,7 +137,7 @@ forward_symbol numbers f h s is = rw is at h
 module _ (g : Graph) (v : List ℕ) (kept : Fact → Bool) (f : Fact) (r : Bool) where
   pub forward_closed : (s : SymbolIdx) → f ≡ Forward s → r ≡ are_declared g kept s.0 → r ≡ is_closed_fact g v kept f
   unfolding is_closed_fact is_closed_at gives segments_of given_by all
-  forward_closed s is e = rw is (e ∙ sym (and_true (are_declared g kept s.0)))
+  forward_closed s is e = rw is (e ∙ sym (and-true (are_declared g kept s.0)))
 
   pub bailout_closed : (m : ModuleIdx) → f ≡ Bailout m → true ≡ is_closed_fact g v kept f
   unfolding is_closed_fact is_closed_at gives segments_of given_by all

@@ -1,4 +1,5 @@
 // The row of dead import records: those that the tries of dynamic entries marked, or, with options bit 6, those that are dead after the last round.
+#![tactic(auto)]
 ghost use Rattle.std.specs.Prelude.{◌≡◌, ℕ, ◌+◌, ◌*◌, ◌<◌, ◌≤◌, ◌||◌, ◌&&◌, not, List, [], length, get_or};
 ghost use Rattle.bit_row.specs.Row.{bit_at, bytes_for};
 ghost use Rattle.determine_side_effects.specs.graph_tables_crate.Tables.{header_in};

@@ -1,4 +1,5 @@
 // Which modules have side effects (determine_side_effects.rs).
+#![tactic(auto)]
 ghost use Rattle.std.specs.Prelude.{◌≡◌, ℕ, ◌+◌, ◌-◌, ◌<◌, ◌≤◌, List, [], ◌∷◌, ◌++◌, Bool, true, false, length, get_or, drop};
 ghost use Rattle.facts.specs.tables_crate.Layout.{start_of, Laid, Kept, verdicts_in, FitsSize, at_verdicts, at_on_demand};
 ghost use Rattle.facts.specs.tables_crate.declared.Size.TheVariants.{Small, Middle, Large, Largest};

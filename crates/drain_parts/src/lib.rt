@@ -1,5 +1,6 @@
 // The drain's parts: whether it may begin, its work, and both in their order.
 // Whether it may begin is told from the lengths of the lent rows, without the rows. No answer row is written before the last refusal is excluded.
+#![tactic(auto)]
 ghost use Rattle.std.specs.Prelude.{◌≡◌, ℕ, ◌+◌, ◌*◌, ◌-◌, ◌/◌, ◌%◌, ◌<◌, ◌≤◌, Bool, true, false, List, [], ◌∷◌, length, get_or, replicate};
 ghost use Rattle.bit_row.specs.Row.{bytes_for};
 ghost use Rattle.determine_side_effects.specs.tables_crate.Layout.{start_of, all_sections};

@@ -1,4 +1,5 @@
 // The order in which entries are taken (dynamic_entries.rs, `sort_dynamic_entries_by_topological_order`).
+#![tactic(auto)]
 ghost use Rattle.std.specs.Prelude.{◌≡◌, ◌+◌, ◌*◌, ◌-◌, ◌<◌, ◌≤◌, Bool, ◌||◌, List, ◌++◌, eqb, length, get_or, take, drop};
 ghost use Rattle.determine_side_effects.specs.graph_tables_crate.Tables.{header_in};
 ghost use Rattle.determine_side_effects.specs.graph_crate.Check.{graph_in};

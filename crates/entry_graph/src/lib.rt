@@ -1,4 +1,5 @@
 // The graph by which dynamic entries are ordered (dynamic_entries.rs, `construct_dynamic_entry_graph`).
+#![tactic(auto)]
 ghost use Rattle.std.specs.Prelude.{◌≡◌, ℕ, ◌+◌, ◌*◌, ◌<◌, ◌≤◌, false, ◌||◌, List, [], eqb, length, get_or, take};
 ghost use Rattle.bit_row.specs.Row.{bit_at};
 ghost use Rattle.graph_access.specs.graph_tables_crate.Tables.{header_in};

@@ -1,4 +1,5 @@
 // Whether a dynamic entry is alive (dynamic_entries.rs, `is_dynamic_entry_alive`).
+#![tactic(auto)]
 ghost use Rattle.std.specs.Prelude.{◌≡◌, ℕ, ◌+◌, ◌*◌, ◌<◌, ◌≤◌, List, [], length, get_or};
 ghost use Rattle.determine_side_effects.specs.graph_tables_crate.Tables.{header_in};
 ghost use Rattle.determine_side_effects.specs.graph_crate.Check.{graph_in};

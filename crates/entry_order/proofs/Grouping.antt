@@ -4,7 +4,7 @@ use mathlib.Core.Path.{◌≡◌, refl, ap, ◌∙◌, sym}
 use mathlib.Core.Bool.{Bool, true, false, not, ◌||◌}
 use mathlib.Core.List.{List, [], ◌∷◌, ◌++◌}
 use native.Mathlib.Omega.{arith}
-use borrow.Author.Tests.{eqb-true, eqb-false, eq-eqb, ne_eqb, not_true, not-false}
+use borrow.Author.Tests.{eqb-true, eqb-false, eq-eqb, ne_eqb, not-true, not-false}
 use lib.Dec.{eqb}
 use lib.ListN.{length, get_or, take, drop, length-append}
 use lib.Seq.{length-take-le}
@@ -103,7 +103,7 @@ module _ (g : Graph) (list : List ℕ) (count : ℕ) (long : count ≤ length li
           ap (λ (p : ℕ). eqb p (i + 1)) (c.firsts u lu) ∙ (rw q at (place_first g list u i 0 count h (ap (λ (j : ℕ). module_of_entry g (get_or list j 0)) q ∙ sym is)))
 
       pub first-place : get_or chain u 0 ≡ i + 1 → elem u (keys g list 0 i) ≡ false
-      first-place e = not_true _ (sym told ∙ eq-eqb (get_or chain u 0) (i + 1) e)
+      first-place e = not-true _ (sym told ∙ eq-eqb (get_or chain u 0) (i + 1) e)
 
       pub later-place : (get_or chain u 0 ≡ i + 1 → ⊥) → elem u (keys g list 0 i) ≡ true
       later-place e = not-false _ (sym told ∙ ne_eqb (get_or chain u 0) (i + 1) e)

@@ -1,6 +1,7 @@
 // Parting and sorting the entries of a graph, with rows by its size.
 // Up to 128 modules there is room for all of them as successors of each. Above, there is room for 16 at first; where a module has more, the ordering
 // graph is built again with room for 1,024.
+#![tactic(auto)]
 ghost use Rattle.std.specs.Prelude.{◌≡◌, ℕ, ◌<◌, ◌≤◌, ◌&&◌, leb, length, get_or};
 ghost use Rattle.determine_side_effects.specs.graph_tables_crate.Tables.{header_in};
 ghost use Rattle.determine_side_effects.specs.graph_crate.Check.{graph_in};

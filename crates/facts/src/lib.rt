@@ -1,4 +1,5 @@
 // What can be kept: facts, their numbers and their marks.
+#![tactic(auto)]
 ghost use Rattle.std.specs.Prelude.{◌≡◌, ℕ, ◌+◌, ◌*◌, ◌<◌, ◌≤◌, length};
 ghost use Rattle.graph_access.specs.graph_tables_crate.Tables.{header_in};
 ghost use Rattle.graph_access.specs.graph_crate.Check.{graph_in};

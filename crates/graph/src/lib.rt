@@ -1,4 +1,5 @@
 // The check of a graph, and its tables.
+#![tactic(auto)]
 ghost use Rattle.std.specs.Prelude.{◌≡◌, ℕ, ◌+◌, ◌*◌, ◌<◌, ◌≤◌, List, [], ◌∷◌, Bool, true, false, length, get_or, drop};
 ghost use Rattle.graph_entries.specs.rows_crate.Walk.{walk_of, cells, no_item};
 ghost use Rattle.graph_entries.specs.graph_format_crate.Format.{header_rules};

@@ -1,4 +1,5 @@
 // Reading an accepted graph: each number by its name, through typed indexes.
+#![tactic(auto)]
 
 // The crates below, for the crates above, which list this one alone.
 pub use graph as graph_crate;

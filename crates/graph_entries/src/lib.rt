@@ -1,4 +1,5 @@
 // The entries of a graph and their related statements, and the table of the entries' places.
+#![tactic(auto)]
 ghost use Rattle.std.specs.Prelude.{◌≡◌, ℕ, ◌+◌, ◌*◌, ◌<◌, ◌≤◌, List, [], ◌∷◌, length, get_or};
 ghost use Rattle.graph_tables.specs.rows_crate.Walk.{walk_of, many, list, firsts, no_item};
 ghost use Rattle.graph_tables.specs.graph_format_crate.Format.{import_records_of, related_module_at, related_import_record_at, related_at, entry_at, entries_at};

@@ -1,4 +1,5 @@
 // The parts of a graph, each read from the left, and the tables of their places.
+#![tactic(auto)]
 ghost use Rattle.std.specs.Prelude.{◌≡◌, ℕ, ◌+◌, ◌*◌, ◌<◌, ◌≤◌, List, [], ◌∷◌, length, get_or, drop};
 ghost use Rattle.tables.specs.rows_crate.Walk.{walk_of, many, no_item};
 ghost use Rattle.tables.specs.graph_format_crate.Format.{modules_at, import_records_of, symbol_at, symbols_at, statement_at, statements_at, following};

@@ -1,4 +1,5 @@
 // The C boundary. Slices are a pointer and then a length; nothing is asked of the caller.
+#![tactic(auto)]
 ghost use Rattle.std.specs.Prelude.{◌≡◌};
 ghost use Rattle.determine_side_effects.specs.graph_crate.Check.{check_of, answer_of};
 ghost use Rattle.drain_parts.specs.Operation.{rows as rows_of};

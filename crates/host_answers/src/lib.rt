@@ -1,1 +1,2 @@
 // No code: what follows from an answer at the C boundary that is not refused.
+#![tactic(auto)]

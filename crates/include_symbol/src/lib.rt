@@ -1,4 +1,5 @@
 // K9 to K14: what follows from a use, checked or not (include_symbol of include_statements.rs).
+#![tactic(auto)]
 ghost use Rattle.std.specs.Prelude.{◌≡◌, ◌<◌, ◌≤◌, get_or};
 ghost use Rattle.determine_side_effects.specs.graph_tables_crate.Tables.{header_in, symbols_in};
 ghost use Rattle.determine_side_effects.specs.graph_crate.Check.{graph_in};

@@ -1,4 +1,5 @@
 // The judge of a keep record: a graph, starts and a record in; passed, or the first refusal. Here is which tables it takes.
+#![tactic(auto)]
 ghost use Rattle.std.specs.Prelude.{◌≡◌};
 ghost use Rattle.graph.specs.tables_crate.Layout.{FitsSize};
 ghost use Rattle.graph.specs.tables_crate.declared.Size.TheVariants.{Small, Middle, Large, Largest};

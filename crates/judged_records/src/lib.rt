@@ -1,1 +1,2 @@
 // No code: what the judge passes, and that it passes what drains and runs write.
+#![tactic(auto)]

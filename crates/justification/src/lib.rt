@@ -1,4 +1,5 @@
 // Whether a fact follows from others by a rule: the search of one rule's candidates, for the judge.
+#![tactic(auto)]
 ghost use Rattle.std.specs.Prelude.{◌≡◌, ℕ, ◌+◌, ◌<◌, ◌≤◌, length};
 ghost use Rattle.determine_side_effects.specs.graph_tables_crate.Tables.{header_in};
 ghost use Rattle.determine_side_effects.specs.graph_crate.Check.{graph_in};

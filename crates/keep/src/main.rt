@@ -1,6 +1,7 @@
 // The program `keep`: reads a graph file from standard input and prints what its run keeps, or the refusal (docs/OPERATIONS.md, Program keep).
 // No contract can say what C's `read` and `write` move. What a contract can say stands in functions that `main` and `print` call: how much of the
 // buffers counts as read, and what is handed to `write` each time.
+#![tactic(auto)]
 ghost use Rattle.std.specs.Prelude.{length, ◌++◌};
 ghost use Rattle.answer_text.specs.Program.{file_text};
 ghost use Rattle.keep.specs.Input.{FilledUpTo, ReadInto, IsFile};

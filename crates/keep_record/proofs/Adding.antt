@@ -2,7 +2,7 @@
 -- Over a base of lines of an earlier stage: a fact gets one line in a stage, and no line is changed.
 use Prim.Native.Nat.{ℕ, zero, suc, ◌-◌, ◌<◌, ◌≤◌}
 use mathlib.Core.Path.{◌≡◌, refl, ap, ◌∙◌, sym}
-use mathlib.Core.Bool.{Bool, true, false, ◌||◌, or_true, or_assoc}
+use mathlib.Core.Bool.{Bool, true, false, ◌||◌, or-true, or_assoc}
 use mathlib.Core.List.{List, [], ◌∷◌, ◌++◌, append-nil, append_assoc}
 use native.Mathlib.Omega.{arith}
 use borrow.Author.Tests.{eq-eqb, eqb-false, ne_eqb}
@@ -25,7 +25,7 @@ pub elem_at : (xs : List ℕ) (k : ℕ) → k < length xs → elem (get_or xs k 
 unfolding elem
 elem_at [] k h = absurd (omega arith)
 elem_at (x ∷ xs) zero h = rw (eq-eqb x x refl)
-elem_at (x ∷ xs) (suc k) h = ap (λ b. eqb (get_or xs k 0) x || b) (elem_at xs k (omega arith)) ∙ or_true (eqb (get_or xs k 0) x)
+elem_at (x ∷ xs) (suc k) h = ap (λ b. eqb (get_or xs k 0) x || b) (elem_at xs k (omega arith)) ∙ or-true (eqb (get_or xs k 0) x)
 
 marks-append : (g : Graph) (xs ys : List Line) → marks_of g (xs ++ ys) ≡ marks_of g xs ++ marks_of g ys
 unfolding marks_of

@@ -2,7 +2,7 @@
 -- So beyond the base there are no more lines than marks (`lines_few`).
 use Prim.Native.Nat.{ℕ, zero, suc, ◌+◌, ◌<◌, ◌≤◌}
 use mathlib.Core.Path.{◌≡◌, refl, ap, ◌∙◌, sym}
-use mathlib.Core.Bool.{Bool, true, false, ◌||◌, or_true, true≢false}
+use mathlib.Core.Bool.{Bool, true, false, ◌||◌, or-true, true≢false}
 use mathlib.Core.List.{List, [], ◌∷◌}
 use native.Mathlib.Decide.{ℕ_discrete}
 use native.Mathlib.Omega.{arith}
@@ -33,7 +33,7 @@ module _ (g : Graph) (d : Line) where
       m = mark_of g (get_or ls k d).fact
 
       go : (b : Bool) → stays l.fact ≡ b → elem m (marks_from g base ls) ≡ true → elem m (marks_from g (suc base) (l ∷ ls)) ≡ true
-      go true e r = rw (from_stays g base l ls e) (ap (λ b. eqb m (mark_of g l.fact) || b) r ∙ or_true (eqb m (mark_of g l.fact)))
+      go true e r = rw (from_stays g base l ls e) (ap (λ b. eqb m (mark_of g l.fact) || b) r ∙ or-true (eqb m (mark_of g l.fact)))
       go false e r = rw (from_goes g base l ls e) r
 
   later_distinct : (base : ℕ) (l : Line) (ls : List Line) → Distinct (marks_from g (suc base) (l ∷ ls)) → Distinct (marks_from g base ls)

@@ -1,4 +1,5 @@
 // CommonJS namespaces by symbol, and where a symbol leads (linking_metadata.rs).
+#![tactic(auto)]
 ghost use Rattle.std.specs.Prelude.{◌≡◌, ℕ, ◌+◌, ◌-◌, ◌<◌, ◌≤◌, Bool, length, get_or};
 ghost use Rattle.graph_access.specs.tables_crate.Layout.{start_of, Laid, Kept, namespaces_in, at_namespaces, all_sections};
 ghost use Rattle.graph_access.specs.graph_tables_crate.Tables.{header_in};

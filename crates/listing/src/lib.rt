@@ -1,5 +1,6 @@
 // What the program `keep` prints: lines of a word and numbers. A row that is shorter than the text holds a window on it: its part behind the
 // first `skip` bytes.
+#![tactic(auto)]
 ghost use Rattle.std.specs.Prelude.{◌≡◌, ℕ, ◌+◌, ◌*◌, ◌<◌, ◌≤◌, Bool, true, false, ◌&&◌, List, [], ◌∷◌, ◌++◌, eqb, length, get_or};
 ghost use Rattle.bit_row.specs.Row.{bit_at};
 ghost use Rattle.graph_access.specs.graph_tables_crate.Tables.{header_in};

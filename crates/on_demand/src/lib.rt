@@ -1,4 +1,5 @@
 // Bodies whose side effects are included on demand (on_demand.rs).
+#![tactic(auto)]
 ghost use Rattle.std.specs.Prelude.{◌≡◌, ℕ, ◌+◌, ◌-◌, ◌<◌, ◌≤◌, Bool, true, false, length, get_or};
 ghost use Rattle.determine_side_effects.specs.tables_crate.Layout.{start_of, Laid, Kept, on_demand_in, bodies_in, at_on_demand, at_bodies, all_sections};
 ghost use Rattle.determine_side_effects.specs.graph_tables_crate.Tables.{header_in};

@@ -1,5 +1,6 @@
 // A run's own starts, noted as triples, each once: what entries and bailouts start, beside `entry_starts` and `passes`, which start it. They are worked
 // out by kind from what the main part of a run leaves.
+#![tactic(auto)]
 ghost use Rattle.std.specs.Prelude.{◌≡◌, ℕ, ◌+◌, ◌*◌, ◌<◌, ◌≤◌, List, [], ◌∷◌, length};
 ghost use Rattle.facts.specs.graph_tables_crate.Tables.{header_in};
 ghost use Rattle.facts.specs.graph_crate.Check.{graph_in};

@@ -1,7 +1,7 @@
 -- Which helpers a module needs, and which all kept modules need.
 use Prim.Native.Nat.{ℕ, ◌+◌, ◌-◌, ◌<◌, ◌≤◌}
 use mathlib.Core.Path.{◌≡◌, refl, ap, ◌∙◌, sym}
-use mathlib.Core.Bool.{Bool, true, false, not, ◌||◌, ◌&&◌, and_false, or_true}
+use mathlib.Core.Bool.{Bool, true, false, not, ◌||◌, ◌&&◌, and_false, or-true}
 use mathlib.Core.List.{List, []}
 use native.Mathlib.Omega.{arith}
 use borrow.Author.Tests.{eq-eqb, ne_eqb}
@@ -66,7 +66,7 @@ module _ (g : Graph) (kept : Fact → Bool) (m h n : ℕ) (size : n ≡ length (
 
         pub needing-all : has_all g kept m ≡ true → true ≡ needs_helper g kept m h
         unfolding row_needs
-        needing-all a = here (rw (of-helper, a, row_needs) (or_true (kept (statement_fact m (helper_statement (get_or (module_helpers (module_of g m)) k []))))))
+        needing-all a = here (rw (of-helper, a, row_needs) (or-true (kept (statement_fact m (helper_statement (get_or (module_helpers (module_of g m)) k []))))))
 
         module _ (i : ℕ) (its : i ≡ helper_statement (get_or (module_helpers (module_of g m)) k [])) (b : Bool) (say : b ≡ kept (statement_fact m i)) where
           says : kept (statement_fact m (helper_statement (get_or (module_helpers (module_of g m)) k []))) ≡ b

@@ -4,7 +4,7 @@ use mathlib.Core.Path.{◌≡◌, refl}
 use mathlib.Core.Logic.{inl, inr}
 use mathlib.Core.Bool.{Bool, true, false}
 use mathlib.Core.List.{List, [], ◌∷◌}
-use borrow.Author.Tests.{not_true}
+use borrow.Author.Tests.{not-true}
 use Rattle.determine_side_effects.specs.graph_crate.Check.{Graph}
 use Rattle.determine_side_effects.specs.facts_crate.declared.Fact.{Fact}
 use Rattle.determine_side_effects.specs.facts_crate.declared.Fact.TheVariants.{Module, Statement, Use, CheckedUse, Forward, Bailout}
@@ -46,7 +46,7 @@ module _ (g : Graph) (v : List ℕ) where
   module _ {r : ℕ} {e : Fact} where
     in-module : (m : ℕ) → Sweeps g v m → Offered r e (module_segments g v m) → Listed r e (gives g v (module_fact m))
     unfolding gives segments_of
-    in-module m s o = let q : quiet_runtime g v m ≡ false = not_true (quiet_runtime g v m) ((of_module.says_no_quiet_runtime g v m).holds s.no_quiet_runtime) in offered_given (segments_of g v (module_fact m)) (rw (q, segments_of) o)
+    in-module m s o = let q : quiet_runtime g v m ≡ false = not-true (quiet_runtime g v m) ((of_module.says_no_quiet_runtime g v m).holds s.no_quiet_runtime) in offered_given (segments_of g v (module_fact m)) (rw (q, segments_of) o)
 
     in-statement : (m i : ℕ) → Offered r e (statement_segments g v m i) → Listed r e (gives g v (statement_fact m i))
     unfolding gives segments_of

@@ -1,1 +1,2 @@
 // No code: the keep rules as a relation, and that the list of consequences is that relation.
+#![tactic(auto)]

@@ -1,4 +1,5 @@
 // The run: a graph and lent rows in; a keep record and the answer rows out. Here is which tables it takes, and the run with the small ones.
+#![tactic(auto)]
 ghost use Rattle.std.specs.Prelude.{◌≡◌};
 ghost use Rattle.graph.specs.tables_crate.Layout.{FitsSize};
 ghost use Rattle.graph.specs.tables_crate.declared.Size.TheVariants.{Small};

@@ -1,5 +1,6 @@
 // The run's parts: whether it may begin, its work, what only a run shows, and all in their order.
 // Whether it may begin is told from the lengths of the lent rows, without the rows. No answer row is written before the last refusal is excluded.
+#![tactic(auto)]
 ghost use Rattle.std.specs.Prelude.{◌≡◌, ℕ, ◌-◌, ◌<◌, ◌≤◌, length, get_or};
 ghost use Rattle.bit_row.specs.Row.{bytes_for};
 ghost use Rattle.determine_side_effects.specs.tables_crate.Layout.{start_of, all_sections};

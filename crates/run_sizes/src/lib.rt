@@ -1,4 +1,5 @@
 // The run with tables for graphs of middle and large size and for the largest, in frames of their own (docs/DECISIONS.md, "Frames of their own").
+#![tactic(auto)]
 ghost use Rattle.std.specs.Prelude.{◌≡◌};
 ghost use Rattle.graph.specs.tables_crate.Layout.{FitsSize};
 ghost use Rattle.graph.specs.tables_crate.declared.Size.TheVariants.{Middle, Large, Largest};

@@ -1,5 +1,6 @@
 // A run's own starts: a graph and lent rows in; the starts as triples, each once, out.
 // They cannot be read from the record: a start that was a fact already has no line of its own. They are worked out from what the main part leaves.
+#![tactic(auto)]
 ghost use Rattle.std.specs.Prelude.{◌≡◌, ℕ, ◌+◌, ◌*◌, ◌<◌, ◌≤◌, false, length, get_or};
 ghost use Rattle.bit_row.specs.Row.{bytes_for, bit_at};
 ghost use Rattle.facts.specs.tables_crate.Layout.{start_of, FitsSize, all_sections};

@@ -4,7 +4,7 @@ use mathlib.Core.Path.{◌≡◌, refl, ap, ◌∙◌, sym, subst}
 use mathlib.Core.Logic.{◌⊎◌, inl, inr}
 use mathlib.Core.Bool.{true, false, not}
 use mathlib.Core.List.{List}
-use borrow.Author.Tests.{lt-ltb, not_true, not-false}
+use borrow.Author.Tests.{lt-ltb, not-true, not-false}
 use Rattle.graph_access.specs.graph_crate.declared.Checked.TheVariants.{Accepted}
 use Rattle.graph_access.specs.graph_crate.Check.{Graph, graph_in, check_of, answer_of}
 use Rattle.graph_access.specs.graph_crate.Loaded.{Loaded}
@@ -84,7 +84,7 @@ module _ {numbers tables : List ℕ} (t : Loaded numbers tables) (sccs : List (L
     where
       to : (on_cycle g m ≡ true) ⊎ (not (elem m nodes) ≡ true) → OnCycle succs m ⊎ (elem m nodes ≡ false)
       to (inl c) = inl ((on_cycle_is t m).0 c)
-      to (inr o) = inr (not_true (elem m nodes) o)
+      to (inr o) = inr (not-true (elem m nodes) o)
 
   inside : (m : ℕ) → goes_first g m ≡ false → (on_cycle g m ≡ false) × (elem m (completion g) ≡ true)
   unfolding goes_first

@@ -1,6 +1,6 @@
 -- The Rust's helper words and their union are the project's, where context and facts agree on modules and statements.
 use Rattle.std.proofs.Common.{◌≡◌, ℕ, zero, suc, ◌+◌, ◌%◌, ◌^◌, ◌<◌, Bool, true, false, not, ◌&&◌, ◌||◌, eqb, List, [], ◌∷◌, length, get_or, sym, refl, ap, ◌∙◌, arith, eq-eqb}
-use mathlib.Core.Bool.{and_false, or_true, false≢true}
+use mathlib.Core.Bool.{and_false, or-true, false≢true}
 use native.Mathlib.Nat.{zero-div}
 use Rattle.determine_side_effects.specs.rows_crate.Walk.{no_item}
 use Rattle.determine_side_effects.specs.graph_format_crate.Format.{module_rules, statement_limit}
@@ -81,7 +81,7 @@ of_rows n k all (row ∷ rows) = go (n row) refl (k row) refl all refl (of_rows 
     go true u true v c w r =
         ap whole (filter_here n row rows u) ∙ ap (λ b. b || all) (some_first k row (filter n rows) v) ∙ sym (some_first each row rows (is-each true true u v))
     go true u false v true w r =
-        ap whole (filter_here n row rows u) ∙ ap (λ b. some k (row ∷ filter n rows) || b) w ∙ or_true (some k (row ∷ filter n rows))
+        ap whole (filter_here n row rows u) ∙ ap (λ b. some k (row ∷ filter n rows) || b) w ∙ or-true (some k (row ∷ filter n rows))
         ∙ sym (some_first each row rows (is-each true false u v ∙ w))
     go true u false v false w r =
         ap whole (filter_here n row rows u) ∙ one (row ∷ filter n rows) w ∙ some_later k row (filter n rows) v ∙ sym (one (filter n rows) w) ∙ r

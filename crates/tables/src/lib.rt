@@ -1,4 +1,5 @@
 // All tables of a graph in one slice: where each section begins, and which size of slice a graph needs.
+#![tactic(auto)]
 ghost use Rattle.std.specs.Prelude.{◌≡◌, ℕ, ◌+◌, ◌<◌, ◌≤◌, Bool, true, false, length, get_or};
 ghost use Rattle.tables.specs.Layout.{start_of, section as section_of, Inside, Kept, Counts, FitsSize};
 

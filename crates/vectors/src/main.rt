@@ -1,4 +1,5 @@
 // Vectors from outside, replayed: a line for each, its name and then the answer.
+#![tactic(auto)]
 mod checking;
 mod limits;
 mod reading;

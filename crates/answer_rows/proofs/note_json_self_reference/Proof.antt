@@ -1,6 +1,6 @@
 use Rattle.answer_rows.proofs.OfUses.{json_none, json_strange, json_typed, json_self, json_this}
 use Rattle.answer_rows.proofs.Listed.{set-none, set-one}
-use borrow.Author.Tests.{not_true, not-false, eq-eqb, ne_eqb}
+use borrow.Author.Tests.{not-true, not-false, eq-eqb, ne_eqb}
 use lib.Dec.{eqb}
 use native.Mathlib.Omega.{arith}
 use mathlib.Core.Path.{refl, ap, ◌∙◌, sym}
@@ -23,19 +23,19 @@ is_normal-requires : tie.Need-is_normal-requires
 is_normal-requires c κs = (c.requires.0.loaded, c.owner-owner.ensures.1)
 
 returns-then-not-is_normal : tie.Need-returns-then-not-is_normal
-returns-then-not-is_normal c = λ j. set-none j _ _ (json_strange _ _ _ _ _ c.target_of-t.ensures.0 c.owner-owner.ensures.0 (sym c.is_normal.ensures ∙ not_true _ c.if-not-is_normal.true) (sym c.is_bypassed_inlined_constant.ensures ∙ c.if-is_bypassed_inlined_constant.false))
+returns-then-not-is_normal c = λ j. set-none j _ _ (json_strange _ _ _ _ _ c.target_of-t.ensures.0 c.owner-owner.ensures.0 (sym c.is_normal.ensures ∙ c.if-not-is_normal.true) (sym c.is_bypassed_inlined_constant.ensures ∙ c.if-is_bypassed_inlined_constant.false))
 
 module_type-requires : tie.Need-module_type-requires
 module_type-requires c κs = (c.requires.0.loaded, c.owner-owner.ensures.1)
 
 returns-then-module_type-ne2 : tie.Need-returns-then-module_type-ne2
-returns-then-module_type-ne2 c = λ j. set-none j _ _ (json_typed _ _ _ _ _ c.target_of-t.ensures.0 c.owner-owner.ensures.0 (ap (λ n. eqb n 2) (sym c.module_type.ensures) ∙ ne_eqb _ 2 c.if-module_type-ne2.true) (sym c.is_normal.ensures ∙ not-false _ c.if-not-is_normal.false) (sym c.is_bypassed_inlined_constant.ensures ∙ c.if-is_bypassed_inlined_constant.false))
+returns-then-module_type-ne2 c = λ j. set-none j _ _ (json_typed _ _ _ _ _ c.target_of-t.ensures.0 c.owner-owner.ensures.0 (ap (λ n. eqb n 2) (sym c.module_type.ensures) ∙ ne_eqb _ 2 c.if-module_type-ne2.true) (sym c.is_normal.ensures ∙ c.if-not-is_normal.false) (sym c.is_bypassed_inlined_constant.ensures ∙ c.if-is_bypassed_inlined_constant.false))
 
 flag-requires : tie.Need-flag-requires
 flag-requires c κs = omega arith
 
 returns-then-flag : tie.Need-returns-then-flag
-returns-then-flag c = λ j. set-none j _ _ (json_self _ _ _ _ _ c.target_of-t.ensures.0 c.owner-owner.ensures.0 (sym c.flag.ensures ∙ c.if-flag.true) (ap (λ n. eqb n 2) (sym c.module_type.ensures) ∙ eq-eqb _ 2 c.if-module_type-ne2.false) (sym c.is_normal.ensures ∙ not-false _ c.if-not-is_normal.false) (sym c.is_bypassed_inlined_constant.ensures ∙ c.if-is_bypassed_inlined_constant.false))
+returns-then-flag c = λ j. set-none j _ _ (json_self _ _ _ _ _ c.target_of-t.ensures.0 c.owner-owner.ensures.0 (sym c.flag.ensures ∙ c.if-flag.true) (ap (λ n. eqb n 2) (sym c.module_type.ensures) ∙ eq-eqb _ 2 c.if-module_type-ne2.false) (sym c.is_normal.ensures ∙ c.if-not-is_normal.false) (sym c.is_bypassed_inlined_constant.ensures ∙ c.if-is_bypassed_inlined_constant.false))
 
 set-requires : tie.Need-set-requires
 set-requires c κs = omega (arith, c.target_of-t.ensures.1, c.requires.1.1)
@@ -44,7 +44,7 @@ shape_of-bits : tie.Need-shape_of-bits
 shape_of-bits c = c.set.auto.0
 
 returns : tie.Need-returns
-returns c = λ j. set-one j _ _ _ _ _ (json_this _ _ _ _ _ c.target_of-t.ensures.0 c.owner-owner.ensures.0 (sym c.flag.ensures ∙ c.if-flag.false) (ap (λ n. eqb n 2) (sym c.module_type.ensures) ∙ eq-eqb _ 2 c.if-module_type-ne2.false) (sym c.is_normal.ensures ∙ not-false _ c.if-not-is_normal.false) (sym c.is_bypassed_inlined_constant.ensures ∙ c.if-is_bypassed_inlined_constant.false)) refl (c.set.ensures j)
+returns c = λ j. set-one j _ _ _ _ _ (json_this _ _ _ _ _ c.target_of-t.ensures.0 c.owner-owner.ensures.0 (sym c.flag.ensures ∙ c.if-flag.false) (ap (λ n. eqb n 2) (sym c.module_type.ensures) ∙ eq-eqb _ 2 c.if-module_type-ne2.false) (sym c.is_normal.ensures ∙ c.if-not-is_normal.false) (sym c.is_bypassed_inlined_constant.ensures ∙ c.if-is_bypassed_inlined_constant.false)) refl (c.set.ensures j)
 
 pub note_json_self_reference_spec : {M : Type 1} → statement M
 note_json_self_reference_spec =

@@ -1,6 +1,6 @@
 use Rattle.answer_rows.proofs.OfUses.{reason_none, reason_other, reason_first, reason_second, reason_third, reason_no}
 use Rattle.answer_rows.proofs.Listed.{set-none, set-one}
-use borrow.Author.Tests.{not_true, not-false}
+use borrow.Author.Tests.{not-true, not-false}
 use native.Mathlib.Omega.{arith}
 use mathlib.Core.Path.{refl, ◌∙◌, sym}
 use Rattle.answer_rows.proofs.note_namespace_inclusion_reason.Statement.{statement}
@@ -19,7 +19,7 @@ is_namespace-requires : tie.Need-is_namespace-requires
 is_namespace-requires c κs = (c.requires.0.loaded, c.target_of-t.ensures.1)
 
 returns-then-not-is_namespace : tie.Need-returns-then-not-is_namespace
-returns-then-not-is_namespace c = λ j. set-none j _ _ (reason_other _ _ _ _ c.target_of-t.ensures.0 (sym c.is_namespace.ensures ∙ not_true _ c.if-not-is_namespace.true) (sym c.is_bypassed_inlined_constant.ensures ∙ c.if-is_bypassed_inlined_constant.false))
+returns-then-not-is_namespace c = λ j. set-none j _ _ (reason_other _ _ _ _ c.target_of-t.ensures.0 (sym c.is_namespace.ensures ∙ c.if-not-is_namespace.true) (sym c.is_bypassed_inlined_constant.ensures ∙ c.if-is_bypassed_inlined_constant.false))
 
 owner-owner-requires : tie.Need-owner-owner-requires
 owner-owner-requires c κs = (c.requires.0.loaded, c.target_of-t.ensures.1)
@@ -37,7 +37,7 @@ shape_of-bits-then-flag : tie.Need-shape_of-bits-then-flag
 shape_of-bits-then-flag c = c.set.auto.0
 
 returns-then-flag : tie.Need-returns-then-flag
-returns-then-flag c = λ j. set-one j _ _ _ _ _ (reason_first _ _ _ _ _ c.target_of-t.ensures.0 c.owner-owner.ensures.0 (sym c.flag.ensures ∙ c.if-flag.true) (sym c.is_namespace.ensures ∙ not-false _ c.if-not-is_namespace.false) (sym c.is_bypassed_inlined_constant.ensures ∙ c.if-is_bypassed_inlined_constant.false)) refl (c.set.ensures j)
+returns-then-flag c = λ j. set-one j _ _ _ _ _ (reason_first _ _ _ _ _ c.target_of-t.ensures.0 c.owner-owner.ensures.0 (sym c.flag.ensures ∙ c.if-flag.true) (sym c.is_namespace.ensures ∙ c.if-not-is_namespace.false) (sym c.is_bypassed_inlined_constant.ensures ∙ c.if-is_bypassed_inlined_constant.false)) refl (c.set.ensures j)
 
 flag-requires-2 : tie.Need-flag-requires-2
 flag-requires-2 c κs = omega arith
@@ -52,7 +52,7 @@ shape_of-bits-then-flag-2 : tie.Need-shape_of-bits-then-flag-2
 shape_of-bits-then-flag-2 c = c.set-then-flag-2.auto.0
 
 returns-then-flag-2 : tie.Need-returns-then-flag-2
-returns-then-flag-2 c = λ j. set-one j _ _ _ _ _ (reason_second _ _ _ _ _ c.target_of-t.ensures.0 c.owner-owner.ensures.0 (sym c.flag-2.ensures ∙ c.if-flag-2.true) (sym c.flag.ensures ∙ c.if-flag.false) (sym c.is_namespace.ensures ∙ not-false _ c.if-not-is_namespace.false) (sym c.is_bypassed_inlined_constant.ensures ∙ c.if-is_bypassed_inlined_constant.false)) refl (c.set-then-flag-2.ensures j)
+returns-then-flag-2 c = λ j. set-one j _ _ _ _ _ (reason_second _ _ _ _ _ c.target_of-t.ensures.0 c.owner-owner.ensures.0 (sym c.flag-2.ensures ∙ c.if-flag-2.true) (sym c.flag.ensures ∙ c.if-flag.false) (sym c.is_namespace.ensures ∙ c.if-not-is_namespace.false) (sym c.is_bypassed_inlined_constant.ensures ∙ c.if-is_bypassed_inlined_constant.false)) refl (c.set-then-flag-2.ensures j)
 
 flag-requires-3 : tie.Need-flag-requires-3
 flag-requires-3 c κs = omega arith
@@ -70,10 +70,10 @@ shape_of-bits : tie.Need-shape_of-bits
 shape_of-bits c = c.set-then-flag-3.auto.0
 
 returns-then-flag-3 : tie.Need-returns-then-flag-3
-returns-then-flag-3 c = λ j. set-one j _ _ _ _ _ (reason_third _ _ _ _ _ c.target_of-t.ensures.0 c.owner-owner.ensures.0 (sym c.flag-3.ensures ∙ c.if-flag-3.true) (sym c.flag-2.ensures ∙ c.if-flag-2.false) (sym c.flag.ensures ∙ c.if-flag.false) (sym c.is_namespace.ensures ∙ not-false _ c.if-not-is_namespace.false) (sym c.is_bypassed_inlined_constant.ensures ∙ c.if-is_bypassed_inlined_constant.false)) refl (c.set-then-flag-3.ensures j)
+returns-then-flag-3 c = λ j. set-one j _ _ _ _ _ (reason_third _ _ _ _ _ c.target_of-t.ensures.0 c.owner-owner.ensures.0 (sym c.flag-3.ensures ∙ c.if-flag-3.true) (sym c.flag-2.ensures ∙ c.if-flag-2.false) (sym c.flag.ensures ∙ c.if-flag.false) (sym c.is_namespace.ensures ∙ c.if-not-is_namespace.false) (sym c.is_bypassed_inlined_constant.ensures ∙ c.if-is_bypassed_inlined_constant.false)) refl (c.set-then-flag-3.ensures j)
 
 returns-else-flag-3 : tie.Need-returns-else-flag-3
-returns-else-flag-3 c = λ j. set-none j _ _ (reason_no _ _ _ _ _ c.target_of-t.ensures.0 c.owner-owner.ensures.0 (sym c.flag-3.ensures ∙ c.if-flag-3.false) (sym c.flag-2.ensures ∙ c.if-flag-2.false) (sym c.flag.ensures ∙ c.if-flag.false) (sym c.is_namespace.ensures ∙ not-false _ c.if-not-is_namespace.false) (sym c.is_bypassed_inlined_constant.ensures ∙ c.if-is_bypassed_inlined_constant.false))
+returns-else-flag-3 c = λ j. set-none j _ _ (reason_no _ _ _ _ _ c.target_of-t.ensures.0 c.owner-owner.ensures.0 (sym c.flag-3.ensures ∙ c.if-flag-3.false) (sym c.flag-2.ensures ∙ c.if-flag-2.false) (sym c.flag.ensures ∙ c.if-flag.false) (sym c.is_namespace.ensures ∙ c.if-not-is_namespace.false) (sym c.is_bypassed_inlined_constant.ensures ∙ c.if-is_bypassed_inlined_constant.false))
 
 pub note_namespace_inclusion_reason_spec : {M : Type 1} → statement M
 note_namespace_inclusion_reason_spec =

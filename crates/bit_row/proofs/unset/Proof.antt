@@ -1,5 +1,5 @@
 -- `unset` meets its contract. Where the bit was not set nothing is changed; else 2 ^ k is taken from a byte whose bit k is 1.
-use borrow.Author.Tests.{not_true, not-false}
+use borrow.Author.Tests.{not-true, not-false}
 use mathlib.Core.Path.{sym, ◌∙◌}
 use native.Mathlib.Nat.{one-mul}
 use native.Mathlib.Omega.{arith}
@@ -16,7 +16,7 @@ shape_of-row-then-not-test : tie.Need-shape_of-row-then-not-test
 shape_of-row-then-not-test c = search rules
 
 returns-then-not-test : tie.Need-returns-then-not-test
-returns-then-not-test c = λ j. clear_before _ _ j (sym c.test.ensures ∙ not_true _ c.if-not-test.true)
+returns-then-not-test c = λ j. clear_before _ _ j (sym c.test.ensures ∙ c.if-not-test.true)
 
 bounds-row-at : tie.Need-bounds-row-at
 bounds-row-at c = search rules
@@ -29,7 +29,7 @@ overflow_shl-row c = search rules
 
 overflow_sub-row : tie.Need-overflow_sub-row
 overflow_sub-row c =
-    let room = set-fits _ _ (sym c.test.ensures ∙ not-false _ c.if-not-test.false) in
+    let room = set-fits _ _ (sym c.test.ensures ∙ c.if-not-test.false) in
     omega (arith, room)
 
 bounds-row-at-2 : tie.Need-bounds-row-at-2
@@ -40,7 +40,7 @@ shape_of-row c = search rules
 
 returns : tie.Need-returns
 returns c =
-    let old = sym c.test.ensures ∙ not-false _ c.if-not-test.false in
+    let old = sym c.test.ensures ∙ c.if-not-test.false in
     λ j. clear_now _ _ j _ c.requires old (rw (one-mul, one_shifted c.args.i))
 
 pub unset_spec : {M : Type 1} → statement M

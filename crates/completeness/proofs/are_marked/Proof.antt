@@ -4,7 +4,7 @@ use Rattle.starts.specs.Starts.{starts_of}
 use Rattle.marked.specs.Marked.{marked}
 use Rattle.determine_side_effects.specs.graph_crate.Check.{graph_in}
 use lib.ListN.{drop}
-use borrow.Author.Tests.{not_true, not-false}
+use borrow.Author.Tests.{not-true, not-false}
 use Prim.Native.Nat.{◌-◌, ◌≤◌}
 use mathlib.Core.Path.{◌≡◌, refl, ap, ◌∙◌, sym}
 use native.Mathlib.Omega.{arith}
@@ -27,7 +27,7 @@ is_marked-requires : tie.Need-is_marked-requires invariant-loop-i decreases-loop
 is_marked-requires c κs = (c.requires.0.loaded, (start_good _ _ c.loop-i-test.true _ c.start_at.ensures _ c.requires.1.0, c.requires.1.1))
 
 returns-then-not-is_marked : tie.Need-returns-then-not-is_marked invariant-loop-i decreases-loop-i
-returns-then-not-is_marked c = all_stop _ _ _ (sym (starts-length _)) _ _ c.loop-i.invariant.1 c.loop-i-test.true _ _ (c.is_marked.ensures ∙ ap (λ f. marked (graph_in c.args.numbers.now) c.args.marks.now f) (start_is _ _ c.loop-i-test.true _ c.start_at.ensures)) (not_true _ c.if-not-is_marked.true)
+returns-then-not-is_marked c = all_stop _ _ _ (sym (starts-length _)) _ _ c.loop-i.invariant.1 c.loop-i-test.true _ _ (c.is_marked.ensures ∙ ap (λ f. marked (graph_in c.args.numbers.now) c.args.marks.now f) (start_is _ _ c.loop-i-test.true _ c.start_at.ensures)) (c.if-not-is_marked.true)
 
 overflow_add-i : tie.Need-overflow_add-i invariant-loop-i decreases-loop-i
 overflow_add-i c = record { fits = omega (arith, c.loop-i-test.true) }
@@ -36,7 +36,7 @@ loop-i-smaller : tie.Need-loop-i-smaller invariant-loop-i decreases-loop-i
 loop-i-smaller c = omega (arith, c.loop-i-test.true)
 
 loop-i-preserved : tie.Need-loop-i-preserved invariant-loop-i decreases-loop-i
-loop-i-preserved c = (omega (arith, c.loop-i-test.true), all-next _ _ _ (sym (starts-length _)) _ _ c.loop-i.invariant.1 c.loop-i-test.true _ _ (c.is_marked.ensures ∙ ap (λ f. marked (graph_in c.args.numbers.now) c.args.marks.now f) (start_is _ _ c.loop-i-test.true _ c.start_at.ensures)) (not-false _ c.if-not-is_marked.false))
+loop-i-preserved c = (omega (arith, c.loop-i-test.true), all-next _ _ _ (sym (starts-length _)) _ _ c.loop-i.invariant.1 c.loop-i-test.true _ _ (c.is_marked.ensures ∙ ap (λ f. marked (graph_in c.args.numbers.now) c.args.marks.now f) (start_is _ _ c.loop-i-test.true _ c.start_at.ensures)) (c.if-not-is_marked.false))
 
 returns : tie.Need-returns invariant-loop-i decreases-loop-i
 returns c = all_end _ _ _ (sym (starts-length _)) _ _ c.loop-i.invariant.1 c.loop-i-test.false

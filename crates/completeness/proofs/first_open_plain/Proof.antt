@@ -6,7 +6,7 @@ use Rattle.determine_side_effects.specs.Effects.{last_verdicts}
 use Rattle.marked.specs.Marked.{marked}
 use Rattle.determine_side_effects.specs.graph_crate.Check.{graph_in}
 use lib.ListN.{length, drop}
-use borrow.Author.Tests.{not_true, not-false}
+use borrow.Author.Tests.{not-true, not-false}
 use Prim.Native.Nat.{◌-◌, ◌/◌, ◌≤◌}
 use mathlib.Core.Path.{◌≡◌, sym}
 use native.Mathlib.Omega.{arith}
@@ -29,7 +29,7 @@ is_closed_fact-requires : tie.Need-is_closed_fact-requires invariant-loop-k decr
 is_closed_fact-requires c κs = (c.requires.0, (line_good _ _ _ c.requires.1 _ c.loop-k-test.true _ c.fact_at.ensures, c.requires.2))
 
 returns-then-not-is_closed_fact : tie.Need-returns-then-not-is_closed_fact invariant-loop-k decreases-loop-k
-returns-then-not-is_closed_fact c = open_at _ _ _ c.loop-k-test.true (all_stop _ _ _ (sym (lines-length _ _)) _ _ c.loop-k.invariant.1 c.loop-k-test.true _ _ (line_closed _ _ _ _ _ _ c.loop-k-test.true _ c.fact_at.ensures _ c.is_closed_fact.ensures) (not_true _ c.if-not-is_closed_fact.true))
+returns-then-not-is_closed_fact c = open_at _ _ _ c.loop-k-test.true (all_stop _ _ _ (sym (lines-length _ _)) _ _ c.loop-k.invariant.1 c.loop-k-test.true _ _ (line_closed _ _ _ _ _ _ c.loop-k-test.true _ c.fact_at.ensures _ c.is_closed_fact.ensures) (c.if-not-is_closed_fact.true))
 
 overflow_add-k : tie.Need-overflow_add-k invariant-loop-k decreases-loop-k
 overflow_add-k c = record { fits = omega (arith, c.loop-k-test.true) }
@@ -38,7 +38,7 @@ loop-k-smaller : tie.Need-loop-k-smaller invariant-loop-k decreases-loop-k
 loop-k-smaller c = omega (arith, c.loop-k-test.true)
 
 loop-k-preserved : tie.Need-loop-k-preserved invariant-loop-k decreases-loop-k
-loop-k-preserved c = (omega (arith, c.loop-k-test.true), all-next _ _ _ (sym (lines-length _ _)) _ _ c.loop-k.invariant.1 c.loop-k-test.true _ _ (line_closed _ _ _ _ _ _ c.loop-k-test.true _ c.fact_at.ensures _ c.is_closed_fact.ensures) (not-false _ c.if-not-is_closed_fact.false))
+loop-k-preserved c = (omega (arith, c.loop-k-test.true), all-next _ _ _ (sym (lines-length _ _)) _ _ c.loop-k.invariant.1 c.loop-k-test.true _ _ (line_closed _ _ _ _ _ _ c.loop-k-test.true _ c.fact_at.ensures _ c.is_closed_fact.ensures) (c.if-not-is_closed_fact.false))
 
 returns : tie.Need-returns invariant-loop-k decreases-loop-k
 returns c = none_open _ _ _ c.loop-k.invariant.0 c.loop-k-test.false (all_end _ _ _ (sym (lines-length _ _)) _ _ c.loop-k.invariant.1 c.loop-k-test.false)

@@ -5,7 +5,7 @@ use Rattle.determine_side_effects.specs.Effects.{last_verdicts}
 use Rattle.marked.specs.Marked.{marked}
 use Rattle.determine_side_effects.specs.graph_crate.Check.{graph_in}
 use Prim.Native.Nat.{◌-◌}
-use borrow.Author.Tests.{not_true, not-false}
+use borrow.Author.Tests.{not-true, not-false}
 use mathlib.Core.Path.{◌≡◌, sym, ◌∙◌}
 use borrow.Author.Rules.{rules}
 use native.Mathlib.Omega.{arith}
@@ -50,13 +50,13 @@ is_marked-requires : tie.Need-is_marked-requires invariant-loop-c decreases-loop
 is_marked-requires c κs = (c.requires.0.loaded, (c.segment_candidate.ensures.1.known _ c.in-Gives.is, c.requires.1.1))
 
 returns-then-not-is_marked : tie.Need-returns-then-not-is_marked invariant-loop-c decreases-loop-c invariant-loop-j decreases-loop-j
-returns-then-not-is_marked c = segment-stop _ _ _ _ _ _ c.loop-c.invariant _ c.segment_count-count.ensures c.loop-j-test.true _ c.segment_candidates-candidates.ensures c.loop-c-test.true _ (sym c.in-Gives.is ∙ c.segment_candidate.ensures.0) _ c.is_marked.ensures (not_true _ c.if-not-is_marked.true)
+returns-then-not-is_marked c = segment-stop _ _ _ _ _ _ c.loop-c.invariant _ c.segment_count-count.ensures c.loop-j-test.true _ c.segment_candidates-candidates.ensures c.loop-c-test.true _ (sym c.in-Gives.is ∙ c.segment_candidate.ensures.0) _ c.is_marked.ensures (c.if-not-is_marked.true)
 
 loop-c-smaller-else-not-is_marked : tie.Need-loop-c-smaller-else-not-is_marked invariant-loop-c decreases-loop-c invariant-loop-j decreases-loop-j
 loop-c-smaller-else-not-is_marked c = omega (arith, c.loop-c-test.true)
 
 loop-c-preserved-else-not-is_marked : tie.Need-loop-c-preserved-else-not-is_marked invariant-loop-c decreases-loop-c invariant-loop-j decreases-loop-j
-loop-c-preserved-else-not-is_marked c = segment-next _ _ _ _ _ _ c.loop-c.invariant _ c.segment_count-count.ensures c.loop-j-test.true _ c.segment_candidates-candidates.ensures c.loop-c-test.true _ (sym c.in-Gives.is ∙ c.segment_candidate.ensures.0) _ c.is_marked.ensures (not-false _ c.if-not-is_marked.false)
+loop-c-preserved-else-not-is_marked c = segment-next _ _ _ _ _ _ c.loop-c.invariant _ c.segment_count-count.ensures c.loop-j-test.true _ c.segment_candidates-candidates.ensures c.loop-c-test.true _ (sym c.in-Gives.is ∙ c.segment_candidate.ensures.0) _ c.is_marked.ensures (c.if-not-is_marked.false)
 
 enum_told-1 : tie.Need-enum_told-1 invariant-loop-c decreases-loop-c invariant-loop-j decreases-loop-j
 enum_told-1 c = search rules

@@ -50,7 +50,7 @@ decreases-loop-u modules edges t fuel seen₀ group₀ count c₀ u₀ seen grou
 
 -- at the loop the node is entered
 started : (t : ℕ) (c : lts.At-loop (claims t) (at t) collect.Post invariant-loop-u decreases-loop-u)
-    → Entered c.before.before.before.before.before.before.before.before.before.before.before.before.before.args.modules c.before.before.before.before.before.before.before.before.before.before.before.before.before.args.t c.before.before.before.before.before.before.before.before.before.before.before.before.before.args.seen.now c.before.before.before.before.before.before.before.before.before.before.before.before.before.args.group.now c.before.before.before.before.before.before.before.before.before.before.before.before.before.args.count c.before.before.before.before.set.new.0
+    → Entered c.before.before.before.before.before.before.before.before.before.before.before.before.before.args.modules c.before.before.before.before.before.before.before.before.before.before.before.before.before.args.t c.before.before.before.before.before.before.before.before.before.before.before.before.before.args.seen.now c.before.before.before.before.before.before.before.before.before.before.before.before.before.args.group.now c.before.before.before.before.before.before.before.before.before.before.before.before.before.args.count c.before.before.before.before.set.new.row
 started t c =
     let p = c.before.before.before.before.before.before.before.before.before.before.before.before.before.requires.1 in
     record { inside = p.0.2; new = sym c.before.before.before.before.before.before.before.test.ensures ∙ c.before.before.before.before.before.before.if2.false; bits = c.before.before.before.before.set.ensures; same_seen = c.before.before.before.before.set.auto.0; room = p.1 }

@@ -49,7 +49,7 @@ decreases-loop-k modules cap outs succs t fuel seen₀ order₀ count size c₀ 
 
 -- at the loop the node is entered
 started : (t : ℕ) (c : lts.At-loop (claims t) (at t) complete.Post invariant-loop-k decreases-loop-k)
-    → Entered c.before.before.before.before.before.before.before.before.before.before.before.before.before.before.args.modules c.before.before.before.before.before.before.before.before.before.before.before.before.before.before.args.t c.before.before.before.before.before.before.before.before.before.before.before.before.before.before.args.seen.now c.before.before.before.before.before.before.before.before.before.before.before.before.before.before.args.order.now c.before.before.before.before.before.before.before.before.before.before.before.before.before.before.args.count c.before.before.before.before.set.new.0
+    → Entered c.before.before.before.before.before.before.before.before.before.before.before.before.before.before.args.modules c.before.before.before.before.before.before.before.before.before.before.before.before.before.before.args.t c.before.before.before.before.before.before.before.before.before.before.before.before.before.before.args.seen.now c.before.before.before.before.before.before.before.before.before.before.before.before.before.before.args.order.now c.before.before.before.before.before.before.before.before.before.before.before.before.before.before.args.count c.before.before.before.before.set.new.row
 started t c =
     let p = c.before.before.before.before.before.before.before.before.before.before.before.before.before.before.requires.1 in
     record { inside = p.0.1; new = sym c.before.before.before.before.before.before.before.test.ensures ∙ c.before.before.before.before.before.before.if2.false; bits = c.before.before.before.before.set.ensures; same_seen = c.before.before.before.before.set.auto.0; room = p.1 }

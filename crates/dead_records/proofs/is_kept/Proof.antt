@@ -1,6 +1,6 @@
 use mathlib.Core.Path.{◌∙◌, sym}
 use native.Mathlib.Omega.{arith}
-use borrow.Author.Tests.{not_true, not-false}
+use borrow.Author.Tests.{not-true, not-false}
 use Rattle.determine_side_effects.specs.graph_crate.Check.{graph_in}
 use Rattle.dead_records.proofs.Numbering.{modules_are}
 use Rattle.dead_records.proofs.Exempting.{statement_place, unmarked_not_kept, kept_by_word}
@@ -20,7 +20,7 @@ test-requires c κs = omega (arith, c.mark_of-at.ensures.1, c.requires.1.2.wide)
 returns-then-not-test : tie.Need-returns-then-not-test
 unfolding graph_in
 returns-then-not-test c =
-    unmarked_not_kept _ c.args.marks.now _ _ _ c.mark_of-at.ensures.0 (sym c.test.ensures ∙ not_true _ c.if-not-test.true)
+    unmarked_not_kept _ c.args.marks.now _ _ _ c.mark_of-at.ensures.0 (sym c.test.ensures ∙ c.if-not-test.true)
 
 overflow_sub-result : tie.Need-overflow_sub-result
 unfolding graph_in
@@ -43,7 +43,7 @@ bounds-scratch-at c =
 returns : tie.Need-returns
 unfolding graph_in
 returns c =
-    kept_by_word _ c.args.marks.now c.args.scratch.now _ _ _ c.mark_of-at.ensures.0 (sym c.test.ensures ∙ not-false _ c.if-not-test.false) (modules_are _ _ c.header_of-h.ensures)
+    kept_by_word _ c.args.marks.now c.args.scratch.now _ _ _ c.mark_of-at.ensures.0 (sym c.test.ensures ∙ c.if-not-test.false) (modules_are _ _ c.header_of-h.ensures)
 
 pub is_kept_spec : {M : Type 1} → statement M
 is_kept_spec =

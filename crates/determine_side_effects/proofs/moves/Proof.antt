@@ -3,7 +3,7 @@ use mathlib.Core.Path.{◌≡◌, refl, ap, ◌∙◌, sym}
 use mathlib.Core.Bool.{◌||◌}
 use mathlib.Core.List.{[]}
 use native.Mathlib.Omega.{arith}
-use borrow.Author.Tests.{not_true, not-false}
+use borrow.Author.Tests.{not-true, not-false}
 use lib.ListN.{length, get_or, drop}
 use Rattle.facts.specs.tables_crate.Layout.{verdicts_in}
 use Rattle.facts.proofs.tables_crate.Sections.{inside}
@@ -30,13 +30,13 @@ listed c = omega (arith, c.loop-k-test.true, c.import_record_count-count.ensures
 -- the module is normal; if it is without effects so far, its records decide
 whole : (c : tie.After-import_record_count-count invariant-loop-k decreases-loop-k) → get_or c.section-verdicts.result.now c.args.m.0 0 ≡ 0 → some (λ row. seeds (graph_in c.args.numbers.now) row || reaches (verdicts_in c.args.tables.now) row) (import_records (module_of (graph_in c.args.numbers.now) c.args.m.0)) ≡ moves (graph_in c.args.numbers.now) (verdicts_in c.args.tables.now) c.args.m.0
 whole c z =
-    moves-some _ _ _ (sym c.is_normal.ensures ∙ not-false _ c.if-not-is_normal.false) (sym (ap (λ v. get_or v c.args.m.0 0) c.section-verdicts.ensures) ∙ z)
+    moves-some _ _ _ (sym c.is_normal.ensures ∙ c.if-not-is_normal.false) (sym (ap (λ v. get_or v c.args.m.0 0) c.section-verdicts.ensures) ∙ z)
 
 is_normal-requires : tie.Need-is_normal-requires invariant-loop-k decreases-loop-k
 is_normal-requires c κs = (c.requires.0.loaded, c.requires.1)
 
 returns-then-not-is_normal : tie.Need-returns-then-not-is_normal invariant-loop-k decreases-loop-k
-returns-then-not-is_normal c = moves_external _ _ _ (sym c.is_normal.ensures ∙ not_true _ c.if-not-is_normal.true)
+returns-then-not-is_normal c = moves_external _ _ _ (sym c.is_normal.ensures ∙ c.if-not-is_normal.true)
 
 section-verdicts-requires : tie.Need-section-verdicts-requires invariant-loop-k decreases-loop-k
 section-verdicts-requires c κs = inside c.requires.0.laid 5 (omega arith)
@@ -49,7 +49,7 @@ bounds-verdicts-i c = omega (arith, ap length c.section-verdicts.ensures, verdic
 
 returns-then-verdicts-i-ne0 : tie.Need-returns-then-verdicts-i-ne0 invariant-loop-k decreases-loop-k
 returns-then-verdicts-i-ne0 c =
-    moves-other _ _ _ (sym c.is_normal.ensures ∙ not-false _ c.if-not-is_normal.false) (omega (arith, c.if-verdicts-i-ne0.true, ap (λ v. get_or v c.args.m.0 0) c.section-verdicts.ensures))
+    moves-other _ _ _ (sym c.is_normal.ensures ∙ c.if-not-is_normal.false) (omega (arith, c.if-verdicts-i-ne0.true, ap (λ v. get_or v c.args.m.0 0) c.section-verdicts.ensures))
 
 import_record_count-count-requires : tie.Need-import_record_count-count-requires invariant-loop-k decreases-loop-k
 import_record_count-count-requires c κs = (c.requires.0.loaded, c.requires.1)

@@ -1,6 +1,6 @@
 use mathlib.Core.Path.{◌≡◌, refl, ap, ◌∙◌}
 use native.Mathlib.Omega.{arith}
-use borrow.Author.Tests.{not_true}
+use borrow.Author.Tests.{not-true}
 use Rattle.facts.specs.tables_crate.Layout.{start_of, Kept, verdicts_in, at_verdicts}
 use Rattle.facts.proofs.tables_crate.Sections.{kept_none, kept_both}
 use Rattle.facts.specs.graph_tables_crate.Tables.{header_in}
@@ -42,7 +42,7 @@ unfolding graph_in
 returns-then-not-pass c =
     let i = c.loop-left.invariant in
     let e = c.pass.ensures in
-    (passes_stop _ _ _ c.loop-left-test.true _ e.0 (e.1 (not_true _ c.if-not-pass.true)) ∙ i.1 ∙ whole c.before.before.before.before.before.before.before, kept_both i.0 e.2)
+    (passes_stop _ _ _ c.loop-left-test.true _ e.0 (e.1 (c.if-not-pass.true)) ∙ i.1 ∙ whole c.before.before.before.before.before.before.before, kept_both i.0 e.2)
 
 loop-left-smaller : tie.Need-loop-left-smaller invariant-loop-left decreases-loop-left
 loop-left-smaller c = omega (arith, c.loop-left-test.true)

@@ -1,6 +1,6 @@
 use mathlib.Core.Path.{◌∙◌, sym}
 use native.Mathlib.Omega.{arith}
-use borrow.Author.Tests.{not_true, not-false}
+use borrow.Author.Tests.{not-true, not-false}
 use Rattle.rule_tables.proofs.Readying.{few_marks}
 use Rattle.drain_parts.proofs.Readying.{by_check, by-starts, by-marks, by_rows, begins}
 use Rattle.drain_parts.proofs.may_begin.Statement.{statement}
@@ -43,7 +43,7 @@ shape_of-tables-then-not-are_long_enough : tie.Need-shape_of-tables-then-not-are
 shape_of-tables-then-not-are_long_enough c = c.ready.auto.1.1.0
 
 returns-then-not-are_long_enough : tie.Need-returns-then-not-are_long_enough
-returns-then-not-are_long_enough c = by_rows _ _ _ _ _ (sym c.ready.ensures.0 ∙ c.in-Accepted.is) (sym c.check.ensures.0 ∙ c.in-At.is) c.mark_count.ensures c.bytes_for.ensures c.if-marks-bytes_for.false c.are_long_enough.ensures (not_true _ c.if-not-are_long_enough.true)
+returns-then-not-are_long_enough c = by_rows _ _ _ _ _ (sym c.ready.ensures.0 ∙ c.in-Accepted.is) (sym c.check.ensures.0 ∙ c.in-At.is) c.mark_count.ensures c.bytes_for.ensures c.if-marks-bytes_for.false c.are_long_enough.ensures (c.if-not-are_long_enough.true)
 
 shape_of-tables-in-Refused : tie.Need-shape_of-tables-in-Refused
 shape_of-tables-in-Refused c = c.ready.auto.1.1.0
@@ -61,7 +61,7 @@ shape_of-tables-else-not-are_long_enough : tie.Need-shape_of-tables-else-not-are
 shape_of-tables-else-not-are_long_enough c = c.ready.auto.1.1.0
 
 returns-else-not-are_long_enough : tie.Need-returns-else-not-are_long_enough
-returns-else-not-are_long_enough c = begins _ _ _ _ _ (sym c.ready.ensures.0 ∙ c.in-Accepted.is) (sym c.check.ensures.0 ∙ c.in-At.is) c.mark_count.ensures c.bytes_for.ensures c.if-marks-bytes_for.false c.are_long_enough.ensures (not-false _ c.if-not-are_long_enough.false) (c.ready.ensures.1.known c.in-Accepted.is) (c.check.ensures.1.known _ c.in-At.is)
+returns-else-not-are_long_enough c = begins _ _ _ _ _ (sym c.ready.ensures.0 ∙ c.in-Accepted.is) (sym c.check.ensures.0 ∙ c.in-At.is) c.mark_count.ensures c.bytes_for.ensures c.if-marks-bytes_for.false c.are_long_enough.ensures (c.if-not-are_long_enough.false) (c.ready.ensures.1.known c.in-Accepted.is) (c.check.ensures.1.known _ c.in-At.is)
 
 pub may_begin_spec : {M : Type 1} → statement M
 may_begin_spec =

@@ -42,8 +42,8 @@ enum_known-n c = c.in-Nodes.keys2
 sort_by_graph-requires : tie.Need-sort_by_graph-requires
 sort_by_graph-requires c κs =
     let b = rw (part_to_end c.args.plan.now c.args.users) at c.entry_graph.ensures in
-    let o : (header_in c.args.numbers.now).modules ≤ length c.entry_graph.new.1.1.1.1.1.0 = omega (arith, c.requires.1.1.1.0, c.entry_graph.auto.1.1.1.1.1.0) in
-    let l : (header_in c.args.numbers.now).modules + (header_in c.args.numbers.now).entries ≤ length c.entry_graph.new.1.1.1.1.1.1.0 = omega (arith, c.requires.1.1.1.1, c.entry_graph.auto.1.1.1.1.1.1.0) in
+    let o : (header_in c.args.numbers.now).modules ≤ length c.entry_graph.new.records = omega (arith, c.requires.1.1.1.0, c.entry_graph.auto.1.1.1.1.1.0) in
+    let l : (header_in c.args.numbers.now).modules + (header_in c.args.numbers.now).entries ≤ length c.entry_graph.new.walks = omega (arith, c.requires.1.1.1.1, c.entry_graph.auto.1.1.1.1.1.1.0) in
     (c.requires.0, ((c.requires.1.0.0, c.requires.1.0.1, built_holds _ _ _ c.requires.1.0.0 _ c.header_of-h.ensures _ _ _ _ _ _ b _ c.in-Nodes.is), (o, l, c.requires.1.1.1.2)))
 
 shape_of-visited-in-Full : tie.Need-shape_of-visited-in-Full

@@ -24,7 +24,7 @@ find_cycles-found-requires c κs = rw c.cycled_at-at.ensures (search_ready _ _ c
 
 sort_entries-requires : tie.Need-sort_entries-requires
 sort_entries-requires c κs =
-    let k : length c.find_cycles-found.new.1.1.1.1.1.1.1.0 ≡ length c.args.order.now = c.find_cycles-found.auto.1.1.1.1.1.1.1.0 in
+    let k : length c.find_cycles-found.new.order ≡ length c.args.order.now = c.find_cycles-found.auto.1.1.1.1.1.1.1.0 in
     let d = search-done _ _ c.header_of-h.ensures _ _ _ _ _ _ _ _ c.requires.1.0 _ _ _ (rw c.cycled_at-at.ensures at c.find_cycles-found.ensures) (omega (arith, k, c.requires.1.1.0)) in
     (c.requires.0, (d, (c.requires.1.1.1, c.requires.1.1.2, holds_length _ _ _ _ _ _ _ c.requires.1.0.2)))
 

@@ -50,8 +50,8 @@ take_by_completion-requires c κs =
 
 copy_back-requires : tie.Need-copy_back-requires
 copy_back-requires c κs =
-    let k : length c.take_by_completion.new.1.1.1.1.1.1.0 ≡ length c.args.list.now = c.take_by_completion.auto.1.1.1.1.1.1.0 ∙ c.take_first-n.auto.1.1.1.1.1.0 in
-    part_fits _ _ c.header_of-h.ensures _ _ c.requires.1.0.0 c.requires.1.0.1 c.requires.1.1.2 c.take_by_completion.new.1.1.1.1.1.1.0 (omega (arith, k, c.requires.1.1.1))
+    let k : length c.take_by_completion.new.list ≡ length c.args.list.now = c.take_by_completion.auto.1.1.1.1.1.1.0 ∙ c.take_first-n.auto.1.1.1.1.1.0 in
+    part_fits _ _ c.header_of-h.ensures _ _ c.requires.1.0.0 c.requires.1.0.1 c.requires.1.1.2 c.take_by_completion.new.list (omega (arith, k, c.requires.1.1.1))
 
 shape_of-chain : tie.Need-shape_of-chain
 shape_of-chain c = c.link.auto.1.1.1.1.0

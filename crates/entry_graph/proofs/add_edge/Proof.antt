@@ -10,10 +10,10 @@ use Rattle.entry_graph.proofs.add_edge.Statement.{statement}
 use Rattle.entry_graph.proofs.add_edge.Tie as tie
 
 -- the first end is put, and then both
-one-put : (c : tie.After-put_node-first) → Placed c.args.modules c.args.cap c.args.from c.args.nodes.now c.args.n c.args.outs.now c.put_node-first.new.1.1.0 c.put_node-first.result c.put_node-first.new.1.1.1.0 c.args.succs.now c.args.edges.now
+one-put : (c : tie.After-put_node-first) → Placed c.args.modules c.args.cap c.args.from c.args.nodes.now c.args.n c.args.outs.now c.put_node-first.new.nodes c.put_node-first.result c.put_node-first.new.outs c.args.succs.now c.args.edges.now
 one-put c = placed c.requires.0 _ c.requires.1.0 c.put_node-first.ensures
 
-both-put : (c : tie.After-put_node-both) → Ends c.args.modules c.args.cap c.args.from c.args.to c.args.nodes.now c.args.n c.args.outs.now c.put_node-both.new.1.1.0 c.put_node-both.result c.put_node-both.new.1.1.1.0 c.args.succs.now c.args.edges.now
+both-put : (c : tie.After-put_node-both) → Ends c.args.modules c.args.cap c.args.from c.args.to c.args.nodes.now c.args.n c.args.outs.now c.put_node-both.new.nodes c.put_node-both.result c.put_node-both.new.outs c.args.succs.now c.args.edges.now
 both-put c = let p = one-put c.before.before.before.before.before.before.before in ends p (placed p.stored _ c.requires.1.1 c.put_node-both.ensures)
 
 -- the edge's bit is inside
@@ -22,7 +22,7 @@ bit-inside c =
     rw c.cell-bit.ensures (omega (arith, (both-put c.before.before.before.before.before).stored.edges_long, cell_below c.args.modules c.args.modules c.args.to c.args.from c.requires.1.1 c.requires.1.0))
 
 -- there is room for a successor
-room : (c : tie.Else-count-cap) → get_or c.put_node-both.new.1.1.1.0 c.args.from 0 - 1 < c.args.cap
+room : (c : tie.Else-count-cap) → get_or c.put_node-both.new.outs c.args.from 0 - 1 < c.args.cap
 room c = let t = both-put c.before.before.before.before.before.before.before.before.before in omega (arith, t.stored.rows_fit c.args.from c.requires.1.0, c.if-count-cap.false)
 
 cell-inside : (c : tie.After-cell-at) → c.cell-at.result < length c.args.succs.now
@@ -39,8 +39,8 @@ put_node-first-requires c κs =
 put_node-both-requires : tie.Need-put_node-both-requires
 put_node-both-requires c κs =
     let p = one-put c.before.before.before.before.before.before in
-    let o : c.args.to < length c.put_node-first.new.1.1.1.0 = omega (arith, p.stored.outs_long, c.requires.1.1) in
-    (o, λ z. let l : c.put_node-first.result < length c.put_node-first.new.1.1.0 = omega (arith, p.stored.nodes_long, node-room p.stored c.args.to c.requires.1.1 z) in l)
+    let o : c.args.to < length c.put_node-first.new.outs = omega (arith, p.stored.outs_long, c.requires.1.1) in
+    (o, λ z. let l : c.put_node-first.result < length c.put_node-first.new.nodes = omega (arith, p.stored.nodes_long, node-room p.stored c.args.to c.requires.1.1 z) in l)
 
 cell-bit-requires : tie.Need-cell-bit-requires
 cell-bit-requires c κs = (c.requires.0.few, omega (arith, c.requires.0.few, c.requires.1.1), omega (arith, c.requires.0.few, c.requires.1.0))
@@ -64,10 +64,10 @@ offset_bounds-outs-from : tie.Need-offset_bounds-outs-from
 offset_bounds-outs-from c = omega (arith, c.requires.0.few, c.requires.1.0)
 
 bounds-outs-from : tie.Need-bounds-outs-from
-bounds-outs-from c = let l : c.args.from < length c.put_node-both.new.1.1.1.0 = omega (arith, (both-put c.before.before.before.before.before.before.before.before).stored.outs_long, c.requires.1.0) in l
+bounds-outs-from c = let l : c.args.from < length c.put_node-both.new.outs = omega (arith, (both-put c.before.before.before.before.before.before.before.before).stored.outs_long, c.requires.1.0) in l
 
 overflow_sub-count : tie.Need-overflow_sub-count
-overflow_sub-count c = let l : 1 ≤ get_or c.put_node-both.new.1.1.1.0 c.args.from 0 = omega (arith, (both-put c.before.before.before.before.before.before.before.before).from_put) in l
+overflow_sub-count c = let l : 1 ≤ get_or c.put_node-both.new.outs c.args.from 0 = omega (arith, (both-put c.before.before.before.before.before.before.before.before).from_put) in l
 
 shape_of-nodes-then-count-cap : tie.Need-shape_of-nodes-then-count-cap
 shape_of-nodes-then-count-cap c = c.put_node-both.auto.1.1.0 ∙ c.put_node-first.auto.1.1.0
@@ -83,7 +83,7 @@ returns-then-count-cap c = λ v. edge-full (both-put c.before.before.before.befo
 
 cell-at-requires : tie.Need-cell-at-requires
 cell-at-requires c κs =
-    let l : get_or c.put_node-both.new.1.1.1.0 c.args.from 0 - 1 < 1024 = omega (arith, room c, c.requires.0.cap_few) in
+    let l : get_or c.put_node-both.new.outs c.args.from 0 - 1 < 1024 = omega (arith, room c, c.requires.0.cap_few) in
     (c.requires.0.cap_few, omega (arith, c.requires.0.few, c.requires.1.0), l)
 
 narrow-requires : tie.Need-narrow-requires
@@ -96,13 +96,13 @@ bounds-succs-at : tie.Need-bounds-succs-at
 bounds-succs-at c = cell-inside c.before
 
 overflow_add-outs : tie.Need-overflow_add-outs
-overflow_add-outs c = let l : get_or c.put_node-both.new.1.1.1.0 c.args.from 0 - 1 + 2 < 1026 = omega (arith, room c.before.before, c.requires.0.cap_few) in fits _ l
+overflow_add-outs c = let l : get_or c.put_node-both.new.outs c.args.from 0 - 1 + 2 < 1026 = omega (arith, room c.before.before, c.requires.0.cap_few) in fits _ l
 
 offset_bounds-outs-from-2 : tie.Need-offset_bounds-outs-from-2
 offset_bounds-outs-from-2 c = omega (arith, c.requires.0.few, c.requires.1.0)
 
 bounds-outs-from-2 : tie.Need-bounds-outs-from-2
-bounds-outs-from-2 c = let l : c.args.from < length c.put_node-both.new.1.1.1.0 = omega (arith, (both-put c.before.before.before.before.before.before.before.before.before.before.before).stored.outs_long, c.requires.1.0) in l
+bounds-outs-from-2 c = let l : c.args.from < length c.put_node-both.new.outs = omega (arith, (both-put c.before.before.before.before.before.before.before.before.before.before.before).stored.outs_long, c.requires.1.0) in l
 
 set-requires : tie.Need-set-requires
 set-requires c κs = bit-inside c.before.before.before.before.before.before.before
@@ -111,7 +111,7 @@ shape_of-nodes : tie.Need-shape_of-nodes
 shape_of-nodes c = c.put_node-both.auto.1.1.0 ∙ c.put_node-first.auto.1.1.0
 
 shape_of-outs : tie.Need-shape_of-outs
-shape_of-outs c = length-set c.put_node-both.new.1.1.1.0 c.args.from (get_or c.put_node-both.new.1.1.1.0 c.args.from 0 - 1 + 2) ∙ c.put_node-both.auto.1.1.1.0 ∙ c.put_node-first.auto.1.1.1.0
+shape_of-outs c = length-set c.put_node-both.new.outs c.args.from (get_or c.put_node-both.new.outs c.args.from 0 - 1 + 2) ∙ c.put_node-both.auto.1.1.1.0 ∙ c.put_node-first.auto.1.1.1.0
 
 shape_of-succs : tie.Need-shape_of-succs
 shape_of-succs c = length-set c.args.succs.now c.cell-at.result c.narrow.result

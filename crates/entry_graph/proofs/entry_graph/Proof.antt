@@ -43,7 +43,7 @@ construct_dynamic_entry_graph-requires c κs =
     let m = c.entry_module-m.ensures.1 in
     let r : (header_in c.args.numbers.now).modules ≤ length c.loop-i.records = omega (arith, c.requires.1.1.0.0, i.0) in
     let w : (header_in c.args.numbers.now).modules ≤ length c.loop-i.walks = omega (arith, c.requires.1.1.0.1, i.1) in
-    let v : (header_in c.args.numbers.now).modules ≤ 8 * length c.clear.new.0 = omega (arith, c.requires.1.1.1.1, i.2, c.clear.auto.0) in
+    let v : (header_in c.args.numbers.now).modules ≤ 8 * length c.clear.new.row = omega (arith, c.requires.1.1.1.1, i.2, c.clear.auto.0) in
     (c.requires.0, (i.8.stored, ((r, w), (m, v, rw c.clear.ensures (all_clear _ _ (omega (arith, i.2)) _)))))
 
 enum_known-d : tie.Need-enum_known-d invariant-loop-i decreases-loop-i
@@ -96,7 +96,7 @@ loop-i-preserved c =
       c.construct_dynamic_entry_graph.auto.1.1.1.1.1.1.1.1.1.1.0 ∙ i.5,
       c.construct_dynamic_entry_graph.auto.1.1.1.1.1.1.1.1.1.1.1.0 ∙ i.6,
       omega (arith, c.loop-i-test.true),
-      building-step (graph_in c.args.numbers.now) c.args.cap all i.8 c.clear.new.0 c.entry_module-m.result.0
+      building-step (graph_in c.args.numbers.now) c.args.cap all i.8 c.clear.new.row c.entry_module-m.result.0
           (omega (arith, long, c.loop-i-test.true))
           (c.entry_module-m.ensures.0 ∙ ap (module_of_entry (graph_in c.args.numbers.now)) (sym (get_or-take c.args.count c.args.list.now c.loop-i.i 0 c.loop-i-test.true)))
           (rw c.clear.ensures (all_clear _ _ (omega (arith, i.2))))

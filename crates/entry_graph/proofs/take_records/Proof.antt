@@ -1,7 +1,7 @@
 use Prim.Native.Nat.{◌-◌, ◌<◌}
 use mathlib.Core.Path.{◌≡◌, refl, ◌∙◌, sym}
 use native.Mathlib.Omega.{arith}
-use borrow.Author.Tests.{not_true, not-false}
+use borrow.Author.Tests.{not-true, not-false}
 use lib.ListN.{length}
 use Rattle.graph_access.specs.graph_tables_crate.Tables.{header_in}
 use Rattle.graph_access.specs.graph_crate.Check.{graph_in}
@@ -57,7 +57,7 @@ shape_of-edges-then-not-is_over : tie.Need-shape_of-edges-then-not-is_over invar
 shape_of-edges-then-not-is_over c = c.take_import.auto.1.1.1.1.1.1.1.1.0 ∙ c.loop-i.invariant.3
 
 returns-then-not-is_over : tie.Need-returns-then-not-is_over invariant-loop-i decreases-loop-i
-returns-then-not-is_over c = takes-upto c.loop-i.invariant.4 (inside c.before.before.before.before.before.before.before.before.before.before.before.before.before.before.before.before.before) c.read_record-import.ensures c.take_import.ensures _ _ _ c.in-Walk.is refl (sym c.is_over.ensures ∙ not_true _ c.if-not-is_over.true)
+returns-then-not-is_over c = takes-upto c.loop-i.invariant.4 (inside c.before.before.before.before.before.before.before.before.before.before.before.before.before.before.before.before.before) c.read_record-import.ensures c.take_import.ensures _ _ _ c.in-Walk.is refl (sym c.is_over.ensures ∙ c.if-not-is_over.true)
 
 loop-i-smaller-else-not-is_over : tie.Need-loop-i-smaller-else-not-is_over invariant-loop-i decreases-loop-i
 loop-i-smaller-else-not-is_over c = omega (arith, c.loop-i-test.true)
@@ -68,7 +68,7 @@ loop-i-preserved-else-not-is_over c = (
   c.take_import.auto.1.1.1.1.1.1.0 ∙ c.loop-i.invariant.1,
   c.take_import.auto.1.1.1.1.1.1.1.0 ∙ c.loop-i.invariant.2,
   c.take_import.auto.1.1.1.1.1.1.1.1.0 ∙ c.loop-i.invariant.3,
-  going-over c.loop-i.invariant.4 (inside c.before.before.before.before.before.before.before.before.before.before.before.before.before.before.before.before.before) c.read_record-import.ensures c.take_import.ensures _ _ _ c.in-Walk.is (sym c.is_over.ensures ∙ not-false _ c.if-not-is_over.false),
+  going-over c.loop-i.invariant.4 (inside c.before.before.before.before.before.before.before.before.before.before.before.before.before.before.before.before.before) c.read_record-import.ensures c.take_import.ensures _ _ _ c.in-Walk.is (sym c.is_over.ensures ∙ c.if-not-is_over.false),
 )
 
 enum_known-d : tie.Need-enum_known-d invariant-loop-i decreases-loop-i

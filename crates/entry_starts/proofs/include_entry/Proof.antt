@@ -5,7 +5,7 @@ use Rattle.determine_side_effects.specs.Effects.{last_verdicts}
 use Rattle.worklist.specs.Drain.{drained_all}
 use Rattle.keep_record.specs.Held.{lines_of}
 use Rattle.determine_side_effects.specs.graph_crate.Check.{graph_in}
-use borrow.Author.Tests.{not_true, not-false}
+use borrow.Author.Tests.{not-true, not-false}
 use lib.ListN.{length}
 use Prim.Native.Nat.{◌-◌, ◌≤◌}
 use mathlib.Core.Path.{◌≡◌, refl, ◌∙◌, sym}
@@ -24,13 +24,13 @@ is_normal-requires : tie.Need-is_normal-requires invariant-loop-k decreases-loop
 is_normal-requires c κs = (c.requires.0.loaded, c.requires.1.1)
 
 returns-then-not-is_normal : tie.Need-returns-then-not-is_normal invariant-loop-k decreases-loop-k
-returns-then-not-is_normal c = started_nothing _ _ _ (module_none _ _ (sym c.is_normal.ensures ∙ not_true _ c.if-not-is_normal.true)) _ _ _ _ c.requires.1.0
+returns-then-not-is_normal c = started_nothing _ _ _ (module_none _ _ (sym c.is_normal.ensures ∙ c.if-not-is_normal.true)) _ _ _ _ c.requires.1.0
 
 entry_reference_count-references-requires : tie.Need-entry_reference_count-references-requires invariant-loop-k decreases-loop-k
 entry_reference_count-references-requires c κs = (c.requires.0.loaded, c.requires.1.1)
 
 loop-k-init : tie.Need-loop-k-init invariant-loop-k decreases-loop-k
-loop-k-init c = (refl, refl, refl, omega arith, referring_start _ _ _ c.entry_reference_count-references.ensures.0 (sym c.is_normal.ensures ∙ not-false _ c.if-not-is_normal.false) _ _ _ _ _ c.requires.1.0)
+loop-k-init c = (refl, refl, refl, omega arith, referring_start _ _ _ c.entry_reference_count-references.ensures.0 (sym c.is_normal.ensures ∙ c.if-not-is_normal.false) _ _ _ _ _ c.requires.1.0)
 
 entry_reference-s-requires : tie.Need-entry_reference-s-requires invariant-loop-k decreases-loop-k
 entry_reference-s-requires c κs = (c.requires.0.loaded, (c.requires.1.1, omega (arith, c.loop-k-test.true, c.entry_reference_count-references.ensures.0)))
@@ -67,7 +67,7 @@ loop-k-preserved c = let w = c.loop-k.invariant in let k = c.include_reference.a
 
 start_one-requires : tie.Need-start_one-requires invariant-loop-k decreases-loop-k
 unfolding graph_in
-start_one-requires c κs = (c.requires.0, (c.loop-k.invariant.4.working, (c.requires.1.1, (sym c.is_normal.ensures ∙ not-false _ c.if-not-is_normal.false))))
+start_one-requires c κs = (c.requires.0, (c.loop-k.invariant.4.working, (c.requires.1.1, (sym c.is_normal.ensures ∙ c.if-not-is_normal.false))))
 
 shape_of-partners : tie.Need-shape_of-partners invariant-loop-k decreases-loop-k
 shape_of-partners c = search rules

@@ -1,7 +1,7 @@
 use Rattle.entry_starts.proofs.Referring.{started_nothing, user_none, user_then, user_full}
 use Rattle.entry_starts.proofs.Together.{working_after}
 use Rattle.determine_side_effects.specs.graph_crate.Check.{graph_in}
-use borrow.Author.Tests.{not_true, not-false}
+use borrow.Author.Tests.{not-true, not-false}
 use mathlib.Core.Path.{◌∙◌, sym}
 use borrow.Author.Rules.{rules}
 use Rattle.entry_starts.proofs.include_user_entry.Statement.{statement}
@@ -11,11 +11,11 @@ is_normal-requires : tie.Need-is_normal-requires
 is_normal-requires c κs = (c.requires.0.loaded, c.requires.1.1)
 
 returns-then-not-is_normal : tie.Need-returns-then-not-is_normal
-returns-then-not-is_normal c = started_nothing _ _ _ (user_none _ _ (sym c.is_normal.ensures ∙ not_true _ c.if-not-is_normal.true)) _ _ _ _ c.requires.1.0
+returns-then-not-is_normal c = started_nothing _ _ _ (user_none _ _ (sym c.is_normal.ensures ∙ c.if-not-is_normal.true)) _ _ _ _ c.requires.1.0
 
 start_one-requires : tie.Need-start_one-requires
 unfolding graph_in
-start_one-requires c κs = let inside = c.requires.1.1 in let normal = sym c.is_normal.ensures ∙ not-false _ c.if-not-is_normal.false in (c.requires.0, (c.requires.1.0, search rules))
+start_one-requires c κs = let inside = c.requires.1.1 in let normal = sym c.is_normal.ensures ∙ c.if-not-is_normal.false in (c.requires.0, (c.requires.1.0, search rules))
 
 enum_told-1 : tie.Need-enum_told-1
 enum_told-1 c = search rules
@@ -36,7 +36,7 @@ shape_of-lines-in-Full : tie.Need-shape_of-lines-in-Full
 shape_of-lines-in-Full c = search rules
 
 returns-in-Full : tie.Need-returns-in-Full
-returns-in-Full c = user_full _ _ (sym c.is_normal.ensures ∙ not-false _ c.if-not-is_normal.false) _ _ _ _ _ (rw c.in-Full.is at c.start_one.ensures)
+returns-in-Full c = user_full _ _ (sym c.is_normal.ensures ∙ c.if-not-is_normal.false) _ _ _ _ _ (rw c.in-Full.is at c.start_one.ensures)
 
 shape_of-partners-in-Lines : tie.Need-shape_of-partners-in-Lines
 shape_of-partners-in-Lines c = search rules
@@ -48,7 +48,7 @@ shape_of-lines-in-Lines : tie.Need-shape_of-lines-in-Lines
 shape_of-lines-in-Lines c = search rules
 
 returns-in-Lines : tie.Need-returns-in-Lines
-returns-in-Lines c = user_then _ _ (sym c.is_normal.ensures ∙ not-false _ c.if-not-is_normal.false) _ _ _ _ _ _ _ _ _ _ (rw c.in-Lines.is at c.start_one.ensures) c.include_entry.ensures
+returns-in-Lines c = user_then _ _ (sym c.is_normal.ensures ∙ c.if-not-is_normal.false) _ _ _ _ _ _ _ _ _ _ (rw c.in-Lines.is at c.start_one.ensures) c.include_entry.ensures
 
 pub include_user_entry_spec : {M : Type 1} → statement M
 include_user_entry_spec =

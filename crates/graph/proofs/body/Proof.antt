@@ -10,7 +10,7 @@ use Rattle.graph.proofs.body.Statement.{statement}
 use Rattle.graph.proofs.body.Tie as tie
 
 -- the layout, once the symbols are read
-laid : (c : tie.After-symbols) → Laid c.args.h at_verdicts c.symbols.new.1.1.1.0
+laid : (c : tie.After-symbols) → Laid c.args.h at_verdicts c.symbols.new.tables
 laid c = laid_kept c.requires.0.0 1 (omega arith) c.symbols.ensures.2
 
 symbols-requires : tie.Need-symbols-requires

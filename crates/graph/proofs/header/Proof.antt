@@ -55,11 +55,11 @@ returns-in-Fault-counter c = sym (row_go (_ ∷ _ ∷ []) _ _ _ (sym c.row.ensur
 
 returns-in-Fault-counter-2 : tie.Need-returns-in-Fault-counter-2
 unfolding header_rules columns_of
-returns-in-Fault-counter-2 c = sym (row_go (_ ∷ _ ∷ []) _ _ _ (sym c.row.ensures ∙ c.in-At.is) ∙ cells_go _ _ _ _ (sym c.counter.ensures ∙ c.in-At-counter.is) ∙ cells_stop _ _ _ _ (sym c.counter-in-At-counter.ensures ∙ c.n-in-Fault-counter-2-1.given.1))
+returns-in-Fault-counter-2 c = sym (row_go (_ ∷ _ ∷ []) _ _ _ (sym c.row.ensures ∙ c.in-At.is) ∙ cells_go _ _ _ _ (sym c.counter.ensures ∙ c.in-At-counter.is) ∙ cells_stop _ _ _ _ (sym c.counter-in-At-counter.ensures ∙ c.in-Fault-counter-2.is))
 
 returns-in-At-counter-2 : tie.Need-returns-in-At-counter-2
 unfolding header_rules columns_of
-returns-in-At-counter-2 c = c.last_counts.ensures ∙ sym (row_go (_ ∷ _ ∷ []) _ _ _ (sym c.row.ensures ∙ c.in-At.is) ∙ cells_go _ _ _ _ (sym c.counter.ensures ∙ c.in-At-counter.is) ∙ cells_go _ _ _ _ (sym c.counter-in-At-counter.ensures ∙ c.c-1.given.1))
+returns-in-At-counter-2 c = c.last_counts.ensures ∙ sym (row_go (_ ∷ _ ∷ []) _ _ _ (sym c.row.ensures ∙ c.in-At.is) ∙ cells_go _ _ _ _ (sym c.counter.ensures ∙ c.in-At-counter.is) ∙ cells_go _ _ _ _ (sym c.counter-in-At-counter.ensures ∙ c.in-At-counter-2.is))
 
 pub header_spec : {M : Type 1} → statement M
 header_spec =

@@ -10,14 +10,14 @@ use Rattle.graph.proofs.load.Statement.{statement}
 use Rattle.graph.proofs.load.Tie as tie
 
 -- the layout, before and after the parts are read, and their sections
-begun : (c : tie.After-lay_out) → Laid c.args.h at_verdicts c.lay_out.new.0
+begun : (c : tie.After-lay_out) → Laid c.args.h at_verdicts c.lay_out.new.tables
 begun c = let k = c.lay_out.auto.0 in
     record { known = omega arith; few = omega (arith, k, c.requires.1.1); starts = c.lay_out.ensures; fits = omega (arith, k, c.requires.1.0) }
 
-laid : (c : tie.After-parts) → Laid c.args.h at_verdicts c.parts.new.1.1.0
+laid : (c : tie.After-parts) → Laid c.args.h at_verdicts c.parts.new.tables
 laid c = laid_kept (begun c.before.before.before.before) 0 (omega arith) c.parts.ensures.2
 
-places : (c : tie.In-At) → Places c.args.numbers.now c.parts.new.1.1.0
+places : (c : tie.In-At) → Places c.args.numbers.now c.parts.new.tables
 places c = c.parts.ensures.1.known _ c.in-At.is
 
 lay_out-requires : tie.Need-lay_out-requires

@@ -4,7 +4,7 @@ use lib.ListN.{drop}
 use Rattle.graph.specs.Check.{each, owns_namespace}
 use Rattle.graph_entries.specs.graph_tables_crate.Tables.{header_in, modules_in, symbols_in}
 use Rattle.graph_entries.proofs.graph_tables_crate.Facts.{modules_long, its-place, at-inside}
-use borrow.Author.Tests.{not_true, not-false}
+use borrow.Author.Tests.{not-true, not-false}
 use Rattle.graph.proofs.LaterRules.{all_go, all_stop, all_end}
 use borrow.Author.Rules.{rules}
 use native.Mathlib.Omega.{arith}
@@ -36,7 +36,7 @@ overflow_add-result : tie.Need-overflow_add-result invariant-loop-m decreases-lo
 overflow_add-result c = let n : c.loop-m.m < (header_in c.args.numbers.now).modules = omega (arith, c.requires.1.1, c.loop-m-test.true) in omega (arith, at-inside _ _ c.requires.0 _ n 7 (omega arith))
 
 returns-then-not-owns_namespace : tie.Need-returns-then-not-owns_namespace invariant-loop-m decreases-loop-m
-returns-then-not-owns_namespace c = let n : c.loop-m.m < (header_in c.args.numbers.now).modules = omega (arith, c.requires.1.1, c.loop-m-test.true) in all_stop _ _ _ _ c.loop-m.invariant.1 (omega (arith, modules_long _ _ c.requires.0, n)) c.owns_namespace.ensures (not_true _ c.if-not-owns_namespace.true) (its-place _ _ c.requires.0 _ n)
+returns-then-not-owns_namespace c = let n : c.loop-m.m < (header_in c.args.numbers.now).modules = omega (arith, c.requires.1.1, c.loop-m-test.true) in all_stop _ _ _ _ c.loop-m.invariant.1 (omega (arith, modules_long _ _ c.requires.0, n)) c.owns_namespace.ensures (c.if-not-owns_namespace.true) (its-place _ _ c.requires.0 _ n)
 
 overflow_add-m : tie.Need-overflow_add-m invariant-loop-m decreases-loop-m
 overflow_add-m c = search rules
@@ -45,7 +45,7 @@ loop-m-smaller : tie.Need-loop-m-smaller invariant-loop-m decreases-loop-m
 loop-m-smaller c = search rules
 
 loop-m-preserved : tie.Need-loop-m-preserved invariant-loop-m decreases-loop-m
-loop-m-preserved c = (omega (arith, c.loop-m-test.true), all_go _ _ _ _ c.loop-m.invariant.1 (omega (arith, modules_long _ _ c.requires.0, c.requires.1.1, c.loop-m-test.true)) c.owns_namespace.ensures (not-false _ c.if-not-owns_namespace.false))
+loop-m-preserved c = (omega (arith, c.loop-m-test.true), all_go _ _ _ _ c.loop-m.invariant.1 (omega (arith, modules_long _ _ c.requires.0, c.requires.1.1, c.loop-m-test.true)) c.owns_namespace.ensures (c.if-not-owns_namespace.false))
 
 returns : tie.Need-returns invariant-loop-m decreases-loop-m
 returns c = all_end _ _ _ _ c.loop-m.invariant.1 (omega (arith, modules_long _ _ c.requires.0, c.requires.1.1, c.loop-m-test.false))

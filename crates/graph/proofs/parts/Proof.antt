@@ -15,10 +15,10 @@ helped : (c : tie.In-At) → c.in-At.a ≡ 7 + c.args.h.helpers
 helped c = helpers_end _ _ c.requires.0.0 (sym c.plain_rows.ensures ∙ c.in-At.is)
 
 -- the layout, and the modules' section once they are read
-laid : (c : tie.After-modules) → Laid c.args.h at_verdicts c.modules.new.1.1.1.0
+laid : (c : tie.After-modules) → Laid c.args.h at_verdicts c.modules.new.tables
 laid c = laid_kept c.requires.1 0 (omega arith) c.modules.ensures.2
 
-table : (c : tie.In-At-modules) → ModuleTable c.args.numbers.now (module_places c.modules.new.1.1.1.0)
+table : (c : tie.In-At-modules) → ModuleTable c.args.numbers.now (module_places c.modules.new.tables)
 table c = module-table _ _ c.requires.0.0 _ (laid c.before.before.before) _ _ (helped c.before.before.before.before.before) (sym c.modules.ensures.0 ∙ c.in-At-modules.is) c.modules.ensures.1
 
 plain_rows-requires : tie.Need-plain_rows-requires

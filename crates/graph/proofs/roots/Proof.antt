@@ -4,7 +4,7 @@ use lib.ListN.{drop}
 use Rattle.graph.specs.Check.{each, root_is_root}
 use Rattle.graph_entries.specs.graph_tables_crate.Tables.{header_in, symbols_in}
 use Rattle.graph_entries.proofs.graph_tables_crate.Facts.{symbols_long, symbol-place, symbol_inside}
-use borrow.Author.Tests.{not_true, not-false}
+use borrow.Author.Tests.{not-true, not-false}
 use Rattle.graph.proofs.LaterRules.{all_go, all_stop, all_end}
 use borrow.Author.Rules.{rules}
 use native.Mathlib.Omega.{arith}
@@ -36,7 +36,7 @@ overflow_add-result : tie.Need-overflow_add-result invariant-loop-s decreases-lo
 overflow_add-result c = let n : c.loop-s.s < (header_in c.args.numbers.now).symbols = omega (arith, c.requires.1, c.loop-s-test.true) in omega (arith, symbol_inside _ _ c.requires.0 _ n 2 (omega arith))
 
 returns-then-not-root_is_root : tie.Need-returns-then-not-root_is_root invariant-loop-s decreases-loop-s
-returns-then-not-root_is_root c = let n : c.loop-s.s < (header_in c.args.numbers.now).symbols = omega (arith, c.requires.1, c.loop-s-test.true) in all_stop _ _ _ _ c.loop-s.invariant.1 (omega (arith, symbols_long _ _ c.requires.0, n)) c.root_is_root.ensures (not_true _ c.if-not-root_is_root.true) (symbol-place _ _ c.requires.0 _ n)
+returns-then-not-root_is_root c = let n : c.loop-s.s < (header_in c.args.numbers.now).symbols = omega (arith, c.requires.1, c.loop-s-test.true) in all_stop _ _ _ _ c.loop-s.invariant.1 (omega (arith, symbols_long _ _ c.requires.0, n)) c.root_is_root.ensures (c.if-not-root_is_root.true) (symbol-place _ _ c.requires.0 _ n)
 
 overflow_add-s : tie.Need-overflow_add-s invariant-loop-s decreases-loop-s
 overflow_add-s c = search rules
@@ -45,7 +45,7 @@ loop-s-smaller : tie.Need-loop-s-smaller invariant-loop-s decreases-loop-s
 loop-s-smaller c = search rules
 
 loop-s-preserved : tie.Need-loop-s-preserved invariant-loop-s decreases-loop-s
-loop-s-preserved c = (omega (arith, c.loop-s-test.true), all_go _ _ _ _ c.loop-s.invariant.1 (omega (arith, symbols_long _ _ c.requires.0, c.requires.1, c.loop-s-test.true)) c.root_is_root.ensures (not-false _ c.if-not-root_is_root.false))
+loop-s-preserved c = (omega (arith, c.loop-s-test.true), all_go _ _ _ _ c.loop-s.invariant.1 (omega (arith, symbols_long _ _ c.requires.0, c.requires.1, c.loop-s-test.true)) c.root_is_root.ensures (c.if-not-root_is_root.false))
 
 returns : tie.Need-returns invariant-loop-s decreases-loop-s
 returns c = all_end _ _ _ _ c.loop-s.invariant.1 (omega (arith, symbols_long _ _ c.requires.0, c.requires.1, c.loop-s-test.false))

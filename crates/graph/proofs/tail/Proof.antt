@@ -10,7 +10,7 @@ use Rattle.graph.proofs.tail.Statement.{statement}
 use Rattle.graph.proofs.tail.Tie as tie
 
 -- the layout, once the statements are read
-laid : (c : tie.After-statements) → Laid c.args.h at_verdicts c.statements.new.1.1.1.0
+laid : (c : tie.After-statements) → Laid c.args.h at_verdicts c.statements.new.tables
 laid c = laid_kept c.requires.0.0 2 (omega arith) c.statements.ensures.2
 
 statements-requires : tie.Need-statements-requires

@@ -56,11 +56,11 @@ returns-in-Fault-row c = sym (row_go (_ ∷ _ ∷ _ ∷ []) _ _ _ (sym c.row.ens
 
 returns-in-Fault-row-2 : tie.Need-returns-in-Fault-row-2
 unfolding columns_of module_rules
-returns-in-Fault-row-2 c = sym (row_go (_ ∷ _ ∷ _ ∷ []) _ _ _ (sym c.row.ensures ∙ c.in-At.is) ∙ row_go (_ ∷ _ ∷ _ ∷ []) _ _ _ (sym c.row-in-At.ensures ∙ c.in-At-row.is) ∙ row_stop (_ ∷ []) _ _ _ (sym c.row-in-At-row.ensures ∙ c.n-in-Fault-row-3-1.given.1))
+returns-in-Fault-row-2 c = sym (row_go (_ ∷ _ ∷ _ ∷ []) _ _ _ (sym c.row.ensures ∙ c.in-At.is) ∙ row_go (_ ∷ _ ∷ _ ∷ []) _ _ _ (sym c.row-in-At.ensures ∙ c.in-At-row.is) ∙ row_stop (_ ∷ []) _ _ _ (sym c.row-in-At-row.ensures ∙ c.in-Fault-row-2.is))
 
 returns-in-At-row-2 : tie.Need-returns-in-At-row-2
 unfolding columns_of module_rules
-returns-in-At-row-2 c = c.module_counts.ensures ∙ sym (row_go (_ ∷ _ ∷ _ ∷ []) _ _ _ (sym c.row.ensures ∙ c.in-At.is) ∙ row_go (_ ∷ _ ∷ _ ∷ []) _ _ _ (sym c.row-in-At.ensures ∙ c.in-At-row.is) ∙ row_go (_ ∷ []) _ _ _ (sym c.row-in-At-row.ensures ∙ c.c-1.given.1))
+returns-in-At-row-2 c = c.module_counts.ensures ∙ sym (row_go (_ ∷ _ ∷ _ ∷ []) _ _ _ (sym c.row.ensures ∙ c.in-At.is) ∙ row_go (_ ∷ _ ∷ _ ∷ []) _ _ _ (sym c.row-in-At.ensures ∙ c.in-At-row.is) ∙ row_go (_ ∷ []) _ _ _ (sym c.row-in-At-row.ensures ∙ c.in-At-row-2.is))
 
 pub module_head_spec : {M : Type 1} → statement M
 module_head_spec =

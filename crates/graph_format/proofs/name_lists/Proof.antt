@@ -50,11 +50,11 @@ returns-in-Fault-rows c = sym (lists_go _ _ _ _ (sym c.rows.ensures ∙ c.in-At.
 
 returns-in-Fault-rows-2 : tie.Need-returns-in-Fault-rows-2
 unfolding row_of columns_of name_lists
-returns-in-Fault-rows-2 c = sym (lists_go _ _ _ _ (sym c.rows.ensures ∙ c.in-At.is) ∙ lists_go _ _ _ _ (sym c.rows-in-At.ensures ∙ c.in-At-rows.is) ∙ lists_stop _ _ _ _ (sym c.rows-in-At-rows.ensures ∙ c.n-in-Fault-rows-3-1.given.1))
+returns-in-Fault-rows-2 c = sym (lists_go _ _ _ _ (sym c.rows.ensures ∙ c.in-At.is) ∙ lists_go _ _ _ _ (sym c.rows-in-At.ensures ∙ c.in-At-rows.is) ∙ lists_stop _ _ _ _ (sym c.rows-in-At-rows.ensures ∙ c.in-Fault-rows-2.is))
 
 returns-in-At-rows-2 : tie.Need-returns-in-At-rows-2
 unfolding row_of columns_of name_lists
-returns-in-At-rows-2 c = c.rows-in-At-rows-2.ensures ∙ sym (lists_go _ _ _ _ (sym c.rows.ensures ∙ c.in-At.is) ∙ lists_go _ _ _ _ (sym c.rows-in-At.ensures ∙ c.in-At-rows.is) ∙ lists_go _ _ _ _ (sym c.rows-in-At-rows.ensures ∙ c.c-1.given.1) ∙ lists_one _ _ _)
+returns-in-At-rows-2 c = c.rows-in-At-rows-2.ensures ∙ sym (lists_go _ _ _ _ (sym c.rows.ensures ∙ c.in-At.is) ∙ lists_go _ _ _ _ (sym c.rows-in-At.ensures ∙ c.in-At-rows.is) ∙ lists_go _ _ _ _ (sym c.rows-in-At-rows.ensures ∙ c.in-At-rows-2.is) ∙ lists_one _ _ _)
 
 pub name_lists_spec : {M : Type 1} → statement M
 name_lists_spec =

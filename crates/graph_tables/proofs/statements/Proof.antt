@@ -45,13 +45,13 @@ fits c =
     omega (arith, in_table _ _ c.requires.0.1 _ _ (in-header c.before.before.before.before) c.module_number-count.ensures, o.sum, o.kept.same_length, room c.before.before.before.before.before.before.before.before.before.before.before, places_at c.before.before.before.before.before.before.before.before.before.before.before, ap (λ x. x.statements) c.requires.1)
 
 -- what the call for module m kept, and the word that is then written
-kept : (c : tie.After-module_statements invariant-loop-m decreases-loop-m) → Kept (start_of c.args.h at_statements + c.loop-m.first) c.loop-m.tables c.module_statements.new.1.1.1.1.1.1.0
+kept : (c : tie.After-module_statements invariant-loop-m decreases-loop-m) → Kept (start_of c.args.h at_statements + c.loop-m.first) c.loop-m.tables c.module_statements.new.tables
 kept c = rw (places_at c.before.before.before.before.before.before.before.before.before.before.before.before.before) at c.module_statements.ensures.2
 
 spot : (c : tie.In-At invariant-loop-m decreases-loop-m) → get_or c.args.tables.now 2 0 + c.loop-m.m ≡ start_of c.args.h at_first_statements + c.loop-m.m
 spot c = ap (λ b. b + c.loop-m.m) (c.requires.0.0.starts 2 (omega arith))
 
-writes : (c : tie.In-At invariant-loop-m decreases-loop-m) → get_or c.args.tables.now 2 0 + c.loop-m.m < length c.module_statements.new.1.1.1.1.1.1.0
+writes : (c : tie.In-At invariant-loop-m decreases-loop-m) → get_or c.args.tables.now 2 0 + c.loop-m.m < length c.module_statements.new.tables
 writes c = outer-writes c.loop-m.invariant.1 c.loop-m-test.true (omega (arith, room c.before.before.before.before.before.before.before.before.before.before.before.before.before.before.before.before)) (kept c.before.before.before) (spot c)
 
 bounds-tables-2 : tie.Need-bounds-tables-2 invariant-loop-m decreases-loop-m

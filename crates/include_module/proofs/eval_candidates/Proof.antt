@@ -1,5 +1,5 @@
 use Rattle.include_module.proofs.Following.{no_eval, eval-all, eval-none}
-use borrow.Author.Tests.{not_true, not-false}
+use borrow.Author.Tests.{not-true, not-false}
 use mathlib.Core.Path.{◌∙◌, sym}
 use native.Mathlib.Omega.{arith}
 use Rattle.include_module.proofs.eval_candidates.Statement.{statement}
@@ -12,7 +12,7 @@ flag-requires : tie.Need-flag-requires
 flag-requires c κs = (omega arith)
 
 returns-then-not-flag : tie.Need-returns-then-not-flag
-returns-then-not-flag c = no_eval _ _ _ c.flags.ensures (sym c.flag.ensures ∙ not_true _ c.if-not-flag.true)
+returns-then-not-flag c = no_eval _ _ _ c.flags.ensures (sym c.flag.ensures ∙ c.if-not-flag.true)
 
 module_type-requires : tie.Need-module_type-requires
 module_type-requires c κs = (c.requires.0.loaded, c.requires.1)
@@ -21,10 +21,10 @@ named_import_count-requires : tie.Need-named_import_count-requires
 named_import_count-requires c κs = (c.requires.0.loaded, c.requires.1)
 
 returns-then-module_type-lt2 : tie.Need-returns-then-module_type-lt2
-returns-then-module_type-lt2 c = eval-all _ _ _ c.flags.ensures _ c.module_type.ensures (sym c.flag.ensures ∙ not-false _ c.if-not-flag.false) c.if-module_type-lt2.true c.named_import_count.ensures.0
+returns-then-module_type-lt2 c = eval-all _ _ _ c.flags.ensures _ c.module_type.ensures (sym c.flag.ensures ∙ c.if-not-flag.false) c.if-module_type-lt2.true c.named_import_count.ensures.0
 
 returns : tie.Need-returns
-returns c = eval-none _ _ _ c.flags.ensures _ c.module_type.ensures (sym c.flag.ensures ∙ not-false _ c.if-not-flag.false) c.if-module_type-lt2.false
+returns c = eval-none _ _ _ c.flags.ensures _ c.module_type.ensures (sym c.flag.ensures ∙ c.if-not-flag.false) c.if-module_type-lt2.false
 
 pub eval_candidates_spec : {M : Type 1} → statement M
 eval_candidates_spec =

@@ -4,7 +4,7 @@ use Rattle.determine_side_effects.specs.graph_access_crate.Words.{flag}
 use Rattle.determine_side_effects.specs.Effects.{last_verdicts}
 use Rattle.on_demand.specs.Demand.{on_demand, gated}
 use Rattle.keep_rules.specs.Rules.{effect_bit}
-use borrow.Author.Tests.{not_true, not-false}
+use borrow.Author.Tests.{not-true, not-false}
 use mathlib.Core.Path.{◌≡◌, ap, ◌∙◌, sym}
 use mathlib.Core.Bool.{true, false}
 use native.Mathlib.Omega.{arith}
@@ -33,13 +33,13 @@ is_on_demand-requires : tie.Need-is_on_demand-requires
 is_on_demand-requires c κs = (c.requires.0.demands, c.requires.1.0)
 
 returns-then-not-is_on_demand : tie.Need-returns-then-not-is_on_demand
-returns-then-not-is_on_demand c = swept_free _ _ _ _ _ c.bits-bits.ensures (sym (effect c.before.before.before) ∙ c.if-flag.true) (sym c.is_on_demand.ensures ∙ not_true _ c.if-not-is_on_demand.true)
+returns-then-not-is_on_demand c = swept_free _ _ _ _ _ c.bits-bits.ensures (sym (effect c.before.before.before) ∙ c.if-flag.true) (sym c.is_on_demand.ensures ∙ c.if-not-is_on_demand.true)
 
 is_gated_side_effect_stmt-requires : tie.Need-is_gated_side_effect_stmt-requires
 is_gated_side_effect_stmt-requires c κs = (c.requires.0.loaded, c.requires.1)
 
 returns-then-not-is_gated_side_effect_stmt : tie.Need-returns-then-not-is_gated_side_effect_stmt
-returns-then-not-is_gated_side_effect_stmt c = swept_ungated _ _ _ _ _ c.bits-bits.ensures (sym (effect c.before.before.before.before.before) ∙ c.if-flag.true) (sym c.is_gated_side_effect_stmt.ensures ∙ not_true _ c.if-not-is_gated_side_effect_stmt.true)
+returns-then-not-is_gated_side_effect_stmt c = swept_ungated _ _ _ _ _ c.bits-bits.ensures (sym (effect c.before.before.before.before.before) ∙ c.if-flag.true) (sym c.is_gated_side_effect_stmt.ensures ∙ c.if-not-is_gated_side_effect_stmt.true)
 
 flags-requires : tie.Need-flags-requires
 flags-requires c κs = (c.requires.0.loaded, c.requires.1.0)
@@ -48,13 +48,13 @@ flag-requires-2 : tie.Need-flag-requires-2
 flag-requires-2 c κs = (omega arith)
 
 returns-then-not-flag : tie.Need-returns-then-not-flag
-returns-then-not-flag c = swept-not _ _ _ _ _ c.bits-bits.ensures (out c.before.before.before) _ c.flags.ensures (sym c.flag-2.ensures ∙ not_true _ c.if-not-flag.true)
+returns-then-not-flag c = swept-not _ _ _ _ _ c.bits-bits.ensures (out c.before.before.before) _ c.flags.ensures (sym c.flag-2.ensures ∙ c.if-not-flag.true)
 
 flag-requires-3 : tie.Need-flag-requires-3
 flag-requires-3 c κs = (omega arith)
 
 returns : tie.Need-returns
-returns c = c.flag-3.ensures ∙ swept-declares _ _ _ _ _ c.bits-bits.ensures (out c.before.before.before.before) _ c.flags.ensures (sym c.flag-2.ensures ∙ not-false _ c.if-not-flag.false)
+returns c = c.flag-3.ensures ∙ swept-declares _ _ _ _ _ c.bits-bits.ensures (out c.before.before.before.before) _ c.flags.ensures (sym c.flag-2.ensures ∙ c.if-not-flag.false)
 
 pub swept_shaken_spec : {M : Type 1} → statement M
 swept_shaken_spec =

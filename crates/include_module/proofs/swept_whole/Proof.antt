@@ -1,5 +1,5 @@
 use Rattle.include_module.proofs.Sweeping.{whole_free, whole_effect}
-use borrow.Author.Tests.{not_true, not-false}
+use borrow.Author.Tests.{not-true, not-false}
 use mathlib.Core.Path.{◌∙◌, sym}
 use native.Mathlib.Omega.{arith}
 use Rattle.include_module.proofs.swept_whole.Statement.{statement}
@@ -12,13 +12,13 @@ flag-requires : tie.Need-flag-requires
 flag-requires c κs = (omega arith)
 
 returns-then-not-flag : tie.Need-returns-then-not-flag
-returns-then-not-flag c = whole_free _ _ _ _ c.bits-bits.ensures (sym c.flag.ensures ∙ not_true _ c.if-not-flag.true)
+returns-then-not-flag c = whole_free _ _ _ _ c.bits-bits.ensures (sym c.flag.ensures ∙ c.if-not-flag.true)
 
 flag-requires-2 : tie.Need-flag-requires-2
 flag-requires-2 c κs = (omega arith)
 
 returns : tie.Need-returns
-returns c = c.flag-2.ensures ∙ whole_effect _ _ _ _ c.bits-bits.ensures (sym c.flag.ensures ∙ not-false _ c.if-not-flag.false)
+returns c = c.flag-2.ensures ∙ whole_effect _ _ _ _ c.bits-bits.ensures (sym c.flag.ensures ∙ c.if-not-flag.false)
 
 pub swept_whole_spec : {M : Type 1} → statement M
 swept_whole_spec =

@@ -3,7 +3,7 @@ use Rattle.determine_side_effects.specs.graph_access_crate.Words.{statement_of}
 use Rattle.include_statement.proofs.Enums.{of_external, written, deeper, its-member}
 use Rattle.include_statement.proofs.Stands.{five-here, object-is, write-is, count_is, first_is, symbol_below}
 use Rattle.determine_side_effects.specs.graph_access_crate.Names.{references, reference_symbol}
-use borrow.Author.Tests.{not_true, not-false}
+use borrow.Author.Tests.{not-true, not-false}
 use Prim.Native.Nat.{◌<◌}
 use mathlib.Core.Path.{◌≡◌, ◌∙◌, sym}
 use native.Mathlib.Omega.{arith}
@@ -43,7 +43,7 @@ is_normal-requires : tie.Need-is_normal-requires
 is_normal-requires c κs = (c.requires.0.loaded, c.owner-owner.ensures.1)
 
 returns-then-not-is_normal : tie.Need-returns-then-not-is_normal
-returns-then-not-is_normal c = of_external _ _ _ _ _ (object c.before.before.before.before) c.root-root.ensures.0 c.owner-owner.ensures.0 (sym c.is_normal.ensures ∙ not_true _ c.if-not-is_normal.true)
+returns-then-not-is_normal c = of_external _ _ _ _ _ (object c.before.before.before.before) c.root-root.ensures.0 c.owner-owner.ensures.0 (sym c.is_normal.ensures ∙ c.if-not-is_normal.true)
 
 overflow_add-place-2 : tie.Need-overflow_add-place-2
 overflow_add-place-2 c = omega (arith, five-here c.requires.1.0 c.requires.1.1)
@@ -55,7 +55,7 @@ bounds-numbers-place-2 : tie.Need-bounds-numbers-place-2
 bounds-numbers-place-2 c = omega (arith, five-here c.requires.1.0 c.requires.1.1)
 
 returns-then-numbers-place-ne0 : tie.Need-returns-then-numbers-place-ne0
-returns-then-numbers-place-ne0 c = written _ _ _ _ _ (object c.before.before.before.before.before.before) c.root-root.ensures.0 c.owner-owner.ensures.0 (sym c.is_normal.ensures ∙ not-false _ c.if-not-is_normal.false) _ (write-is c.requires.1.0 c.requires.1.1) c.if-numbers-place-ne0.true
+returns-then-numbers-place-ne0 c = written _ _ _ _ _ (object c.before.before.before.before.before.before) c.root-root.ensures.0 c.owner-owner.ensures.0 (sym c.is_normal.ensures ∙ c.if-not-is_normal.false) _ (write-is c.requires.1.0 c.requires.1.1) c.if-numbers-place-ne0.true
 
 overflow_add-place-3 : tie.Need-overflow_add-place-3
 overflow_add-place-3 c = omega (arith, five-here c.requires.1.0 c.requires.1.1)
@@ -67,7 +67,7 @@ bounds-numbers-place-3 : tie.Need-bounds-numbers-place-3
 bounds-numbers-place-3 c = omega (arith, five-here c.requires.1.0 c.requires.1.1)
 
 returns-then-numbers-place-ne1 : tie.Need-returns-then-numbers-place-ne1
-returns-then-numbers-place-ne1 c = deeper _ _ _ _ _ (object c.before.before.before.before.before.before.before.before) c.root-root.ensures.0 c.owner-owner.ensures.0 (sym c.is_normal.ensures ∙ not-false _ c.if-not-is_normal.false) _ (write-is c.requires.1.0 c.requires.1.1) c.if-numbers-place-ne0.false _ (count_is c.requires.1.0 c.requires.1.1) c.if-numbers-place-ne1.true
+returns-then-numbers-place-ne1 c = deeper _ _ _ _ _ (object c.before.before.before.before.before.before.before.before) c.root-root.ensures.0 c.owner-owner.ensures.0 (sym c.is_normal.ensures ∙ c.if-not-is_normal.false) _ (write-is c.requires.1.0 c.requires.1.1) c.if-numbers-place-ne0.false _ (count_is c.requires.1.0 c.requires.1.1) c.if-numbers-place-ne1.true
 
 name-name-requires : tie.Need-name-name-requires
 name-name-requires c κs = (c.requires.0.loaded, c.root-root.ensures.1)
@@ -88,7 +88,7 @@ enum_member-requires : tie.Need-enum_member-requires
 enum_member-requires c κs = (c.requires.0, c.owner-owner.ensures.1)
 
 returns : tie.Need-returns
-returns c = its-member _ _ _ _ _ (object c.before.before.before.before.before.before.before.before.before.before.before.before) c.root-root.ensures.0 c.owner-owner.ensures.0 (sym c.is_normal.ensures ∙ not-false _ c.if-not-is_normal.false) _ (write-is c.requires.1.0 c.requires.1.1) c.if-numbers-place-ne0.false _ (count_is c.requires.1.0 c.requires.1.1) _ _ c.if-numbers-place-ne1.false c.name-name.ensures (c.wide-2.ensures ∙ first_is c.requires.1.0 c.requires.1.1) c.enum_member.ensures
+returns c = its-member _ _ _ _ _ (object c.before.before.before.before.before.before.before.before.before.before.before.before) c.root-root.ensures.0 c.owner-owner.ensures.0 (sym c.is_normal.ensures ∙ c.if-not-is_normal.false) _ (write-is c.requires.1.0 c.requires.1.1) c.if-numbers-place-ne0.false _ (count_is c.requires.1.0 c.requires.1.1) _ _ c.if-numbers-place-ne1.false c.name-name.ensures (c.wide-2.ensures ∙ first_is c.requires.1.0 c.requires.1.1) c.enum_member.ensures
 
 pub is_inlined_enum_member_access_spec : {M : Type 1} → statement M
 is_inlined_enum_member_access_spec =

@@ -1,4 +1,4 @@
-use borrow.Author.Tests.{not_true, not-false}
+use borrow.Author.Tests.{not-true, not-false}
 use Rattle.include_symbol.proofs.ByName.{pick_none, pick_external, pick_default, pick_missing, pick_found}
 use mathlib.Core.Path.{◌∙◌, sym}
 use native.Mathlib.Omega.{arith}
@@ -17,23 +17,23 @@ is_normal-requires : tie.Need-is_normal-requires
 is_normal-requires c κs = (c.requires.0.loaded, omega (arith, c.if-n-eq0.false, c.requires.1))
 
 returns-then-not-is_normal : tie.Need-returns-then-not-is_normal
-returns-then-not-is_normal c = (pick_external _ _ _ c.if-n-eq0.false (sym c.is_normal.ensures ∙ not_true _ c.if-not-is_normal.true), nothing_good)
+returns-then-not-is_normal c = (pick_external _ _ _ c.if-n-eq0.false (sym c.is_normal.ensures ∙ c.if-not-is_normal.true), nothing_good)
 
 returns-then-name-eq0 : tie.Need-returns-then-name-eq0
-returns-then-name-eq0 c = (pick_default _ _ _ c.if-n-eq0.false (sym c.is_normal.ensures ∙ not-false _ c.if-not-is_normal.false) c.if-name-eq0.true, nothing_good)
+returns-then-name-eq0 c = (pick_default _ _ _ c.if-n-eq0.false (sym c.is_normal.ensures ∙ c.if-not-is_normal.false) c.if-name-eq0.true, nothing_good)
 
 export_of-export-requires : tie.Need-export_of-export-requires
 export_of-export-requires c κs = (c.requires.0, omega (arith, c.if-n-eq0.false, c.requires.1))
 
 returns-then-export-eq0 : tie.Need-returns-then-export-eq0
-returns-then-export-eq0 c = (pick_missing _ _ _ c.if-n-eq0.false (sym c.is_normal.ensures ∙ not-false _ c.if-not-is_normal.false) c.if-name-eq0.false (sym c.export_of-export.ensures.0 ∙ c.if-export-eq0.true), nothing_good)
+returns-then-export-eq0 c = (pick_missing _ _ _ c.if-n-eq0.false (sym c.is_normal.ensures ∙ c.if-not-is_normal.false) c.if-name-eq0.false (sym c.export_of-export.ensures.0 ∙ c.if-export-eq0.true), nothing_good)
 
 overflow_sub-result : tie.Need-overflow_sub-result
 overflow_sub-result c = omega (arith, c.if-export-eq0.false)
 
 returns : tie.Need-returns
 unfolding graph_in
-returns c = (pick_found _ _ _ _ c.if-n-eq0.false (sym c.is_normal.ensures ∙ not-false _ c.if-not-is_normal.false) c.if-name-eq0.false c.export_of-export.ensures.0 c.if-export-eq0.false, gives_good (omega (arith, c.if-export-eq0.false, c.export_of-export.ensures.1), omega arith, omega arith))
+returns c = (pick_found _ _ _ _ c.if-n-eq0.false (sym c.is_normal.ensures ∙ c.if-not-is_normal.false) c.if-name-eq0.false c.export_of-export.ensures.0 c.if-export-eq0.false, gives_good (omega (arith, c.if-export-eq0.false, c.export_of-export.ensures.1), omega arith, omega arith))
 
 pub export_candidate_spec : {M : Type 1} → statement M
 export_candidate_spec =

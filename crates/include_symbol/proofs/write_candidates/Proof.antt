@@ -1,4 +1,4 @@
-use borrow.Author.Tests.{not_true, not-false}
+use borrow.Author.Tests.{not-true, not-false}
 use Rattle.include_symbol.proofs.OfTarget.{no_writes, writes-none, writes-all}
 use mathlib.Core.Path.{◌∙◌, sym}
 use native.Mathlib.Omega.{arith}
@@ -9,7 +9,7 @@ option-requires : tie.Need-option-requires
 option-requires c κs = (c.requires.0.loaded.long, omega arith)
 
 returns-then-not-option : tie.Need-returns-then-not-option
-returns-then-not-option c = no_writes _ _ (sym c.option.ensures ∙ not_true _ c.if-not-option.true)
+returns-then-not-option c = no_writes _ _ (sym c.option.ensures ∙ c.if-not-option.true)
 
 owner-o-requires : tie.Need-owner-o-requires
 owner-o-requires c κs = (c.requires.0.loaded, c.requires.1)
@@ -21,10 +21,10 @@ written_count-requires : tie.Need-written_count-requires
 written_count-requires c κs = (c.requires.0.loaded, c.requires.1)
 
 returns-then-is_normal : tie.Need-returns-then-is_normal
-returns-then-is_normal c = writes-all _ _ _ c.owner-o.ensures.0 (sym c.option.ensures ∙ not-false _ c.if-not-option.false) (sym c.is_normal.ensures ∙ c.if-is_normal.true) c.written_count.ensures.0
+returns-then-is_normal c = writes-all _ _ _ c.owner-o.ensures.0 (sym c.option.ensures ∙ c.if-not-option.false) (sym c.is_normal.ensures ∙ c.if-is_normal.true) c.written_count.ensures.0
 
 returns : tie.Need-returns
-returns c = writes-none _ _ _ c.owner-o.ensures.0 (sym c.option.ensures ∙ not-false _ c.if-not-option.false) (sym c.is_normal.ensures ∙ c.if-is_normal.false)
+returns c = writes-none _ _ _ c.owner-o.ensures.0 (sym c.option.ensures ∙ c.if-not-option.false) (sym c.is_normal.ensures ∙ c.if-is_normal.false)
 
 pub write_candidates_spec : {M : Type 1} → statement M
 write_candidates_spec =

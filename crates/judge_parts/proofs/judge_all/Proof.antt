@@ -1,5 +1,5 @@
 use Rattle.judge_parts.proofs.Answering.{lines_good, line_bad, start-absent, following-absent, all_there}
-use borrow.Author.Tests.{not_true, not-false}
+use borrow.Author.Tests.{not-true, not-false}
 use Rattle.judge_parts.proofs.judge_all.Statement.{statement}
 use Rattle.judge_parts.proofs.judge_all.Tie as tie
 
@@ -28,7 +28,7 @@ shape_of-marks-then-not-are_marked : tie.Need-shape_of-marks-then-not-are_marked
 shape_of-marks-then-not-are_marked c = c.judge_lines-first.auto.1.1.1.1.1.0
 
 returns-then-not-are_marked : tie.Need-returns-then-not-are_marked
-returns-then-not-are_marked c = start-absent _ _ _ _ c.judge_lines-first.ensures.0 c.if-first-count.false _ (c.judge_lines-first.ensures.1.marks_are c.if-first-count.false) _ c.are_marked.ensures (not_true _ c.if-not-are_marked.true)
+returns-then-not-are_marked c = start-absent _ _ _ _ c.judge_lines-first.ensures.0 c.if-first-count.false _ (c.judge_lines-first.ensures.1.marks_are c.if-first-count.false) _ c.are_marked.ensures (c.if-not-are_marked.true)
 
 are_closed-requires : tie.Need-are_closed-requires
 are_closed-requires c κs = (c.requires.0.0, (lines_good _ _ _ _ (c.judge_lines-first.ensures.1.all_stand c.if-first-count.false), (c.judge_lines-first.ensures.1.marks_are c.if-first-count.false).wide))
@@ -40,7 +40,7 @@ shape_of-marks-then-not-are_closed : tie.Need-shape_of-marks-then-not-are_closed
 shape_of-marks-then-not-are_closed c = c.judge_lines-first.auto.1.1.1.1.1.0
 
 returns-then-not-are_closed : tie.Need-returns-then-not-are_closed
-returns-then-not-are_closed c = following-absent _ _ _ _ c.judge_lines-first.ensures.0 c.if-first-count.false _ (c.judge_lines-first.ensures.1.marks_are c.if-first-count.false) _ c.are_marked.ensures (not-false _ c.if-not-are_marked.false) _ c.are_closed.ensures (not_true _ c.if-not-are_closed.true)
+returns-then-not-are_closed c = following-absent _ _ _ _ c.judge_lines-first.ensures.0 c.if-first-count.false _ (c.judge_lines-first.ensures.1.marks_are c.if-first-count.false) _ c.are_marked.ensures (c.if-not-are_marked.false) _ c.are_closed.ensures (c.if-not-are_closed.true)
 
 shape_of-begun : tie.Need-shape_of-begun
 shape_of-begun c = c.mark_starts.auto.1.1.1.0
@@ -49,7 +49,7 @@ shape_of-marks : tie.Need-shape_of-marks
 shape_of-marks c = c.judge_lines-first.auto.1.1.1.1.1.0
 
 returns : tie.Need-returns
-returns c = all_there _ _ _ _ c.judge_lines-first.ensures.0 c.if-first-count.false _ (c.judge_lines-first.ensures.1.marks_are c.if-first-count.false) _ c.are_marked.ensures (not-false _ c.if-not-are_marked.false) _ c.are_closed.ensures (not-false _ c.if-not-are_closed.false)
+returns c = all_there _ _ _ _ c.judge_lines-first.ensures.0 c.if-first-count.false _ (c.judge_lines-first.ensures.1.marks_are c.if-first-count.false) _ c.are_marked.ensures (c.if-not-are_marked.false) _ c.are_closed.ensures (c.if-not-are_closed.false)
 
 pub judge_all_spec : {M : Type 1} → statement M
 judge_all_spec =

@@ -1,6 +1,6 @@
 use Rattle.line_judgement.proofs.Naming.{form_is, line_good}
 use Rattle.line_judgement.proofs.Judging.{bad_form, bad-old, bad-unjustified, line-stands}
-use borrow.Author.Tests.{not_true, not-false}
+use borrow.Author.Tests.{not-true, not-false}
 use borrow.Author.Rules.{rules}
 use Rattle.line_judgement.proofs.judge_line.Statement.{statement}
 use Rattle.line_judgement.proofs.judge_line.Tie as tie
@@ -9,7 +9,7 @@ is_in_form-requires : tie.Need-is_in_form-requires
 is_in_form-requires c κs = search rules
 
 returns-then-not-is_in_form : tie.Need-returns-then-not-is_in_form
-returns-then-not-is_in_form c = bad_form _ _ _ _ _ _ c.is_in_form.ensures (not_true _ c.if-not-is_in_form.true)
+returns-then-not-is_in_form c = bad_form _ _ _ _ _ _ c.is_in_form.ensures (c.if-not-is_in_form.true)
 
 fact_at-fact-requires : tie.Need-fact_at-fact-requires
 fact_at-fact-requires c κs = search rules
@@ -21,7 +21,7 @@ shape_of-marks-then-is_marked : tie.Need-shape_of-marks-then-is_marked
 shape_of-marks-then-is_marked c = search rules
 
 returns-then-is_marked : tie.Need-returns-then-is_marked
-returns-then-is_marked c = bad-old _ _ _ _ _ _ c.is_in_form.ensures (not-false _ c.if-not-is_in_form.false) c.requires.1.0.1 _ c.fact_at-fact.ensures _ c.is_marked.ensures c.if-is_marked.true
+returns-then-is_marked c = bad-old _ _ _ _ _ _ c.is_in_form.ensures (c.if-not-is_in_form.false) c.requires.1.0.1 _ c.fact_at-fact.ensures _ c.is_marked.ensures c.if-is_marked.true
 
 justify-requires : tie.Need-justify-requires
 justify-requires c κs = (c.requires.0, (c.requires.1.0.0, (c.requires.1.1.0, c.requires.1.1.1, form_is _ _ _ _ c.is_in_form.ensures c.if-not-is_in_form.false, c.requires.1.1.2)))
@@ -39,13 +39,13 @@ shape_of-marks-in-Bad : tie.Need-shape_of-marks-in-Bad
 shape_of-marks-in-Bad c = search rules
 
 returns-in-Bad : tie.Need-returns-in-Bad
-returns-in-Bad c = bad-unjustified _ _ _ _ _ _ c.is_in_form.ensures (not-false _ c.if-not-is_in_form.false) c.requires.1.0.1 _ c.fact_at-fact.ensures _ c.is_marked.ensures c.if-is_marked.false _ c.justify.ensures c.in-Bad.is
+returns-in-Bad c = bad-unjustified _ _ _ _ _ _ c.is_in_form.ensures (c.if-not-is_in_form.false) c.requires.1.0.1 _ c.fact_at-fact.ensures _ c.is_marked.ensures c.if-is_marked.false _ c.justify.ensures c.in-Bad.is
 
 shape_of-marks-in-Stands : tie.Need-shape_of-marks-in-Stands
 shape_of-marks-in-Stands c = search rules
 
 returns-in-Stands : tie.Need-returns-in-Stands
-returns-in-Stands c = line-stands _ _ _ _ _ _ c.is_in_form.ensures (not-false _ c.if-not-is_in_form.false) c.requires.1.0.1 _ c.fact_at-fact.ensures _ c.is_marked.ensures c.if-is_marked.false _ c.justify.ensures _ c.in-Stands.is _ c.mark.ensures
+returns-in-Stands c = line-stands _ _ _ _ _ _ c.is_in_form.ensures (c.if-not-is_in_form.false) c.requires.1.0.1 _ c.fact_at-fact.ensures _ c.is_marked.ensures c.if-is_marked.false _ c.justify.ensures _ c.in-Stands.is _ c.mark.ensures
 
 pub judge_line_spec : {M : Type 1} → statement M
 judge_line_spec =

@@ -3,7 +3,7 @@ use mathlib.Core.Path.{◌≡◌, ap, ◌∙◌, sym}
 use mathlib.Core.Logic.{⊎_elim}
 use mathlib.Core.List.{List}
 use native.Mathlib.Omega.{arith}
-use borrow.Author.Tests.{not_true, not-false}
+use borrow.Author.Tests.{not-true, not-false}
 use lib.ListN.{length, get_or}
 use Rattle.determine_side_effects.specs.graph_format_crate.declared.Header.{Header}
 use Rattle.determine_side_effects.specs.tables_crate.Layout.{sizes, start_of, Laid, Kept, bodies_in, at_bodies, all_sections}
@@ -28,7 +28,7 @@ abbrev decreases-loop-m : tie.decreases-loop-m
 decreases-loop-m numbers tables₀ h m₀ tables m = h.modules - m
 
 -- the section was cleared, what is in front of it stays
-cleared : (c : tie.After-clear invariant-loop-m decreases-loop-m) → Kept (start_of (header_in c.args.numbers.now) at_bodies) c.args.tables.now c.clear.new.0
+cleared : (c : tie.After-clear invariant-loop-m decreases-loop-m) → Kept (start_of (header_in c.args.numbers.now) at_bodies) c.args.tables.now c.clear.new.tables
 cleared c = let p = c.requires.1.laid.starts 7 (omega arith) in kept_less (omega (arith, p)) c.clear.ensures.0
 
 kept : (c : tie.At-loop-m invariant-loop-m decreases-loop-m) → Kept (start_of (header_in c.args.numbers.now) at_bodies) c.args.tables.now c.loop-m.tables
@@ -76,7 +76,7 @@ shape_of-tables-then-not-flag c = (cleared c.before.before.before.before).same_l
 returns-then-not-flag : tie.Need-returns-then-not-flag invariant-loop-m decreases-loop-m
 unfolding option graph_in
 returns-then-not-flag c =
-    let o = ap (λ h. flag_of 0 h.options) (sym c.header_of-h.ensures) ∙ sym c.flag.ensures ∙ not_true _ c.if-not-flag.true in
+    let o = ap (λ h. flag_of 0 h.options) (sym c.header_of-h.ensures) ∙ sym c.flag.ensures ∙ c.if-not-flag.true in
     (record { long = long c.requires.1.laid (cleared c.before.before.before.before); has = λ s l. body_none _ _ s _ o (c.clear.ensures.1 s) }, cleared c.before.before.before.before)
 
 loop-m-init : tie.Need-loop-m-init invariant-loop-m decreases-loop-m
@@ -107,7 +107,7 @@ returns : tie.Need-returns invariant-loop-m decreases-loop-m
 unfolding option graph_in
 returns c =
     let i = c.loop-m.invariant in
-    let o = ap (λ h. flag_of 0 h.options) (sym c.header_of-h.ensures) ∙ sym c.flag.ensures ∙ not-false _ c.if-not-flag.false in
+    let o = ap (λ h. flag_of 0 h.options) (sym c.header_of-h.ensures) ∙ sym c.flag.ensures ∙ c.if-not-flag.false in
     let z : c.loop-m.m ≡ (header_in c.args.numbers.now).modules = omega (arith, i.1, c.loop-m-test.false, counted c.before) in
     let g = graph_in c.args.numbers.now in
     (record { long = long c.requires.1.laid (kept c.before.before); has = λ y l. body_all _ _ y _ o (i.2 y l ∙ ap (claimed g (last_verdicts g) y) z) }, kept c.before.before)

@@ -22,7 +22,7 @@ abbrev decreases-loop-m : tie.decreases-loop-m
 decreases-loop-m numbers tables₀ h base m₀ tables m = h.modules - m
 
 -- the entries are marked, what is in front of the section stays
-laid : (c : tie.After-mark_user_defined_entries invariant-loop-m decreases-loop-m) → Laid (header_in c.args.numbers.now) all_sections c.mark_user_defined_entries.new.1.0
+laid : (c : tie.After-mark_user_defined_entries invariant-loop-m decreases-loop-m) → Laid (header_in c.args.numbers.now) all_sections c.mark_user_defined_entries.new.tables
 laid c = laid_kept c.requires.1 6 (omega arith) c.mark_user_defined_entries.ensures.1
 
 kept : (c : tie.At-loop-m invariant-loop-m decreases-loop-m) → Kept (start_of (header_in c.args.numbers.now) at_on_demand) c.args.tables.now c.loop-m.tables
@@ -41,7 +41,7 @@ small : (c : tie.In-loop-m invariant-loop-m decreases-loop-m) → c.loop-m.m < (
 small c = omega (arith, c.loop-m-test.true, counted c.before)
 
 -- its word is one of the section
-fits : (c : tie.In-loop-m invariant-loop-m decreases-loop-m) → get_or c.mark_user_defined_entries.new.1.0 6 0 + c.loop-m.m < length c.loop-m.tables
+fits : (c : tie.In-loop-m invariant-loop-m decreases-loop-m) → get_or c.mark_user_defined_entries.new.tables 6 0 + c.loop-m.m < length c.loop-m.tables
 unfolding sizes
 fits c = word_fits (laid c.before.before.before.before.before.before.before) 6 (omega arith) c.loop-m.invariant.0 c.loop-m.m (small c)
 

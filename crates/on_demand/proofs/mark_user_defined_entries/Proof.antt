@@ -27,10 +27,10 @@ abbrev decreases-loop-e : tie.decreases-loop-e
 decreases-loop-e numbers tables₀ h base e₀ tables e = h.entries - e
 
 -- the section was cleared, what is in front of it stays
-cleared : (c : tie.After-clear invariant-loop-e decreases-loop-e) → Kept (start_of (header_in c.args.numbers.now) at_on_demand) c.args.tables.now c.clear.new.0
+cleared : (c : tie.After-clear invariant-loop-e decreases-loop-e) → Kept (start_of (header_in c.args.numbers.now) at_on_demand) c.args.tables.now c.clear.new.tables
 cleared c = let p = c.requires.1.starts 6 (omega arith) in kept_less (omega (arith, p)) c.clear.ensures.0
 
-laid : (c : tie.After-clear invariant-loop-e decreases-loop-e) → Laid (header_in c.args.numbers.now) all_sections c.clear.new.0
+laid : (c : tie.After-clear invariant-loop-e decreases-loop-e) → Laid (header_in c.args.numbers.now) all_sections c.clear.new.tables
 laid c = laid_kept c.requires.1 6 (omega arith) (cleared c)
 
 loaded : (c : tie.After-struct_known-1 invariant-loop-e decreases-loop-e) → Loaded c.args.numbers.now c.loop-e.tables
@@ -42,11 +42,11 @@ small : (c : tie.In-loop-e invariant-loop-e decreases-loop-e) → c.loop-e.e < (
 small c = omega (arith, c.loop-e-test.true, ap (λ h. h.entries) c.header_of-h.ensures)
 
 -- its module's word is one of the section
-fits : (c : tie.After-entry_module-m invariant-loop-e decreases-loop-e) → get_or c.clear.new.0 6 0 + c.entry_module-m.result.0 < length c.loop-e.tables
+fits : (c : tie.After-entry_module-m invariant-loop-e decreases-loop-e) → get_or c.clear.new.tables 6 0 + c.entry_module-m.result.0 < length c.loop-e.tables
 unfolding sizes
 fits c = word_fits (laid c.before.before.before.before.before.before.before.before.before) 6 (omega arith) c.loop-e.invariant.0 c.entry_module-m.result.0 c.entry_module-m.ensures.1
 
-turned : (c : tie.Joined-entry_kind-lt2 invariant-loop-e decreases-loop-e) → Turn (graph_in c.args.numbers.now).entries c.loop-e.e (header_in c.args.numbers.now) c.clear.new.0 c.loop-e.tables c.if-entry_kind-lt2.tables
+turned : (c : tie.Joined-entry_kind-lt2 invariant-loop-e decreases-loop-e) → Turn (graph_in c.args.numbers.now).entries c.loop-e.e (header_in c.args.numbers.now) c.clear.new.tables c.loop-e.tables c.if-entry_kind-lt2.tables
 unfolding entry_of
 turned c =
     let l : c.loop-e.e < length (graph_in c.args.numbers.now).entries = omega (arith, small c.before.before, entries_long _ _ c.requires.0.of_entries) in

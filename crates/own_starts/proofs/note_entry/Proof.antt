@@ -2,7 +2,7 @@ use Rattle.own_starts.proofs.Noting.{Along, along_start, along_step, along_last,
 use Rattle.entry_starts.proofs.Referring.{module_none, referred_from, referred_whole, referred_over, referred_next}
 use Rattle.entry_starts.specs.Starts.{module_starts}
 use Rattle.facts.specs.graph_crate.Check.{graph_in}
-use borrow.Author.Tests.{not_true, not-false}
+use borrow.Author.Tests.{not-true, not-false}
 use lib.ListN.{length}
 use Prim.Native.Nat.{◌-◌, ◌≤◌}
 use mathlib.Core.Path.{◌≡◌, refl, ◌∙◌, sym}
@@ -21,13 +21,13 @@ is_normal-requires : tie.Need-is_normal-requires invariant-loop-k decreases-loop
 is_normal-requires c κs = (c.requires.0.loaded, c.requires.1.1)
 
 returns-then-not-is_normal : tie.Need-returns-then-not-is_normal invariant-loop-k decreases-loop-k
-returns-then-not-is_normal c = notes_none _ _ (module_none _ _ (sym c.is_normal.ensures ∙ not_true _ c.if-not-is_normal.true)) _ _ _
+returns-then-not-is_normal c = notes_none _ _ (module_none _ _ (sym c.is_normal.ensures ∙ c.if-not-is_normal.true)) _ _ _
 
 entry_reference_count-references-requires : tie.Need-entry_reference_count-references-requires invariant-loop-k decreases-loop-k
 entry_reference_count-references-requires c κs = (c.requires.0.loaded, c.requires.1.1)
 
 loop-k-init : tie.Need-loop-k-init invariant-loop-k decreases-loop-k
-loop-k-init c = (refl, refl, omega arith, along_start _ _ _ _ _ _ (referred_whole _ _ _ c.entry_reference_count-references.ensures.0 (sym c.is_normal.ensures ∙ not-false _ c.if-not-is_normal.false)) c.requires.1.0)
+loop-k-init c = (refl, refl, omega arith, along_start _ _ _ _ _ _ (referred_whole _ _ _ c.entry_reference_count-references.ensures.0 (sym c.is_normal.ensures ∙ c.if-not-is_normal.false)) c.requires.1.0)
 
 entry_reference-s-requires : tie.Need-entry_reference-s-requires invariant-loop-k decreases-loop-k
 entry_reference-s-requires c κs = (c.requires.0.loaded, (c.requires.1.1, omega (arith, c.loop-k-test.true, c.entry_reference_count-references.ensures.0)))
@@ -46,7 +46,7 @@ loop-k-preserved c = let w = c.loop-k.invariant in let t = c.note_reference-tota
 
 note-requires : tie.Need-note-requires invariant-loop-k decreases-loop-k
 unfolding graph_in
-note-requires c κs = (c.requires.0, (c.loop-k.invariant.3.noted, (c.requires.1.1, (sym c.is_normal.ensures ∙ not-false _ c.if-not-is_normal.false))))
+note-requires c κs = (c.requires.0, (c.loop-k.invariant.3.noted, (c.requires.1.1, (sym c.is_normal.ensures ∙ c.if-not-is_normal.false))))
 
 shape_of-seen : tie.Need-shape_of-seen invariant-loop-k decreases-loop-k
 shape_of-seen c = search rules

@@ -2,7 +2,7 @@ use Rattle.passes.proofs.Using.{runtime_helpers, runtime_none, runtime-itself, n
 use Rattle.passes.proofs.Accepted.{runtime_good}
 use Rattle.entry_starts.proofs.Referring.{started_nothing, started_as}
 use Rattle.determine_side_effects.specs.graph_crate.Check.{graph_in}
-use borrow.Author.Tests.{not_true, not-false}
+use borrow.Author.Tests.{not-true, not-false}
 use native.Mathlib.Omega.{arith}
 use borrow.Author.Rules.{rules}
 use Rattle.passes.proofs.include_runtime_symbol.Statement.{statement}
@@ -32,7 +32,7 @@ has_effects-requires c κs = (c.requires.0.settled, (runtime_good c.requires.0.l
 
 returns-then-not-has_effects : tie.Need-returns-then-not-has_effects
 unfolding graph_in
-returns-then-not-has_effects c = started_nothing _ _ _ (runtime_none _ _ _ (no_word c.if-word-gt0.false) _ c.header_of-h.ensures _ c.has_effects.ensures (not_true _ c.if-not-has_effects.true)) _ _ _ _ c.requires.1
+returns-then-not-has_effects c = started_nothing _ _ _ (runtime_none _ _ _ (no_word c.if-word-gt0.false) _ c.header_of-h.ensures _ c.has_effects.ensures (c.if-not-has_effects.true)) _ _ _ _ c.requires.1
 
 start_one-requires : tie.Need-start_one-requires
 unfolding graph_in
@@ -49,7 +49,7 @@ shape_of-lines c = search rules
 
 returns : tie.Need-returns
 unfolding graph_in
-returns c = started_as _ _ _ _ (runtime-itself _ _ _ (no_word c.if-word-gt0.false) _ c.header_of-h.ensures _ c.has_effects.ensures (not-false _ c.if-not-has_effects.false)) _ _ _ _ _ c.start_one.ensures
+returns c = started_as _ _ _ _ (runtime-itself _ _ _ (no_word c.if-word-gt0.false) _ c.header_of-h.ensures _ c.has_effects.ensures (c.if-not-has_effects.false)) _ _ _ _ _ c.start_one.ensures
 
 pub include_runtime_symbol_spec : {M : Type 1} → statement M
 include_runtime_symbol_spec =

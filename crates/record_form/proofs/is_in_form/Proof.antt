@@ -1,4 +1,4 @@
-use borrow.Author.Tests.{not_true, not-false}
+use borrow.Author.Tests.{not-true, not-false}
 use native.Mathlib.Omega.{arith}
 use Rattle.record_form.proofs.Forms.{parts_out, rule-out, names-last}
 use borrow.Author.Rules.{rules}
@@ -45,7 +45,7 @@ parts_fit-requires : tie.Need-parts_fit-requires
 parts_fit-requires c κs = search rules
 
 returns-then-not-parts_fit : tie.Need-returns-then-not-parts_fit
-returns-then-not-parts_fit c = parts_out _ _ _ _ _ _ c.wide-kind.ensures c.wide-a.ensures c.wide-b.ensures _ c.parts_fit.ensures (not_true _ c.if-not-parts_fit.true)
+returns-then-not-parts_fit c = parts_out _ _ _ _ _ _ c.wide-kind.ensures c.wide-a.ensures c.wide-b.ensures _ c.parts_fit.ensures (c.if-not-parts_fit.true)
 
 overflow_add-p-3 : tie.Need-overflow_add-p-3
 overflow_add-p-3 c = search rules
@@ -60,7 +60,7 @@ wide-rule-requires : tie.Need-wide-rule-requires
 wide-rule-requires c κs = search rules
 
 returns-then-rule-ge15 : tie.Need-returns-then-rule-ge15
-returns-then-rule-ge15 c = rule-out _ _ _ _ _ _ c.wide-kind.ensures c.wide-a.ensures c.wide-b.ensures _ c.parts_fit.ensures (not-false _ c.if-not-parts_fit.false) _ c.wide-rule.ensures c.if-rule-ge15.true
+returns-then-rule-ge15 c = rule-out _ _ _ _ _ _ c.wide-kind.ensures c.wide-a.ensures c.wide-b.ensures _ c.parts_fit.ensures (c.if-not-parts_fit.false) _ c.wide-rule.ensures c.if-rule-ge15.true
 
 overflow_add-p-4 : tie.Need-overflow_add-p-4
 overflow_add-p-4 c = search rules
@@ -90,7 +90,7 @@ names_fit-requires : tie.Need-names_fit-requires
 names_fit-requires c κs = search rules
 
 returns : tie.Need-returns
-returns c = names-last _ _ _ _ _ _ c.wide-kind.ensures c.wide-a.ensures c.wide-b.ensures _ c.parts_fit.ensures (not-false _ c.if-not-parts_fit.false) _ c.wide-rule.ensures (omega (arith, c.if-rule-ge15.false)) _ _ c.wide.ensures c.wide-2.ensures _ c.names_fit.ensures
+returns c = names-last _ _ _ _ _ _ c.wide-kind.ensures c.wide-a.ensures c.wide-b.ensures _ c.parts_fit.ensures (c.if-not-parts_fit.false) _ c.wide-rule.ensures (omega (arith, c.if-rule-ge15.false)) _ _ c.wide.ensures c.wide-2.ensures _ c.names_fit.ensures
 
 pub is_in_form_spec : {M : Type 1} → statement M
 is_in_form_spec =

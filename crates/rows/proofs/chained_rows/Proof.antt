@@ -35,7 +35,7 @@ chained_repeats-requires c κs = let l = c.loop-k.invariant in (c.requires.0, l.
 
 returns-then-chained_repeats : tie.Need-returns-then-chained_repeats invariant-loop-k decreases-loop-k
 unfolding walk_of
-returns-then-chained_repeats c = let l = c.loop-k.invariant in going_stop _ _ _ _ _ l.2 c.loop-k-test.true (ap walk_of (distinct_hit _ _ _ _ (sym c.chained_repeats.ensures.value ∙ c.if-chained_repeats.true)))
+returns-then-chained_repeats c = let l = c.loop-k.invariant in going_stop _ _ _ _ _ l.2 c.loop-k-test.true (ap walk_of (distinct_hit _ _ _ _ (sym c.chained_repeats.ensures.0 ∙ c.if-chained_repeats.true)))
 
 row-requires : tie.Need-row-requires invariant-loop-k decreases-loop-k
 row-requires c κs = search rules
@@ -44,7 +44,7 @@ enum_known-n : tie.Need-enum_known-n invariant-loop-k decreases-loop-k
 enum_known-n c = search rules
 
 returns-in-Fault : tie.Need-returns-in-Fault invariant-loop-k decreases-loop-k
-returns-in-Fault c = let l = c.loop-k.invariant in going_stop _ _ _ _ _ l.2 c.loop-k-test.true (ap walk_of (distinct_miss _ _ _ _ (sym c.chained_repeats.ensures.value ∙ c.if-chained_repeats.false)) ∙ sym c.row.ensures ∙ c.in-Fault.is)
+returns-in-Fault c = let l = c.loop-k.invariant in going_stop _ _ _ _ _ l.2 c.loop-k-test.true (ap walk_of (distinct_miss _ _ _ _ (sym c.chained_repeats.ensures.0 ∙ c.if-chained_repeats.false)) ∙ sym c.row.ensures ∙ c.in-Fault.is)
 
 enum_known-next : tie.Need-enum_known-next invariant-loop-k decreases-loop-k
 enum_known-next c = search rules
@@ -58,12 +58,12 @@ loop-k-smaller c = search rules
 loop-k-preserved : tie.Need-loop-k-preserved invariant-loop-k decreases-loop-k
 loop-k-preserved c = let l = c.loop-k.invariant in
     let t = turned c in
-    let m = distinct_miss _ _ _ _ (sym c.chained_repeats.ensures.value ∙ c.if-chained_repeats.false) in
+    let m = distinct_miss _ _ _ _ (sym c.chained_repeats.ensures.0 ∙ c.if-chained_repeats.false) in
     let g = going_step _ _ _ _ _ l.2 c.loop-k-test.true (m ∙ t.1) in (
       l.0 ++ (t.0 ∷ []),
       row_ends _ _ _ _ _ _ _ _ _ _ c.requires.0 c.requires.1 l.1 t.1,
       rw (row_first _ _ _ _ _ _ _ _ _ _ c.requires.0 c.requires.1 l.1 t.1) at g,
-      c.chained_repeats.ensures.chained (row_inside _ _ _ _ _ _ _ _ _ _ c.requires.0 c.requires.1 l.1 t.1),
+      c.chained_repeats.ensures.1 (row_inside _ _ _ _ _ _ _ _ _ _ c.requires.0 c.requires.1 l.1 t.1),
     )
 
 returns : tie.Need-returns invariant-loop-k decreases-loop-k

@@ -30,7 +30,7 @@ within-requires c κs = search rules
 returns : tie.Need-returns
 returns c =
     c.within.ensures
-    ∙ sym (ap walk_of (⊎_elim (λ w. count_value _ _ _ w.2.ensures _ _ _ w.0.taken w.3.left) (λ w. count_missing _ _ _ refl _ _ _ w.left) c.if-at-numbers.branch))
+    ∙ sym (ap walk_of (⊎_elim (λ w. count_value _ _ _ w.wide.ensures _ _ _ w.if-at-numbers.true w.if-wide-most.false) (λ w. count_missing _ _ _ refl _ _ _ w.if-at-numbers.false) c.if-at-numbers.branch-raw))
 
 pub counter_spec : {M : Type 1} → statement M
 counter_spec =

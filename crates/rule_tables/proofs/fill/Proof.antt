@@ -6,16 +6,16 @@ use Rattle.rule_tables.proofs.fill.Statement.{statement}
 use Rattle.rule_tables.proofs.fill.Tie as tie
 
 -- what is filled after each call
-verdicts : (c : tie.After-last_verdicts) → Filled 6 c.args.numbers.now c.last_verdicts.new.1.0
+verdicts : (c : tie.After-last_verdicts) → Filled 6 c.args.numbers.now c.last_verdicts.new.tables
 verdicts c = filled_verdicts _ _ _ (filled_none _ _ c.requires.0 c.requires.1) c.last_verdicts.ensures
 
-demands : (c : tie.After-fill_on_demand) → Filled 7 c.args.numbers.now c.fill_on_demand.new.1.0
+demands : (c : tie.After-fill_on_demand) → Filled 7 c.args.numbers.now c.fill_on_demand.new.tables
 demands c = filled_demands _ _ _ (verdicts c.before.before.before.before) c.fill_on_demand.ensures
 
-keys : (c : tie.After-compute_body_demand_keys) → Filled 8 c.args.numbers.now c.compute_body_demand_keys.new.1.0
+keys : (c : tie.After-compute_body_demand_keys) → Filled 8 c.args.numbers.now c.compute_body_demand_keys.new.tables
 keys c = filled_keys _ _ _ (demands c.before.before.before.before) c.compute_body_demand_keys.ensures
 
-namespaces : (c : tie.After-fill_namespaces) → Filled 9 c.args.numbers.now c.fill_namespaces.new.1.0
+namespaces : (c : tie.After-fill_namespaces) → Filled 9 c.args.numbers.now c.fill_namespaces.new.tables
 namespaces c = filled_namespaces _ _ _ (keys c.before.before.before.before) c.fill_namespaces.ensures
 
 last_verdicts-requires : tie.Need-last_verdicts-requires

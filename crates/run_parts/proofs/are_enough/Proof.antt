@@ -1,6 +1,6 @@
 use mathlib.Core.Path.{ap}
 use native.Mathlib.Omega.{arith}
-use borrow.Author.Tests.{not_true, not-false}
+use borrow.Author.Tests.{not-true, not-false}
 use Rattle.determine_side_effects.specs.graph_crate.Check.{graph_in}
 use Rattle.rule_tables.proofs.Readying.{few_marks}
 use Rattle.run_parts.proofs.Readying.{marks_short, rows_short, dead-short, helpers-short, entries-left}
@@ -23,7 +23,7 @@ are_long_enough-requires : tie.Need-are_long_enough-requires
 are_long_enough-requires c κs = c.requires
 
 returns-then-not-are_long_enough : tie.Need-returns-then-not-are_long_enough
-returns-then-not-are_long_enough c = rows_short _ c.args.l c.mark_count.ensures c.bytes_for.ensures c.if-l-bytes_for.false c.are_long_enough.ensures (not_true _ c.if-not-are_long_enough.true)
+returns-then-not-are_long_enough c = rows_short _ c.args.l c.mark_count.ensures c.bytes_for.ensures c.if-l-bytes_for.false c.are_long_enough.ensures (c.if-not-are_long_enough.true)
 
 record_count-requires : tie.Need-record_count-requires
 record_count-requires c κs = c.requires.0
@@ -32,15 +32,15 @@ bytes_for-requires-2 : tie.Need-bytes_for-requires-2
 bytes_for-requires-2 c κs = omega (arith, c.record_count.ensures.1)
 
 returns-then-l-bytes_for-2 : tie.Need-returns-then-l-bytes_for-2
-returns-then-l-bytes_for-2 c = dead-short _ c.args.l c.mark_count.ensures c.bytes_for.ensures c.if-l-bytes_for.false c.are_long_enough.ensures (not-false _ c.if-not-are_long_enough.false) c.record_count.ensures.0 c.bytes_for-2.ensures c.if-l-bytes_for-2.true
+returns-then-l-bytes_for-2 c = dead-short _ c.args.l c.mark_count.ensures c.bytes_for.ensures c.if-l-bytes_for.false c.are_long_enough.ensures (c.if-not-are_long_enough.false) c.record_count.ensures.0 c.bytes_for-2.ensures c.if-l-bytes_for-2.true
 
 returns-then-l-h : tie.Need-returns-then-l-h
 unfolding graph_in
-returns-then-l-h c = helpers-short _ c.args.l c.mark_count.ensures c.bytes_for.ensures c.if-l-bytes_for.false c.are_long_enough.ensures (not-false _ c.if-not-are_long_enough.false) c.record_count.ensures.0 c.bytes_for-2.ensures c.if-l-bytes_for-2.false (ap (λ w. w.modules) c.header_of-h.ensures) (ap (λ w. w.entries) c.header_of-h.ensures) c.if-l-h.true
+returns-then-l-h c = helpers-short _ c.args.l c.mark_count.ensures c.bytes_for.ensures c.if-l-bytes_for.false c.are_long_enough.ensures (c.if-not-are_long_enough.false) c.record_count.ensures.0 c.bytes_for-2.ensures c.if-l-bytes_for-2.false (ap (λ w. w.modules) c.header_of-h.ensures) (ap (λ w. w.entries) c.header_of-h.ensures) c.if-l-h.true
 
 returns : tie.Need-returns
 unfolding graph_in
-returns c = entries-left _ c.args.l c.mark_count.ensures c.bytes_for.ensures c.if-l-bytes_for.false c.are_long_enough.ensures (not-false _ c.if-not-are_long_enough.false) c.record_count.ensures.0 c.bytes_for-2.ensures c.if-l-bytes_for-2.false (ap (λ w. w.modules) c.header_of-h.ensures) (ap (λ w. w.entries) c.header_of-h.ensures) c.if-l-h.false
+returns c = entries-left _ c.args.l c.mark_count.ensures c.bytes_for.ensures c.if-l-bytes_for.false c.are_long_enough.ensures (c.if-not-are_long_enough.false) c.record_count.ensures.0 c.bytes_for-2.ensures c.if-l-bytes_for-2.false (ap (λ w. w.modules) c.header_of-h.ensures) (ap (λ w. w.entries) c.header_of-h.ensures) c.if-l-h.false
 
 pub are_enough_spec : {M : Type 1} → statement M
 are_enough_spec =

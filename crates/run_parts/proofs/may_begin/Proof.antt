@@ -1,5 +1,5 @@
 use mathlib.Core.Path.{◌∙◌, sym}
-use borrow.Author.Tests.{not_true, not-false}
+use borrow.Author.Tests.{not-true, not-false}
 use Rattle.run_parts.proofs.Readying.{begins_rejected, begins-short, begins-good}
 use borrow.Author.Rules.{rules}
 use Rattle.run_parts.proofs.may_begin.Statement.{statement}
@@ -21,7 +21,7 @@ shape_of-tables-then-not-are_enough : tie.Need-shape_of-tables-then-not-are_enou
 shape_of-tables-then-not-are_enough c = search rules
 
 returns-then-not-are_enough : tie.Need-returns-then-not-are_enough
-returns-then-not-are_enough c = begins-short _ _ _ (sym c.ready.ensures.0 ∙ c.in-Accepted.is) c.are_enough.ensures (not_true _ c.if-not-are_enough.true)
+returns-then-not-are_enough c = begins-short _ _ _ (sym c.ready.ensures.0 ∙ c.in-Accepted.is) c.are_enough.ensures (c.if-not-are_enough.true)
 
 shape_of-tables-in-Refused : tie.Need-shape_of-tables-in-Refused
 shape_of-tables-in-Refused c = search rules
@@ -33,7 +33,7 @@ shape_of-tables-else-not-are_enough : tie.Need-shape_of-tables-else-not-are_enou
 shape_of-tables-else-not-are_enough c = search rules
 
 returns-else-not-are_enough : tie.Need-returns-else-not-are_enough
-returns-else-not-are_enough c = begins-good _ _ _ (sym c.ready.ensures.0 ∙ c.in-Accepted.is) c.are_enough.ensures (not-false _ c.if-not-are_enough.false) (c.ready.ensures.1.known c.in-Accepted.is)
+returns-else-not-are_enough c = begins-good _ _ _ (sym c.ready.ensures.0 ∙ c.in-Accepted.is) c.are_enough.ensures (c.if-not-are_enough.false) (c.ready.ensures.1.known c.in-Accepted.is)
 
 pub may_begin_spec : {M : Type 1} → statement M
 may_begin_spec =

@@ -105,7 +105,7 @@ shape_of-entries : tie.Need-shape_of-entries
 shape_of-entries c = search rules
 
 returns-in-Done : tie.Need-returns-in-Done
-returns-in-Done c = ends_worked _ _ _ (rows c.args.marks.now c.args.lines.now c.args.modules-row.now c.args.statements-row.now c.args.used.now c.args.external.now c.args.json.now c.args.reason.now c.args.dead.now c.args.helpers.now c.args.entries.now) c.may_begin.ensures c.in-Accepted.is (ends_done _ (rows c.args.marks.now c.args.lines.now c.args.modules-row.now c.args.statements-row.now c.args.used.now c.args.external.now c.args.json.now c.args.reason.now c.args.dead.now c.args.helpers.now c.args.entries.now) (rows c.work.new.1.1.1.0 c.work.new.1.1.1.1.0 c.show_all.new.1.1.1.1.1.0 c.show_all.new.1.1.1.1.1.1.0 c.show_all.new.1.1.1.1.1.1.1.0 c.show_all.new.1.1.1.1.1.1.1.1.0 c.show_all.new.1.1.1.1.1.1.1.1.1.0 c.show_all.new.1.1.1.1.1.1.1.1.1.1.0 c.show_run-count.new.1.1.1.1.1.1.1.0 c.show_run-count.new.1.1.1.1.1.1.1.1.0 c.show_run-count.new.1.1.1.1.1.1.1.1.1.0) _ _ (c.work.ensures.holds _ c.in-Done.is) c.work.auto.1.1.1.0 c.work.auto.1.1.1.1.0 (λ i. (c.slice_known-in-Accepted-2-1.given i).fits) c.show_all.ensures _ c.show_run-count.ensures)
+returns-in-Done c = ends_worked _ _ _ (rows c.args.marks.now c.args.lines.now c.args.modules-row.now c.args.statements-row.now c.args.used.now c.args.external.now c.args.json.now c.args.reason.now c.args.dead.now c.args.helpers.now c.args.entries.now) c.may_begin.ensures c.in-Accepted.is (ends_done _ (rows c.args.marks.now c.args.lines.now c.args.modules-row.now c.args.statements-row.now c.args.used.now c.args.external.now c.args.json.now c.args.reason.now c.args.dead.now c.args.helpers.now c.args.entries.now) (rows c.work.new.marks c.work.new.lines c.show_all.new.modules_row c.show_all.new.statements_row c.show_all.new.used c.show_all.new.external c.show_all.new.json c.show_all.new.reason c.show_run-count.new.dead c.show_run-count.new.helpers c.show_run-count.new.entries) _ _ (c.work.ensures.holds _ c.in-Done.is) c.work.auto.1.1.1.0 c.work.auto.1.1.1.1.0 (λ i. (c.slice_known-in-Accepted-2-1.given i).fits) c.show_all.ensures _ c.show_run-count.ensures)
 
 pub run_in_spec : {M : Type 1} → statement M
 run_in_spec =

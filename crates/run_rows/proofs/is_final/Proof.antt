@@ -1,6 +1,6 @@
 use Prim.Native.Nat.{◌≤◌}
 use native.Mathlib.Omega.{arith}
-use borrow.Author.Tests.{not_true, not-false}
+use borrow.Author.Tests.{not-true, not-false}
 use Rattle.determine_side_effects.specs.graph_crate.Check.{graph_in}
 use Rattle.dead_records.proofs.Numbering.{entries_are}
 use Rattle.run_rows.proofs.Keeping.{final_user, final_off, final_live}
@@ -11,7 +11,7 @@ returns-then-i-users : tie.Need-returns-then-i-users
 returns-then-i-users c = final_user _ _ _ c.if-i-users.true
 
 returns-then-not-splits : tie.Need-returns-then-not-splits
-returns-then-not-splits c = let l : c.args.users ≤ c.args.i = omega (arith, c.if-i-users.false) in final_off _ _ c.args.splits _ l (not_true c.args.splits c.if-not-splits.true)
+returns-then-not-splits c = let l : c.args.users ≤ c.args.i = omega (arith, c.if-i-users.false) in final_off _ _ c.args.splits _ l (c.if-not-splits.true)
 
 header_of-h-requires : tie.Need-header_of-h-requires
 header_of-h-requires c κs = c.requires.0.long
@@ -43,7 +43,7 @@ bounds-plan-live c = omega (arith, c.live_at-live.ensures, entries_are _ _ c.hea
 returns : tie.Need-returns
 returns c =
     let l : c.args.users ≤ c.args.i = omega (arith, c.if-i-users.false) in
-    rw c.live_at-live.ensures (final_live _ _ _ c.args.plan.now _ c.args.splits _ _ l (not-false c.args.splits c.if-not-splits.false) c.header_of-h.ensures c.entry_module-m.ensures.0 c.entry_module-m.ensures.1)
+    rw c.live_at-live.ensures (final_live _ _ _ c.args.plan.now _ c.args.splits _ _ l (c.if-not-splits.false) c.header_of-h.ensures c.entry_module-m.ensures.0 c.entry_module-m.ensures.1)
 
 pub is_final_spec : {M : Type 1} → statement M
 is_final_spec =

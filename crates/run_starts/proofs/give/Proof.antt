@@ -29,7 +29,7 @@ clear-requires : tie.Need-clear-requires
 clear-requires c κs = omega arith
 
 note_all-requires : tie.Need-note_all-requires
-note_all-requires c κs = (c.requires.0, ((noted_start _ _ _ (cleared_again _ c.args.seen.now c.note_all-n.new.1.1.1.1.1.0 _ c.requires.1.1.0 c.note_all-n.auto.1.1.1.1.1.0 c.clear.ensures), c.requires.1.0.leaves.planned), taken_good _ _ _ _ c.requires.1.0))
+note_all-requires c κs = (c.requires.0, ((noted_start _ _ _ (cleared_again _ c.args.seen.now c.note_all-n.new.seen _ c.requires.1.1.0 c.note_all-n.auto.1.1.1.1.1.0 c.clear.ensures), c.requires.1.0.leaves.planned), taken_good _ _ _ _ c.requires.1.0))
 
 overflow_mul-result : tie.Need-overflow_mul-result
 unfolding graph_in
@@ -43,7 +43,7 @@ shape_of-out c = c.note_all.auto.1.1.1.1.1.1.0
 
 returns : tie.Need-returns
 unfolding graph_in
-returns c = all_given _ _ _ _ _ (all_noted _ _ _ _ c.requires.1.0 _ _ _ _ _ c.requires.1.1 c.note_all-n.ensures) _ c.if-out-n.false _ _ _ (all_noted _ _ _ _ c.requires.1.0 _ _ _ _ _ (cleared_again _ c.args.seen.now c.note_all-n.new.1.1.1.1.1.0 _ c.requires.1.1.0 c.note_all-n.auto.1.1.1.1.1.0 c.clear.ensures) c.note_all.ensures)
+returns c = all_given _ _ _ _ _ (all_noted _ _ _ _ c.requires.1.0 _ _ _ _ _ c.requires.1.1 c.note_all-n.ensures) _ c.if-out-n.false _ _ _ (all_noted _ _ _ _ c.requires.1.0 _ _ _ _ _ (cleared_again _ c.args.seen.now c.note_all-n.new.seen _ c.requires.1.1.0 c.note_all-n.auto.1.1.1.1.1.0 c.clear.ensures) c.note_all.ensures)
 
 pub give_spec : {M : Type 1} → statement M
 give_spec =

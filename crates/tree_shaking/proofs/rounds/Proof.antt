@@ -7,7 +7,7 @@ use Rattle.determine_side_effects.specs.graph_tables_crate.Tables.{header_in}
 use Rattle.determine_side_effects.specs.graph_crate.Check.{graph_in}
 use Prim.Native.Nat.{◌+◌, ◌*◌, ◌-◌, ◌≤◌}
 use mathlib.Core.Path.{◌≡◌, refl, ◌∙◌, sym}
-use borrow.Author.Tests.{not_true, not-false}
+use borrow.Author.Tests.{not-true, not-false}
 use lib.ListN.{length}
 use borrow.Author.Rules.{rules}
 use native.Mathlib.Omega.{arith}
@@ -91,7 +91,7 @@ shape_of-plan-then-not-goes_on c = c.round.auto.1.1.1.1.1.0 ∙ c.loop-made.inva
 
 returns-then-not-goes_on : tie.Need-returns-then-not-goes_on invariant-loop-made decreases-loop-made
 unfolding graph_in
-returns-then-not-goes_on c = turn_last _ _ _ _ _ _ _ _ _ _ c.loop-made.invariant.4 (at-round c.before.before.before.before.before.before.before.before.before.before.before.before.before.before.before.before.before.before) _ _ _ _ _ (rw c.in-Lines.is at c.round.ensures) _ c.live_before-live.ensures _ c.goes_on.ensures (not_true _ c.if-not-goes_on.true) c.ended_with.ensures
+returns-then-not-goes_on c = turn_last _ _ _ _ _ _ _ _ _ _ c.loop-made.invariant.4 (at-round c.before.before.before.before.before.before.before.before.before.before.before.before.before.before.before.before.before.before) _ _ _ _ _ (rw c.in-Lines.is at c.round.ensures) _ c.live_before-live.ensures _ c.goes_on.ensures (c.if-not-goes_on.true) c.ended_with.ensures
 
 loop-made-smaller : tie.Need-loop-made-smaller invariant-loop-made decreases-loop-made
 loop-made-smaller c = omega (arith, at-round c.before.before.before.before.before.before.before.before.before.before.before.before.before.before.before.before.before)
@@ -105,7 +105,7 @@ loop-made-preserved c =
       k.1.1.1.0 ∙ t.1,
       k.1.1.1.1.0 ∙ t.2,
       k.1.1.1.1.1.0 ∙ t.3,
-      turn_next _ _ _ _ _ _ _ _ _ _ t.4 (at-round c.before.before.before.before.before.before.before.before.before.before.before.before.before.before.before.before.before) _ _ _ _ _ (rw c.in-Lines.is at c.round.ensures) _ c.live_before-live.ensures _ c.goes_on.ensures (not-false _ c.if-not-goes_on.false),
+      turn_next _ _ _ _ _ _ _ _ _ _ t.4 (at-round c.before.before.before.before.before.before.before.before.before.before.before.before.before.before.before.before.before) _ _ _ _ _ (rw c.in-Lines.is at c.round.ensures) _ c.live_before-live.ensures _ c.goes_on.ensures (c.if-not-goes_on.false),
     )
 
 ended_with-requires-2 : tie.Need-ended_with-requires-2 invariant-loop-made decreases-loop-made

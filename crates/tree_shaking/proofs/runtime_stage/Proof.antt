@@ -11,7 +11,7 @@ collect_helpers-requires c κs = (c.requires.0, (c.requires.1.0.held.wide, c.req
 
 collect_depended_runtime_helpers-word-requires : tie.Need-collect_depended_runtime_helpers-word-requires
 unfolding graph_in
-collect_depended_runtime_helpers-word-requires c κs = (c.requires.0, ((c.requires.1.0.held.wide, omega (arith, c.requires.1.1, c.collect_helpers.auto.1.1.1.0)), λ m h. (c.collect_helpers.ensures.by_index m h).0))
+collect_depended_runtime_helpers-word-requires c κs = (c.requires.0, ((c.requires.1.0.held.wide, omega (arith, c.requires.1.1, c.collect_helpers.auto.1.1.1.0)), λ m h. (c.collect_helpers.ensures.0 m h).0))
 
 begin-requires : tie.Need-begin-requires
 begin-requires c κs = (c.requires.0.loaded, c.requires.1.0)
@@ -33,7 +33,7 @@ shape_of-plan c = c.collect_helpers.auto.1.1.1.0
 
 returns : tie.Need-returns
 unfolding graph_in
-returns c = stage_ends _ _ _ _ _ c.requires.1.0 _ _ c.collect_helpers.ensures.by_index c.collect_helpers.ensures.untouched _ c.collect_depended_runtime_helpers-word.ensures _ _ _ _ c.include_runtime_symbol.ensures
+returns c = stage_ends _ _ _ _ _ c.requires.1.0 _ _ c.collect_helpers.ensures.0 c.collect_helpers.ensures.1 _ c.collect_depended_runtime_helpers-word.ensures _ _ _ _ c.include_runtime_symbol.ensures
 
 pub runtime_stage_spec : {M : Type 1} → statement M
 runtime_stage_spec =
