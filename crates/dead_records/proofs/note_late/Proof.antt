@@ -44,7 +44,7 @@ fact_at-requires : tie.Need-fact_at-requires invariant-loop-k decreases-loop-k
 fact_at-requires c κs = omega (arith, c.loop-k-test.true, c.requires.1.0.1)
 
 enum_known-m : tie.Need-enum_known-m invariant-loop-k decreases-loop-k
-enum_known-m c = c.in-Statement.keys1
+enum_known-m c = c.in-Statement-1.keys1
 
 mark_of-at-requires : tie.Need-mark_of-at-requires invariant-loop-k decreases-loop-k
 mark_of-at-requires c κs = (c.requires.0, good_statement _ _ _ _ c.in-Statement.is (good-line c.before))
@@ -60,19 +60,19 @@ unfolding graph_in
 bounds-scratch-at c = omega (arith, (word_place c.before).1, c.requires.1.1.0, c.loop-k.invariant.same_length)
 
 enum_told-1 : tie.Need-enum_told-1 invariant-loop-k decreases-loop-k
-enum_told-1 c = c.in-Module.keys2
+enum_told-1 c = c.in-Module-1.keys2
 
 enum_told-in-Use : tie.Need-enum_told-in-Use invariant-loop-k decreases-loop-k
-enum_told-in-Use c = c.in-Use.keys3
+enum_told-in-Use c = c.in-Use-1.keys3
 
 enum_told-in-CheckedUse : tie.Need-enum_told-in-CheckedUse invariant-loop-k decreases-loop-k
-enum_told-in-CheckedUse c = c.in-CheckedUse.keys4
+enum_told-in-CheckedUse c = c.in-CheckedUse-1.keys4
 
 enum_told-in-Forward : tie.Need-enum_told-in-Forward invariant-loop-k decreases-loop-k
-enum_told-in-Forward c = c.in-Forward.keys5
+enum_told-in-Forward c = c.in-Forward-1.keys5
 
 enum_told-in-Bailout : tie.Need-enum_told-in-Bailout invariant-loop-k decreases-loop-k
-enum_told-in-Bailout c = c.in-Bailout.keys6
+enum_told-in-Bailout c = c.in-Bailout-1.keys6
 
 overflow_add-k : tie.Need-overflow_add-k invariant-loop-k decreases-loop-k
 overflow_add-k c = record { fits = omega (arith, c.loop-k-test.true) }

@@ -10,10 +10,10 @@ may_begin-requires : tie.Need-may_begin-requires
 may_begin-requires c κs = (c.requires.0, c.requires.1.0)
 
 enum_known-n : tie.Need-enum_known-n
-enum_known-n c = c.in-Refused.keys1
+enum_known-n c = c.in-Refused-1.keys1
 
 enum_told-1 : tie.Need-enum_told-1
-enum_told-1 c = c.in-Accepted.keys2
+enum_told-1 c = c.in-Accepted-1.keys2
 
 work_and_show-requires : tie.Need-work_and_show-requires
 work_and_show-requires c κs = let g = c.may_begin.ensures in let e = c.in-Accepted.is in (g.good e, ((partners_fit _ _ _ c.requires.0.is c.requires.1.1.0, c.requires.1.1.1), tier_enough _ _ _ _ _ _ c.lengths_of-lengths.ensures g e))

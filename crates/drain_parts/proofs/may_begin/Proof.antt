@@ -10,19 +10,19 @@ ready-requires : tie.Need-ready-requires
 ready-requires c κs = c.requires
 
 enum_known-n : tie.Need-enum_known-n
-enum_known-n c = c.in-Refused.keys1
+enum_known-n c = c.in-Refused-1.keys1
 
 enum_told-1 : tie.Need-enum_told-1
-enum_told-1 c = c.in-Accepted.keys2
+enum_told-1 c = c.in-Accepted-1.keys2
 
 check-requires : tie.Need-check-requires
 check-requires c κs = (c.ready.ensures.1.known c.in-Accepted.is).0.loaded
 
 enum_known-n-in-Fault-1 : tie.Need-enum_known-n-in-Fault-1
-enum_known-n-in-Fault-1 c = c.in-Fault.keys1
+enum_known-n-in-Fault-1 c = c.in-Fault-1.keys1
 
 enum_told-in-At : tie.Need-enum_told-in-At
-enum_told-in-At c = c.in-At.keys2
+enum_told-in-At c = c.in-At-1.keys2
 
 mark_count-requires : tie.Need-mark_count-requires
 mark_count-requires c κs = (c.ready.ensures.1.known c.in-Accepted.is).0.loaded

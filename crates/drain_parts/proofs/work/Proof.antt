@@ -12,13 +12,13 @@ unfolding graph_in
 drain_starts-requires c κs = (c.requires.0, (held_start _ c.args.marks.now c.args.lines.now _ _ c.requires.1.0.0 c.clear.ensures.0 c.clear.ensures.1, (linked_none _ _ c.requires.1.0.1 c.requires.1.0.2, c.requires.1.1)))
 
 enum_told-1 : tie.Need-enum_told-1
-enum_told-1 c = c.in-Full.keys1
+enum_told-1 c = c.in-Full-1.keys1
 
 clear-requires-in-Full : tie.Need-clear-requires-in-Full
 clear-requires-in-Full c κs = _
 
 enum_known-n : tie.Need-enum_known-n
-enum_known-n c = c.in-Lines.keys2
+enum_known-n c = c.in-Lines-1.keys2
 
 shape_of-partners-in-Full : tie.Need-shape_of-partners-in-Full
 shape_of-partners-in-Full c = c.drain_starts.auto.1.1.1.0

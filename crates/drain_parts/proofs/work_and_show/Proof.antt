@@ -10,10 +10,10 @@ unfolding graph_in rooms_of
 work-requires c κs = (c.requires.0.0, (((fits _ _ c.requires.1.1).0, c.requires.1.0.0, c.requires.1.0.1), c.requires.0.2))
 
 enum_told-1 : tie.Need-enum_told-1
-enum_told-1 c = c.in-Full.keys1
+enum_told-1 c = c.in-Full-1.keys1
 
 enum_known-n : tie.Need-enum_known-n
-enum_known-n c = c.in-Lines.keys2
+enum_known-n c = c.in-Lines-1.keys2
 
 show_all-requires : tie.Need-show_all-requires
 unfolding rooms_of

@@ -34,10 +34,10 @@ entry_graph-requires c κs =
     rw (part_to_end c.args.plan.now c.args.users) (c.requires.0, (e, ((c.requires.1.1.1.0, l), c.requires.1.1.0)))
 
 enum_told-1 : tie.Need-enum_told-1
-enum_told-1 c = c.in-Full.keys1
+enum_told-1 c = c.in-Full-1.keys1
 
 enum_known-n : tie.Need-enum_known-n
-enum_known-n c = c.in-Nodes.keys2
+enum_known-n c = c.in-Nodes-1.keys2
 
 sort_by_graph-requires : tie.Need-sort_by_graph-requires
 sort_by_graph-requires c κs =

@@ -3,14 +3,14 @@ use Rattle.entry_graph.proofs.behind_edge.Statement.{statement}
 use Rattle.entry_graph.proofs.behind_edge.Tie as tie
 
 enum_known-built : tie.Need-enum_known-built
-enum_known-built c = c.in-Nodes.keys1
+enum_known-built c = c.in-Nodes-1.keys1
 
 returns-then-seen : tie.Need-returns-then-seen
 unfolding behind_edge
 returns-then-seen c = rw (c.in-Nodes.is, c.if-seen.true)
 
 enum_told-1 : tie.Need-enum_told-1
-enum_told-1 c = c.in-Full.keys2
+enum_told-1 c = c.in-Full-1.keys2
 
 returns-else-seen : tie.Need-returns-else-seen
 unfolding behind_edge

@@ -53,7 +53,7 @@ take_records-requires : tie.Need-take_records-requires invariant-loop-i decrease
 take_records-requires c κs = let i = c.loop-i.invariant.7 in (c.requires.0, (i.stored, (i.root_below, i.module_below, long c.before.before.before.before.before)))
 
 enum_known-i : tie.Need-enum_known-i invariant-loop-i decreases-loop-i
-enum_known-i c = c.in-UpTo.keys1
+enum_known-i c = c.in-UpTo-1.keys1
 
 set-requires-in-UpTo : tie.Need-set-requires-in-UpTo invariant-loop-i decreases-loop-i
 set-requires-in-UpTo c κs = let t = (c.take_records.ensures.upto_below _ _ _ _ c.in-UpTo.is).1 in omega (arith, t, long c.before.before.before.before.before.before.before.before.before.before.before.before.before.before.before.before)
@@ -98,7 +98,7 @@ loop-i-preserved-in-UpTo c = (
 )
 
 enum_known-d : tie.Need-enum_known-d invariant-loop-i decreases-loop-i
-enum_known-d c = c.in-All.keys2
+enum_known-d c = c.in-All-1.keys2
 
 shape_of-records-then-depth-eq0 : tie.Need-shape_of-records-then-depth-eq0 invariant-loop-i decreases-loop-i
 shape_of-records-then-depth-eq0 c = c.loop-i.invariant.0
@@ -163,7 +163,7 @@ loop-i-preserved c = (
 )
 
 enum_told-1 : tie.Need-enum_told-1 invariant-loop-i decreases-loop-i
-enum_told-1 c = c.in-Overfull.keys3
+enum_told-1 c = c.in-Overfull-1.keys3
 
 shape_of-records-in-Overfull : tie.Need-shape_of-records-in-Overfull invariant-loop-i decreases-loop-i
 shape_of-records-in-Overfull c = c.loop-i.invariant.0

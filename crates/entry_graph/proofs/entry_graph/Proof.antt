@@ -47,10 +47,10 @@ construct_dynamic_entry_graph-requires c κs =
     (c.requires.0, (i.8.stored, ((r, w), (m, v, rw c.clear.ensures (all_clear _ _ (omega (arith, i.2)) _)))))
 
 enum_known-d : tie.Need-enum_known-d invariant-loop-i decreases-loop-i
-enum_known-d c = c.in-Nodes.keys1
+enum_known-d c = c.in-Nodes-1.keys1
 
 enum_told-1 : tie.Need-enum_told-1 invariant-loop-i decreases-loop-i
-enum_told-1 c = c.in-Full.keys2
+enum_told-1 c = c.in-Full-1.keys2
 
 shape_of-records-in-Full : tie.Need-shape_of-records-in-Full invariant-loop-i decreases-loop-i
 shape_of-records-in-Full c = c.construct_dynamic_entry_graph.auto.1.1.1.1.1.0 ∙ c.loop-i.invariant.0

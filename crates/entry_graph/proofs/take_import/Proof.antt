@@ -12,13 +12,13 @@ inside : (c : tie.In-Edge) → c.in-Edge.t.0 < (header_in c.args.numbers.now).mo
 inside c = c.requires.1.1.1.edge_below _ c.in-Edge.is
 
 enum_told-1 : tie.Need-enum_told-1
-enum_told-1 c = c.in-Unresolved.keys1
+enum_told-1 c = c.in-Unresolved-1.keys1
 
 enum_known-import : tie.Need-enum_known-import
-enum_known-import c = c.in-SameRoot.keys2
+enum_known-import c = c.in-SameRoot-1.keys2
 
 enum_known-import-in-Edge-1 : tie.Need-enum_known-import-in-Edge-1
-enum_known-import-in-Edge-1 c = c.in-Edge.keys3
+enum_known-import-in-Edge-1 c = c.in-Edge-1.keys3
 
 header_of-h-requires : tie.Need-header_of-h-requires
 header_of-h-requires c κs = c.requires.0

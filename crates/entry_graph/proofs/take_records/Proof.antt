@@ -39,7 +39,7 @@ take_import-requires : tie.Need-take_import-requires invariant-loop-i decreases-
 take_import-requires c κs = (c.requires.0.long, (c.loop-i.invariant.4.stored, (c.requires.1.1.0, c.read_record-import.ensures.bounded)))
 
 enum_known-r : tie.Need-enum_known-r invariant-loop-i decreases-loop-i
-enum_known-r c = c.in-Walk.keys1
+enum_known-r c = c.in-Walk-1.keys1
 
 is_over-requires : tie.Need-is_over-requires invariant-loop-i decreases-loop-i
 is_over-requires c κs = let t = (c.take_import.ensures.walk_below _ _ _ c.in-Walk.is).1 in omega (arith, t, c.requires.1.1.2)
@@ -72,7 +72,7 @@ loop-i-preserved-else-not-is_over c = (
 )
 
 enum_known-d : tie.Need-enum_known-d invariant-loop-i decreases-loop-i
-enum_known-d c = c.in-Stay.keys2
+enum_known-d c = c.in-Stay-1.keys2
 
 loop-i-smaller : tie.Need-loop-i-smaller invariant-loop-i decreases-loop-i
 loop-i-smaller c = omega (arith, c.loop-i-test.true)
@@ -87,7 +87,7 @@ loop-i-preserved c = (
 )
 
 enum_told-1 : tie.Need-enum_told-1 invariant-loop-i decreases-loop-i
-enum_told-1 c = c.in-Overfull.keys3
+enum_told-1 c = c.in-Overfull-1.keys3
 
 shape_of-nodes-in-Overfull : tie.Need-shape_of-nodes-in-Overfull invariant-loop-i decreases-loop-i
 shape_of-nodes-in-Overfull c = c.take_import.auto.1.1.1.1.1.0 ∙ c.loop-i.invariant.0

@@ -23,7 +23,7 @@ decreases-loop-k numbers at h tables₀ base k₀ q₀ left₀ tables k q left =
 
 -- the module that a turn read
 turned : (c : tie.In-At invariant-loop-k decreases-loop-k) → let l = c.loop-k in (x : Item) × (module_at c.args.h c.args.numbers.now (record { statements = l.left; modules = c.args.h.modules - l.k }) l.q ≡ got x c.in-At.next)
-turned c = at_got _ _ (sym c.before.before.before.«module».ensures ∙ c.in-At.is)
+turned c = at_got _ _ (sym c.«module».ensures ∙ c.in-At.is)
 
 -- and what is left behind it
 behind : (h : Header) (numbers : List ℕ) (left k q : ℕ) {x : Item} {p : ℕ} → module_at h numbers (record { statements = left; modules = h.modules - k }) q ≡ got x p
@@ -63,7 +63,7 @@ shape_of-tables-in-Fault c = c.loop-k.invariant.2.kept.same_length
 
 returns-in-Fault : tie.Need-returns-in-Fault invariant-loop-k decreases-loop-k
 unfolding modules_at
-returns-in-Fault c = filling_stop c.loop-k.invariant.2 c.loop-k-test.true (sym c.before.before.before.«module».ensures ∙ c.in-Fault.is)
+returns-in-Fault c = filling_stop c.loop-k.invariant.2 c.loop-k-test.true (sym c.«module».ensures ∙ c.in-Fault.is)
 
 enum_known-next : tie.Need-enum_known-next invariant-loop-k decreases-loop-k
 enum_known-next c = search rules

@@ -5,34 +5,34 @@ use Rattle.include_statements.proofs.follow.Statement.{statement}
 use Rattle.include_statements.proofs.follow.Tie as tie
 
 enum_known-fact : tie.Need-enum_known-fact
-enum_known-fact c = c.in-Module.keys1
+enum_known-fact c = c.in-Module-1.keys1
 
 follow_module-requires : tie.Need-follow_module-requires
 follow_module-requires c κs = let b = good_module _ _ c.requires.1.1.0 _ c.in-Module.is in (c.requires.0, (c.requires.1.0, (b.0, b.1, c.requires.1.1.1)))
 
 enum_known-fact-in-Statement-1 : tie.Need-enum_known-fact-in-Statement-1
-enum_known-fact-in-Statement-1 c = c.in-Statement.keys2
+enum_known-fact-in-Statement-1 c = c.in-Statement-1.keys2
 
 follow_statement-requires : tie.Need-follow_statement-requires
 follow_statement-requires c κs = let b = good_statement _ _ c.requires.1.1.0 _ _ c.in-Statement.is in (c.requires.0, (c.requires.1.0, (b.0, b.1, c.requires.1.1.1)))
 
 enum_known-fact-in-CheckedUse-1 : tie.Need-enum_known-fact-in-CheckedUse-1
-enum_known-fact-in-CheckedUse-1 c = c.in-CheckedUse.keys3
+enum_known-fact-in-CheckedUse-1 c = c.in-CheckedUse-1.keys3
 
 follow_checked_use-requires : tie.Need-follow_checked_use-requires
 follow_checked_use-requires c κs = let b = good_checked _ _ c.requires.1.1.0 _ _ c.in-CheckedUse.is in (c.requires.0, (c.requires.1.0, (b.0, b.1, b.2, c.requires.1.1.1)))
 
 enum_known-fact-in-Use-1 : tie.Need-enum_known-fact-in-Use-1
-enum_known-fact-in-Use-1 c = c.in-Use.keys4
+enum_known-fact-in-Use-1 c = c.in-Use-1.keys4
 
 follow_use-requires : tie.Need-follow_use-requires
 follow_use-requires c κs = let b = good_use _ _ c.requires.1.1.0 _ _ c.in-Use.is in (c.requires.0, (c.requires.1.0, (b.0, b.1, b.2, c.requires.1.1.1)))
 
 enum_told-1 : tie.Need-enum_told-1
-enum_told-1 c = c.in-Forward.keys5
+enum_told-1 c = c.in-Forward-1.keys5
 
 enum_told-in-Bailout : tie.Need-enum_told-in-Bailout
-enum_told-in-Bailout c = c.in-Bailout.keys6
+enum_told-in-Bailout c = c.in-Bailout-1.keys6
 
 shape_of-marks-in-Module : tie.Need-shape_of-marks-in-Module
 shape_of-marks-in-Module c = c.follow_module.auto.1.1.0

@@ -15,7 +15,7 @@ sweep_statements-requires : tie.Need-sweep_statements-requires
 sweep_statements-requires c κs = (c.requires.0, (c.requires.1.0, (c.requires.1.1.0, c.requires.1.1.2)))
 
 enum_told-1 : tie.Need-enum_told-1
-enum_told-1 c = c.in-Full.keys1
+enum_told-1 c = c.in-Full-1.keys1
 
 shape_of-marks-in-Full : tie.Need-shape_of-marks-in-Full
 shape_of-marks-in-Full c = c.sweep_statements.auto.1.1.0
@@ -28,7 +28,7 @@ unfolding module_segments
 returns-in-Full c = segments_as _ _ _ _ _ _ _ _ _ (module_segments_lem _ _ _ (sym c.is_quiet_runtime.ensures ∙ c.if-is_quiet_runtime.false)) (segments_stop _ _ _ _ _ _ _ _ _ c.in-Full.is c.sweep_statements.ensures)
 
 enum_known-n : tie.Need-enum_known-n
-enum_known-n c = c.in-Lines.keys2
+enum_known-n c = c.in-Lines-1.keys2
 
 include_imports-requires : tie.Need-include_imports-requires
 include_imports-requires c κs = let w1 = grown_on _ _ _ _ _ _ _ _ _ c.in-Lines.is c.sweep_statements.ensures _ c.requires.1.1.2 in (c.requires.0, (w1.0, (c.requires.1.1.0, c.requires.1.1.1, w1.1)))

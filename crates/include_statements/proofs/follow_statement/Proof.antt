@@ -8,7 +8,7 @@ scan_import_records-requires : tie.Need-scan_import_records-requires
 scan_import_records-requires c κs = (c.requires.0, (c.requires.1.0, (c.requires.1.1.0, c.requires.1.1.1, c.requires.1.1.2)))
 
 enum_told-1 : tie.Need-enum_told-1
-enum_told-1 c = c.in-Full.keys1
+enum_told-1 c = c.in-Full-1.keys1
 
 shape_of-marks-in-Full : tie.Need-shape_of-marks-in-Full
 shape_of-marks-in-Full c = c.scan_import_records.auto.1.1.0
@@ -21,7 +21,7 @@ unfolding segments_of statement_segments
 returns-in-Full c = segments_stop _ _ _ _ _ _ _ _ _ c.in-Full.is c.scan_import_records.ensures
 
 enum_known-n : tie.Need-enum_known-n
-enum_known-n c = c.in-Lines.keys2
+enum_known-n c = c.in-Lines-1.keys2
 
 include_references-requires : tie.Need-include_references-requires
 include_references-requires c κs = let w1 = grown_on _ _ _ _ _ _ _ _ _ c.in-Lines.is c.scan_import_records.ensures _ c.requires.1.1.2 in (c.requires.0, (w1.0, (c.requires.1.1.0, c.requires.1.1.1, w1.1)))

@@ -17,7 +17,7 @@ demand_body-requires : tie.Need-demand_body-requires
 demand_body-requires c κs = (c.requires.0, (c.requires.1.0, (c.requires.1.1.0, c.requires.1.1.3)))
 
 enum_told-1 : tie.Need-enum_told-1
-enum_told-1 c = c.in-Full.keys1
+enum_told-1 c = c.in-Full-1.keys1
 
 shape_of-marks-in-Full : tie.Need-shape_of-marks-in-Full
 shape_of-marks-in-Full c = c.demand_body.auto.1.1.0
@@ -30,7 +30,7 @@ unfolding use_segments
 returns-in-Full c = segments_as _ _ _ _ _ _ _ _ _ (use_segments_lem _ _ _ _ (sym c.is_bypassed_inlined_constant.ensures ∙ c.if-is_bypassed_inlined_constant.false)) (segments_stop _ _ _ _ _ _ _ _ _ c.in-Full.is c.demand_body.ensures)
 
 enum_known-n : tie.Need-enum_known-n
-enum_known-n c = c.in-Lines.keys2
+enum_known-n c = c.in-Lines-1.keys2
 
 alias_candidate-requires : tie.Need-alias_candidate-requires
 alias_candidate-requires c κs = (c.requires.0, c.requires.1.1.0)
@@ -39,7 +39,7 @@ give-requires : tie.Need-give-requires
 give-requires c κs = let w1 = grown_on _ _ _ _ _ _ _ _ _ c.in-Lines.is c.demand_body.ensures _ c.requires.1.1.3 in (c.requires.0, (w1.0, (omega arith, c.alias_candidate.ensures.1, w1.1)))
 
 enum_told-in-Full-give : tie.Need-enum_told-in-Full-give
-enum_told-in-Full-give c = c.in-Full-give.keys1
+enum_told-in-Full-give c = c.in-Full-give-1.keys1
 
 shape_of-marks-in-Full-give : tie.Need-shape_of-marks-in-Full-give
 shape_of-marks-in-Full-give c = c.give.auto.1.1.0 ∙ c.demand_body.auto.1.1.0
@@ -52,7 +52,7 @@ unfolding use_segments
 returns-in-Full-give c = segments_as _ _ _ _ _ _ _ _ _ (use_segments_lem _ _ _ _ (sym c.is_bypassed_inlined_constant.ensures ∙ c.if-is_bypassed_inlined_constant.false)) (segments_both _ _ _ _ _ _ _ _ _ _ c.in-Lines.is c.demand_body.ensures _ _ _ (segments_stop _ _ _ _ _ _ _ _ _ c.in-Full-give.is (given_alone _ _ _ _ _ refl _ c.alias_candidate.ensures.0 _ _ _ c.give.ensures)))
 
 enum_known-n-in-Lines-give : tie.Need-enum_known-n-in-Lines-give
-enum_known-n-in-Lines-give c = c.in-Lines-give.keys2
+enum_known-n-in-Lines-give c = c.in-Lines-give-1.keys2
 
 include_target-requires : tie.Need-include_target-requires
 include_target-requires c κs = let w1 = grown_on _ _ _ _ _ _ _ _ _ c.in-Lines.is c.demand_body.ensures _ c.requires.1.1.3 in let w2 = grown_on _ _ _ _ _ _ _ _ _ c.in-Lines-give.is c.give.ensures _ w1.1 in (c.requires.0, (w2.0, (c.requires.1.1.0, c.requires.1.1.1, c.requires.1.1.2, w2.1)))

@@ -6,10 +6,10 @@ use Rattle.include_statements.proofs.give.Statement.{statement}
 use Rattle.include_statements.proofs.give.Tie as tie
 
 enum_told-1 : tie.Need-enum_told-1
-enum_told-1 c = c.in-Nothing.keys1
+enum_told-1 c = c.in-Nothing-1.keys1
 
 enum_known-candidate : tie.Need-enum_known-candidate
-enum_known-candidate c = c.in-Gives.keys2
+enum_known-candidate c = c.in-Gives-1.keys2
 
 overflow_add-k : tie.Need-overflow_add-k
 overflow_add-k c = record { fits = omega (arith, c.requires.1.1.2, held_few c.requires.0.loaded _ _ _ _ c.requires.1.0, c.requires.1.0.base_few, marks_few c.requires.0.loaded) }

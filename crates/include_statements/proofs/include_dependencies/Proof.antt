@@ -39,10 +39,10 @@ give-requires : tie.Need-give-requires invariant-loop-c decreases-loop-c
 give-requires c κs = let v = c.loop-c.invariant.2 in (c.requires.0, (v.held, (omega arith, c.dependency_candidate-candidate.ensures.1, before_more _ _ _ c.requires.1.1.1 v.more)))
 
 enum_known-n : tie.Need-enum_known-n invariant-loop-c decreases-loop-c
-enum_known-n c = c.in-Lines.keys1
+enum_known-n c = c.in-Lines-1.keys1
 
 enum_told-1 : tie.Need-enum_told-1 invariant-loop-c decreases-loop-c
-enum_told-1 c = c.in-Full.keys2
+enum_told-1 c = c.in-Full-1.keys2
 
 shape_of-marks-in-Full : tie.Need-shape_of-marks-in-Full invariant-loop-c decreases-loop-c
 shape_of-marks-in-Full c = c.give.auto.1.1.0 ∙ c.loop-c.invariant.0

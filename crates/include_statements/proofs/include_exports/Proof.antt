@@ -9,7 +9,7 @@ include_export_symbols-requires : tie.Need-include_export_symbols-requires
 include_export_symbols-requires c κs = (c.requires.0, (c.requires.1.0, (c.requires.1.1.0, c.requires.1.1.2)))
 
 enum_told-1 : tie.Need-enum_told-1
-enum_told-1 c = c.in-Full.keys1
+enum_told-1 c = c.in-Full-1.keys1
 
 shape_of-marks-in-Full : tie.Need-shape_of-marks-in-Full
 shape_of-marks-in-Full c = c.include_export_symbols.auto.1.1.0
@@ -22,7 +22,7 @@ unfolding module_segments
 returns-in-Full c = segments_stop _ _ _ _ _ _ _ _ _ c.in-Full.is c.include_export_symbols.ensures
 
 enum_known-n : tie.Need-enum_known-n
-enum_known-n c = c.in-Lines.keys2
+enum_known-n c = c.in-Lines-1.keys2
 
 dev_candidate-requires : tie.Need-dev_candidate-requires
 dev_candidate-requires c κs = (c.requires.0, (c.requires.1.1.0, c.requires.1.1.1))

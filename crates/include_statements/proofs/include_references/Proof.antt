@@ -36,10 +36,10 @@ include_reference-requires : tie.Need-include_reference-requires invariant-loop-
 include_reference-requires c κs = let v = c.loop-r.invariant in (c.requires.0, (v.3.held, (stands_here _ _ _ _ _ _ c.reference_count-count.ensures.0 c.loop-r-test.true v.2 c.requires.1.1.0 c.requires.1.1.1, before_more _ _ _ c.requires.1.1.2 v.3.more)))
 
 enum_known-n : tie.Need-enum_known-n invariant-loop-r decreases-loop-r
-enum_known-n c = c.in-Lines.keys1
+enum_known-n c = c.in-Lines-1.keys1
 
 enum_told-1 : tie.Need-enum_told-1 invariant-loop-r decreases-loop-r
-enum_told-1 c = c.in-Full.keys2
+enum_told-1 c = c.in-Full-1.keys2
 
 shape_of-marks-in-Full : tie.Need-shape_of-marks-in-Full invariant-loop-r decreases-loop-r
 shape_of-marks-in-Full c = c.include_reference.auto.1.1.0 ∙ c.loop-r.invariant.0

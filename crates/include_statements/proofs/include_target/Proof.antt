@@ -8,7 +8,7 @@ demand_wrapper-requires : tie.Need-demand_wrapper-requires
 demand_wrapper-requires c κs = (c.requires.0, (c.requires.1.0, (c.requires.1.1.0, c.requires.1.1.3)))
 
 enum_told-1 : tie.Need-enum_told-1
-enum_told-1 c = c.in-Full.keys1
+enum_told-1 c = c.in-Full-1.keys1
 
 shape_of-marks-in-Full : tie.Need-shape_of-marks-in-Full
 shape_of-marks-in-Full c = c.demand_wrapper.auto.1.1.0
@@ -21,13 +21,13 @@ unfolding use_segments
 returns-in-Full c = segments_stop _ _ _ _ _ _ _ _ _ c.in-Full.is c.demand_wrapper.ensures
 
 enum_known-n : tie.Need-enum_known-n
-enum_known-n c = c.in-Lines.keys2
+enum_known-n c = c.in-Lines-1.keys2
 
 include_declarations-requires : tie.Need-include_declarations-requires
 include_declarations-requires c κs = let w1 = grown_on _ _ _ _ _ _ _ _ _ c.in-Lines.is c.demand_wrapper.ensures _ c.requires.1.1.3 in (c.requires.0, (w1.0, (c.requires.1.1.0, w1.1)))
 
 enum_told-in-Full-include_declarations : tie.Need-enum_told-in-Full-include_declarations
-enum_told-in-Full-include_declarations c = c.in-Full-include_declarations.keys1
+enum_told-in-Full-include_declarations c = c.in-Full-include_declarations-1.keys1
 
 shape_of-marks-in-Full-include_declarations : tie.Need-shape_of-marks-in-Full-include_declarations
 shape_of-marks-in-Full-include_declarations c = c.include_declarations.auto.1.1.0 ∙ c.demand_wrapper.auto.1.1.0
@@ -40,7 +40,7 @@ unfolding use_segments
 returns-in-Full-include_declarations c = segments_both _ _ _ _ _ _ _ _ _ _ c.in-Lines.is c.demand_wrapper.ensures _ _ _ (segments_stop _ _ _ _ _ _ _ _ _ c.in-Full-include_declarations.is c.include_declarations.ensures)
 
 enum_known-n-in-Lines-include_declarations : tie.Need-enum_known-n-in-Lines-include_declarations
-enum_known-n-in-Lines-include_declarations c = c.in-Lines-include_declarations.keys2
+enum_known-n-in-Lines-include_declarations c = c.in-Lines-include_declarations-1.keys2
 
 include_writes-requires : tie.Need-include_writes-requires
 include_writes-requires c κs = let w1 = grown_on _ _ _ _ _ _ _ _ _ c.in-Lines.is c.demand_wrapper.ensures _ c.requires.1.1.3 in let w2 = grown_on _ _ _ _ _ _ _ _ _ c.in-Lines-include_declarations.is c.include_declarations.ensures _ w1.1 in (c.requires.0, (w2.0, (c.requires.1.1.0, w2.1)))

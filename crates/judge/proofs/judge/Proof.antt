@@ -14,10 +14,10 @@ header-requires : tie.Need-header-requires
 header-requires c κs = _
 
 enum_known-n : tie.Need-enum_known-n
-enum_known-n c = c.in-Fault.keys1
+enum_known-n c = c.in-Fault-1.keys1
 
 enum_told-1 : tie.Need-enum_told-1
-enum_told-1 c = c.in-At.keys2
+enum_told-1 c = c.in-At-1.keys2
 
 header_of-h-requires : tie.Need-header_of-h-requires
 header_of-h-requires c κs = seven _ (at_got _ _ (sym c.header.ensures ∙ c.in-At.is)).1

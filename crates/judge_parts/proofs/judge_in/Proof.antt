@@ -7,10 +7,10 @@ may_judge-requires : tie.Need-may_judge-requires
 may_judge-requires c κs = (c.requires.0, c.requires.1.0)
 
 enum_known-n : tie.Need-enum_known-n
-enum_known-n c = c.in-Refused.keys1
+enum_known-n c = c.in-Refused-1.keys1
 
 enum_told-1 : tie.Need-enum_told-1
-enum_told-1 c = c.in-Accepted.keys2
+enum_told-1 c = c.in-Accepted-1.keys2
 
 judge_all-requires : tie.Need-judge_all-requires
 judge_all-requires c κs = (c.may_judge.ensures.good c.in-Accepted.is, (no_marks _ _ c.requires.0.is _ c.requires.1.1.0 c.requires.1.1.2, no_marks _ _ c.requires.0.is _ c.requires.1.1.1 c.requires.1.1.3))

@@ -10,10 +10,10 @@ ready-requires : tie.Need-ready-requires
 ready-requires c κs = (c.requires.0, c.requires.1.0)
 
 enum_known-n : tie.Need-enum_known-n
-enum_known-n c = c.in-Refused.keys1
+enum_known-n c = c.in-Refused-1.keys1
 
 enum_told-1 : tie.Need-enum_told-1
-enum_told-1 c = c.in-Accepted.keys2
+enum_told-1 c = c.in-Accepted-1.keys2
 
 mark_count-requires : tie.Need-mark_count-requires
 mark_count-requires c κs = (c.ready.ensures.1.known c.in-Accepted.is).0.loaded

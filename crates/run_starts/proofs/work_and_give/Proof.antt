@@ -8,22 +8,22 @@ work-requires : tie.Need-work-requires
 work-requires c κs = (c.requires.0, (c.requires.1.0, c.requires.1.1.0))
 
 enum_told-1 : tie.Need-enum_told-1
-enum_told-1 c = c.in-Full.keys1
+enum_told-1 c = c.in-Full-1.keys1
 
 enum_known-x : tie.Need-enum_known-x
-enum_known-x c = c.in-Done.keys2
+enum_known-x c = c.in-Done-1.keys2
 
 give-requires : tie.Need-give-requires
 give-requires c κs = (c.requires.0, (main_reached _ _ _ _ _ _ _ _ c.work.ensures _ c.in-Done.is, c.requires.1.1.1))
 
 enum_known-n : tie.Need-enum_known-n
-enum_known-n c = c.in-Refused.keys1
+enum_known-n c = c.in-Refused-1.keys1
 
 clear-requires : tie.Need-clear-requires
 clear-requires c κs = _
 
 enum_known-n-in-Numbers-1 : tie.Need-enum_known-n-in-Numbers-1
-enum_known-n-in-Numbers-1 c = c.in-Numbers.keys2
+enum_known-n-in-Numbers-1 c = c.in-Numbers-1.keys2
 
 shape_of-partners-in-Full : tie.Need-shape_of-partners-in-Full
 shape_of-partners-in-Full c = c.work.auto.1.1.0

@@ -2,25 +2,25 @@ use Rattle.tables.proofs.fits.Statement.{statement}
 use Rattle.tables.proofs.fits.Tie as tie
 
 enum_told-1 : tie.Need-enum_told-1
-enum_told-1 c = c.in-Small.keys1
+enum_told-1 c = c.in-Small-1.keys1
 
 holds-requires : tie.Need-holds-requires
 holds-requires c κs = _
 
 enum_told-in-Middle : tie.Need-enum_told-in-Middle
-enum_told-in-Middle c = c.in-Middle.keys2
+enum_told-in-Middle c = c.in-Middle-1.keys2
 
 holds-requires-in-Middle : tie.Need-holds-requires-in-Middle
 holds-requires-in-Middle c κs = _
 
 enum_told-in-Large : tie.Need-enum_told-in-Large
-enum_told-in-Large c = c.in-Large.keys3
+enum_told-in-Large c = c.in-Large-1.keys3
 
 holds-requires-in-Large : tie.Need-holds-requires-in-Large
 holds-requires-in-Large c κs = _
 
 enum_told-in-Largest : tie.Need-enum_told-in-Largest
-enum_told-in-Largest c = c.in-Largest.keys4
+enum_told-in-Largest c = c.in-Largest-1.keys4
 
 holds-requires-in-Largest : tie.Need-holds-requires-in-Largest
 holds-requires-in-Largest c κs = _
