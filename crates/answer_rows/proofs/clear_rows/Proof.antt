@@ -39,22 +39,22 @@ clear-requires-6 : tie.Need-clear-requires-6
 clear-requires-6 c κs = let f = (fits _ _ c.requires.1).reason_fit in omega (arith, c.row_bytes-3.ensures, f)
 
 shape_of-modules_row : tie.Need-shape_of-modules_row
-shape_of-modules_row c = c.clear.auto.0
+shape_of-modules_row c = c.clear.auto.row
 
 shape_of-statements_row : tie.Need-shape_of-statements_row
-shape_of-statements_row c = c.clear-2.auto.0
+shape_of-statements_row c = c.clear-2.auto.row
 
 shape_of-used : tie.Need-shape_of-used
-shape_of-used c = c.clear-3.auto.0
+shape_of-used c = c.clear-3.auto.row
 
 shape_of-external : tie.Need-shape_of-external
-shape_of-external c = c.clear-4.auto.0
+shape_of-external c = c.clear-4.auto.row
 
 shape_of-json : tie.Need-shape_of-json
-shape_of-json c = c.clear-5.auto.0
+shape_of-json c = c.clear-5.auto.row
 
 shape_of-reason : tie.Need-shape_of-reason
-shape_of-reason c = c.clear-6.auto.0
+shape_of-reason c = c.clear-6.auto.row
 
 returns : tie.Need-returns
 unfolding row_bytes

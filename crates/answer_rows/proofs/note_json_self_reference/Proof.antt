@@ -41,7 +41,7 @@ set-requires : tie.Need-set-requires
 set-requires c κs = omega (arith, c.target_of-t.ensures.1, c.requires.1.1)
 
 shape_of-bits : tie.Need-shape_of-bits
-shape_of-bits c = c.set.auto.0
+shape_of-bits c = c.set.auto.row
 
 returns : tie.Need-returns
 returns c = λ j. set-one j _ _ _ _ _ (json_this _ _ _ _ _ c.target_of-t.ensures.0 c.owner-owner.ensures.0 (sym c.flag.ensures ∙ c.if-flag.false) (ap (λ n. eqb n 2) (sym c.module_type.ensures) ∙ eq-eqb _ 2 c.if-module_type-ne2.false) (sym c.is_normal.ensures ∙ c.if-not-is_normal.false) (sym c.is_bypassed_inlined_constant.ensures ∙ c.if-is_bypassed_inlined_constant.false)) refl (c.set.ensures j)

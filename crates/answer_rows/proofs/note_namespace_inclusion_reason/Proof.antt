@@ -34,7 +34,7 @@ set-requires : tie.Need-set-requires
 set-requires c κs = omega (arith, c.owner-owner.ensures.1, c.requires.1.1)
 
 shape_of-bits-then-flag : tie.Need-shape_of-bits-then-flag
-shape_of-bits-then-flag c = c.set.auto.0
+shape_of-bits-then-flag c = c.set.auto.row
 
 returns-then-flag : tie.Need-returns-then-flag
 returns-then-flag c = λ j. set-one j _ _ _ _ _ (reason_first _ _ _ _ _ c.target_of-t.ensures.0 c.owner-owner.ensures.0 (sym c.flag.ensures ∙ c.if-flag.true) (sym c.is_namespace.ensures ∙ c.if-not-is_namespace.false) (sym c.is_bypassed_inlined_constant.ensures ∙ c.if-is_bypassed_inlined_constant.false)) refl (c.set.ensures j)
@@ -49,7 +49,7 @@ set-requires-then-flag-2 : tie.Need-set-requires-then-flag-2
 set-requires-then-flag-2 c κs = omega (arith, c.owner-owner.ensures.1, c.requires.1.1)
 
 shape_of-bits-then-flag-2 : tie.Need-shape_of-bits-then-flag-2
-shape_of-bits-then-flag-2 c = c.set-then-flag-2.auto.0
+shape_of-bits-then-flag-2 c = c.set-then-flag-2.auto.row
 
 returns-then-flag-2 : tie.Need-returns-then-flag-2
 returns-then-flag-2 c = λ j. set-one j _ _ _ _ _ (reason_second _ _ _ _ _ c.target_of-t.ensures.0 c.owner-owner.ensures.0 (sym c.flag-2.ensures ∙ c.if-flag-2.true) (sym c.flag.ensures ∙ c.if-flag.false) (sym c.is_namespace.ensures ∙ c.if-not-is_namespace.false) (sym c.is_bypassed_inlined_constant.ensures ∙ c.if-is_bypassed_inlined_constant.false)) refl (c.set-then-flag-2.ensures j)
@@ -67,7 +67,7 @@ set-requires-then-flag-3 : tie.Need-set-requires-then-flag-3
 set-requires-then-flag-3 c κs = omega (arith, c.owner-owner.ensures.1, c.requires.1.1)
 
 shape_of-bits : tie.Need-shape_of-bits
-shape_of-bits c = c.set-then-flag-3.auto.0
+shape_of-bits c = c.set-then-flag-3.auto.row
 
 returns-then-flag-3 : tie.Need-returns-then-flag-3
 returns-then-flag-3 c = λ j. set-one j _ _ _ _ _ (reason_third _ _ _ _ _ c.target_of-t.ensures.0 c.owner-owner.ensures.0 (sym c.flag-3.ensures ∙ c.if-flag-3.true) (sym c.flag-2.ensures ∙ c.if-flag-2.false) (sym c.flag.ensures ∙ c.if-flag.false) (sym c.is_namespace.ensures ∙ c.if-not-is_namespace.false) (sym c.is_bypassed_inlined_constant.ensures ∙ c.if-is_bypassed_inlined_constant.false)) refl (c.set-then-flag-3.ensures j)

@@ -18,10 +18,10 @@ show_if_external-requires : tie.Need-show_if_external-requires
 show_if_external-requires c κs = (c.requires.0, (c.target_of.ensures.1, c.requires.1.1))
 
 show_if_external-requires-2 : tie.Need-show_if_external-requires-2
-show_if_external-requires-2 c κs = (c.requires.0, (c.requires.1.0, omega (arith, c.requires.1.1, c.show_if_external.auto.1.1.1.0)))
+show_if_external-requires-2 c κs = (c.requires.0, (c.requires.1.0, omega (arith, c.requires.1.1, c.show_if_external.auto.bits)))
 
 shape_of-bits : tie.Need-shape_of-bits
-shape_of-bits c = c.show_if_external-2.auto.1.1.1.0 ∙ c.show_if_external.auto.1.1.1.0
+shape_of-bits c = c.show_if_external-2.auto.bits ∙ c.show_if_external.auto.bits
 
 returns : tie.Need-returns
 returns c = λ j. set_both j _ _ _ _ _ _ (external_these _ _ _ _ c.target_of.ensures.0 (sym c.is_bypassed_inlined_constant.ensures ∙ c.if-is_bypassed_inlined_constant.false)) (c.show_if_external.ensures j) (c.show_if_external-2.ensures j)

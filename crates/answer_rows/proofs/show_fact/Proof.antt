@@ -49,31 +49,31 @@ enum_told-in-Bailout : tie.Need-enum_told-in-Bailout
 enum_told-in-Bailout c = search rules
 
 shape_of-modules_row : tie.Need-shape_of-modules_row
-shape_of-modules_row c = c.show_module.auto.1.1.1.1.0
+shape_of-modules_row c = c.show_module.auto.modules_row
 
 shape_of-reason-in-Module : tie.Need-shape_of-reason-in-Module
-shape_of-reason-in-Module c = c.show_module.auto.1.1.1.1.1.0
+shape_of-reason-in-Module c = c.show_module.auto.reason
 
 returns-in-Module : tie.Need-returns-in-Module
 returns-in-Module c = fact_module _ _ _ _ _ _ _ c.in-Module.is c.show_module.ensures
 
 shape_of-statements_row : tie.Need-shape_of-statements_row
-shape_of-statements_row c = c.set_in_part.auto.0
+shape_of-statements_row c = c.set_in_part.auto.row
 
 returns-in-Statement : tie.Need-returns-in-Statement
 returns-in-Statement c = fact_statement _ _ _ _ _ _ _ _ c.in-Statement.is c.first_byte_of.ensures c.set_in_part.ensures
 
 shape_of-used : tie.Need-shape_of-used
-shape_of-used c = c.show_use.auto.1.1.1.1.1.0
+shape_of-used c = c.show_use.auto.used
 
 shape_of-external : tie.Need-shape_of-external
-shape_of-external c = c.show_use.auto.1.1.1.1.1.1.0
+shape_of-external c = c.show_use.auto.external
 
 shape_of-json : tie.Need-shape_of-json
-shape_of-json c = c.show_use.auto.1.1.1.1.1.1.1.0
+shape_of-json c = c.show_use.auto.json
 
 shape_of-reason-in-Use : tie.Need-shape_of-reason-in-Use
-shape_of-reason-in-Use c = c.show_use.auto.1.1.1.1.1.1.1.1.0
+shape_of-reason-in-Use c = c.show_use.auto.reason
 
 returns-in-Use : tie.Need-returns-in-Use
 returns-in-Use c = fact_use _ _ _ _ _ _ _ _ _ _ c.in-Use.is c.show_use.ensures

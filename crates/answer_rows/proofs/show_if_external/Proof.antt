@@ -19,7 +19,7 @@ set-requires : tie.Need-set-requires
 set-requires c κs = omega (arith, c.requires.1.0, c.requires.1.1)
 
 shape_of-bits : tie.Need-shape_of-bits
-shape_of-bits c = c.set.auto.0
+shape_of-bits c = c.set.auto.row
 
 returns : tie.Need-returns
 returns c = λ j. set-one j _ _ _ _ _ (strange_this (graph_in c.args.numbers.now) c.args.s.0 _ _ c.owner-owner.ensures.0 c.is_normal.ensures c.if-is_normal.false) refl (c.set.ensures j)

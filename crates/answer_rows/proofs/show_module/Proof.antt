@@ -19,24 +19,24 @@ set-requires-then-dev_namespace : tie.Need-set-requires-then-dev_namespace
 set-requires-then-dev_namespace c κs = omega (arith, c.requires.1.0, c.requires.1.2)
 
 shape_of-modules_row-then-dev_namespace : tie.Need-shape_of-modules_row-then-dev_namespace
-shape_of-modules_row-then-dev_namespace c = c.set.auto.0
+shape_of-modules_row-then-dev_namespace c = c.set.auto.row
 
 shape_of-reason : tie.Need-shape_of-reason
-shape_of-reason c = c.set-then-dev_namespace.auto.0
+shape_of-reason c = c.set-then-dev_namespace.auto.row
 
 returns-then-dev_namespace : tie.Need-returns-then-dev_namespace
 unfolding shows
 returns-then-dev_namespace c = (shows-one _ _ _ _ _ _ _ refl refl c.set.ensures, shows-if _ _ _ _ _ _ c.if-main.true (shows-one _ _ _ _ _ _ _ (only_this _ _ (sym c.dev_namespace.ensures ∙ c.if-dev_namespace.true)) refl c.set-then-dev_namespace.ensures))
 
 shape_of-modules_row-else-dev_namespace : tie.Need-shape_of-modules_row-else-dev_namespace
-shape_of-modules_row-else-dev_namespace c = c.set.auto.0
+shape_of-modules_row-else-dev_namespace c = c.set.auto.row
 
 returns-else-dev_namespace : tie.Need-returns-else-dev_namespace
 unfolding shows
 returns-else-dev_namespace c = (shows-one _ _ _ _ _ _ _ refl refl c.set.ensures, shows_none _ _ _ _ _ (only_none _ _ (sym c.dev_namespace.ensures ∙ c.if-dev_namespace.false)))
 
 shape_of-modules_row-else-main : tie.Need-shape_of-modules_row-else-main
-shape_of-modules_row-else-main c = c.set.auto.0
+shape_of-modules_row-else-main c = c.set.auto.row
 
 returns-else-main : tie.Need-returns-else-main
 unfolding shows

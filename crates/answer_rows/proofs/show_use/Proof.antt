@@ -17,16 +17,16 @@ note_namespace_inclusion_reason-requires : tie.Need-note_namespace_inclusion_rea
 note_namespace_inclusion_reason-requires c κs = (c.requires.0, (c.requires.1.0, c.requires.1.1.3))
 
 shape_of-used-then-main : tie.Need-shape_of-used-then-main
-shape_of-used-then-main c = c.show_used.auto.1.1.1.1.0
+shape_of-used-then-main c = c.show_used.auto.bits
 
 shape_of-external-then-main : tie.Need-shape_of-external-then-main
-shape_of-external-then-main c = c.show_external.auto.1.1.1.1.0
+shape_of-external-then-main c = c.show_external.auto.bits
 
 shape_of-json : tie.Need-shape_of-json
-shape_of-json c = c.note_json_self_reference.auto.1.1.1.1.0
+shape_of-json c = c.note_json_self_reference.auto.bits
 
 shape_of-reason : tie.Need-shape_of-reason
-shape_of-reason c = c.note_namespace_inclusion_reason.auto.1.1.1.1.0
+shape_of-reason c = c.note_namespace_inclusion_reason.auto.bits
 
 returns-then-main : tie.Need-returns-then-main
 unfolding shows
@@ -35,10 +35,10 @@ returns-then-main c =
     (shows-list _ _ _ _ _ _ refl c.show_used.ensures, shows-list _ _ _ _ _ _ refl c.show_external.ensures, shows-if _ _ _ _ _ _ t (shows-list _ _ _ _ _ _ refl c.note_json_self_reference.ensures), shows-if _ _ _ _ _ _ t (shows-list _ _ _ _ _ _ refl c.note_namespace_inclusion_reason.ensures))
 
 shape_of-used-else-main : tie.Need-shape_of-used-else-main
-shape_of-used-else-main c = c.show_used.auto.1.1.1.1.0
+shape_of-used-else-main c = c.show_used.auto.bits
 
 shape_of-external-else-main : tie.Need-shape_of-external-else-main
-shape_of-external-else-main c = c.show_external.auto.1.1.1.1.0
+shape_of-external-else-main c = c.show_external.auto.bits
 
 returns-else-main : tie.Need-returns-else-main
 unfolding shows

@@ -18,10 +18,10 @@ set-requires : tie.Need-set-requires
 set-requires c κs = omega (arith, c.target_of-t.ensures.1, c.requires.1.1)
 
 set-requires-2 : tie.Need-set-requires-2
-set-requires-2 c κs = omega (arith, c.requires.1.0, c.requires.1.1, c.set.auto.0)
+set-requires-2 c κs = omega (arith, c.requires.1.0, c.requires.1.1, c.set.auto.row)
 
 shape_of-bits : tie.Need-shape_of-bits
-shape_of-bits c = c.set-2.auto.0 ∙ c.set.auto.0
+shape_of-bits c = c.set-2.auto.row ∙ c.set.auto.row
 
 returns : tie.Need-returns
 returns c = λ j. set_both j _ _ _ _ _ _ (used_these _ _ _ _ c.target_of-t.ensures.0 (sym c.is_bypassed_inlined_constant.ensures ∙ c.if-is_bypassed_inlined_constant.false)) (set-one j _ _ _ _ _ refl refl (c.set.ensures j)) (set-one j _ _ _ _ _ refl refl (c.set-2.ensures j))

@@ -20,12 +20,12 @@ header_of-h-requires c κs = search rules
 slice_bounds-verdicts-end : tie.Need-slice_bounds-verdicts-end
 slice_bounds-verdicts-end c =
     let few = modules_few c.requires.0 _ c.header_of-h.ensures in
-    omega (arith, few, c.effects.auto.1.0, length-replicate {A = ℕ} 1024 0)
+    omega (arith, few, c.effects.auto.row, length-replicate {A = ℕ} 1024 0)
 
 slice_bounds-form-end : tie.Need-slice_bounds-form-end
 slice_bounds-form-end c =
     let few = modules_few c.requires.0 _ c.header_of-h.ensures in
-    sym (length-take-le _ _ (omega (arith, few, c.effects.auto.1.0, length-replicate {A = ℕ} 1024 0)))
+    sym (length-take-le _ _ (omega (arith, few, c.effects.auto.row, length-replicate {A = ℕ} 1024 0)))
 
 form-requires : tie.Need-form-requires
 form-requires c κs =

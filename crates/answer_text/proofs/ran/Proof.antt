@@ -51,31 +51,31 @@ enum_known-t : tie.Need-enum_known-t
 enum_known-t c = search rules
 
 slice_bounds-listed-end : tie.Need-slice_bounds-listed-end
-slice_bounds-listed-end c = sym c.run.auto.1.1.1.1.1.1.1.1.1.1.1.0
+slice_bounds-listed-end c = sym c.run.auto.entries
 
 slice_bounds-listed-end-in-Done : tie.Need-slice_bounds-listed-end-in-Done
-slice_bounds-listed-end-in-Done c = sym c.run.auto.1.1.1.0
+slice_bounds-listed-end-in-Done c = sym c.run.auto.modules_row
 
 slice_bounds-listed-end-in-Done-2 : tie.Need-slice_bounds-listed-end-in-Done-2
-slice_bounds-listed-end-in-Done-2 c = sym c.run.auto.1.1.1.1.0
+slice_bounds-listed-end-in-Done-2 c = sym c.run.auto.statements_row
 
 slice_bounds-listed-end-in-Done-3 : tie.Need-slice_bounds-listed-end-in-Done-3
-slice_bounds-listed-end-in-Done-3 c = sym c.run.auto.1.1.1.1.1.0
+slice_bounds-listed-end-in-Done-3 c = sym c.run.auto.used
 
 slice_bounds-listed-end-in-Done-4 : tie.Need-slice_bounds-listed-end-in-Done-4
-slice_bounds-listed-end-in-Done-4 c = sym c.run.auto.1.1.1.1.1.1.0
+slice_bounds-listed-end-in-Done-4 c = sym c.run.auto.external
 
 slice_bounds-listed-end-in-Done-5 : tie.Need-slice_bounds-listed-end-in-Done-5
-slice_bounds-listed-end-in-Done-5 c = sym c.run.auto.1.1.1.1.1.1.1.0
+slice_bounds-listed-end-in-Done-5 c = sym c.run.auto.json
 
 slice_bounds-listed-end-in-Done-6 : tie.Need-slice_bounds-listed-end-in-Done-6
-slice_bounds-listed-end-in-Done-6 c = sym c.run.auto.1.1.1.1.1.1.1.1.0
+slice_bounds-listed-end-in-Done-6 c = sym c.run.auto.reason
 
 slice_bounds-listed-end-in-Done-7 : tie.Need-slice_bounds-listed-end-in-Done-7
-slice_bounds-listed-end-in-Done-7 c = sym c.run.auto.1.1.1.1.1.1.1.1.1.0
+slice_bounds-listed-end-in-Done-7 c = sym c.run.auto.dead
 
 slice_bounds-listed-end-in-Done-8 : tie.Need-slice_bounds-listed-end-in-Done-8
-slice_bounds-listed-end-in-Done-8 c = sym c.run.auto.1.1.1.1.1.1.1.1.1.1.0
+slice_bounds-listed-end-in-Done-8 c = sym c.run.auto.helpers
 
 listed-requires : tie.Need-listed-requires
 listed-requires c κs =

@@ -39,115 +39,113 @@ claims t = (
   complete.Post,
 )
 
-abbrev invariant-loop-k : lts.invariant-loop
+abbrev invariant-loop-k : lts.invariant-loop-k
 invariant-loop-k modules cap outs succs t fuel seen₀ order₀ count size c₀ k₀ seen order c k =
     (k ≤ cap)
     × Going (succs_in modules cap outs succs) (fuel - 1) modules (succs_from cap outs succs t 0) seen₀ order₀ c₀ (succs_from cap outs succs t k) seen order c
 
-abbrev decreases-loop-k : lts.decreases-loop
+abbrev decreases-loop-k : lts.decreases-loop-k
 decreases-loop-k modules cap outs succs t fuel seen₀ order₀ count size c₀ k₀ seen order c k = size - k
 
 -- at the loop the node is entered
-started : (t : ℕ) (c : lts.At-loop (claims t) (at t) complete.Post invariant-loop-k decreases-loop-k)
-    → Entered c.before.before.before.before.before.before.before.before.before.before.before.before.before.before.args.modules c.before.before.before.before.before.before.before.before.before.before.before.before.before.before.args.t c.before.before.before.before.before.before.before.before.before.before.before.before.before.before.args.seen.now c.before.before.before.before.before.before.before.before.before.before.before.before.before.before.args.order.now c.before.before.before.before.before.before.before.before.before.before.before.before.before.before.args.count c.before.before.before.before.set.new.row
+started : (t : ℕ) (c : lts.At-loop-k (claims t) (at t) complete.Post invariant-loop-k decreases-loop-k)
+    → Entered c.args.modules c.args.t c.args.seen.now c.args.order.now c.args.count c.set.new.row
 started t c =
-    let p = c.before.before.before.before.before.before.before.before.before.before.before.before.before.before.requires.1 in
-    record { inside = p.0.1; new = sym c.before.before.before.before.before.before.before.test.ensures ∙ c.before.before.before.before.before.before.if2.false; bits = c.before.before.before.before.set.ensures; same_seen = c.before.before.before.before.set.auto.0; room = p.1 }
+    let p = c.requires.1 in
+    record { inside = p.0.1; new = sym c.test.ensures ∙ c.if-test.false; bits = c.set.ensures; same_seen = c.set.auto.row; room = p.1 }
 
 -- in it there is a successor in the row
-column : (t : ℕ) (c : lts.In-loop (claims t) (at t) complete.Post invariant-loop-k decreases-loop-k) → c.before.loop.k < c.before.before.before.before.before.before.before.before.before.before.before.before.before.before.before.args.cap
-column t c = let p = c.before.before.before.before.before.before.before.before.before.before.before.before.before.before.before.requires.1.0 in let r = p.0.rows_fit _ p.1 in omega (arith, r, c.loop-test.true)
+column : (t : ℕ) (c : lts.In-loop-k (claims t) (at t) complete.Post invariant-loop-k decreases-loop-k) → c.loop-k.k < c.args.cap
+column t c = let p = c.requires.1.0 in let r = p.0.rows_fit _ p.1 in omega (arith, r, c.loop-k-test.true)
 
-few : (t : ℕ) (c : lts.In-loop (claims t) (at t) complete.Post invariant-loop-k decreases-loop-k) → c.before.before.before.before.before.before.before.before.before.before.before.before.before.before.before.args.t * c.before.before.before.before.before.before.before.before.before.before.before.before.before.before.before.args.cap + c.before.loop.k < 1048576
-few t c = let p = c.before.before.before.before.before.before.before.before.before.before.before.before.before.before.before.requires.1.0 in place_few _ _ _ _ p.1 (column t c) p.0.few p.0.cap_few
+few : (t : ℕ) (c : lts.In-loop-k (claims t) (at t) complete.Post invariant-loop-k decreases-loop-k) → c.args.t * c.args.cap + c.loop-k.k < 1048576
+few t c = let p = c.requires.1.0 in place_few _ _ _ _ p.1 (column t c) p.0.few p.0.cap_few
 
-returns : (t : ℕ) → lts.Need-returns (claims t) (at t) complete.Post invariant-loop-k decreases-loop-k
-returns t c = walk_stops _ _ _ _ _ _ _ c.if1.true
+returns : (t : ℕ) → lts.Need-returns-then-fuel-eq0 (claims t) (at t) complete.Post invariant-loop-k decreases-loop-k
+returns t c = walk_stops _ _ _ _ _ _ _ c.if-fuel-eq0.true
 
 test-requires : (t : ℕ) → lts.Need-test-requires (claims t) (at t) complete.Post invariant-loop-k decreases-loop-k
-test-requires t c κs = let p = c.before.before.before.before.before.before.requires.1 in omega (arith, p.0.1, p.1.wide)
+test-requires t c κs = let p = c.requires.1 in omega (arith, p.0.1, p.1.wide)
 
-same_length : (t : ℕ) → lts.Need-same-length (claims t) (at t) complete.Post invariant-loop-k decreases-loop-k
+same_length : (t : ℕ) → lts.Need-shape_of-seen-then-test (claims t) (at t) complete.Post invariant-loop-k decreases-loop-k
 same_length t c = search rules
 
-returns-2 : (t : ℕ) → lts.Need-returns-2 (claims t) (at t) complete.Post invariant-loop-k decreases-loop-k
-returns-2 t c = walk_old _ _ _ _ _ _ _ c.before.before.before.if1.false (sym c.before.test.ensures ∙ c.if2.true)
+returns-2 : (t : ℕ) → lts.Need-returns-then-test (claims t) (at t) complete.Post invariant-loop-k decreases-loop-k
+returns-2 t c = walk_old _ _ _ _ _ _ _ c.if-fuel-eq0.false (sym c.test.ensures ∙ c.if-test.true)
 
 set-requires : (t : ℕ) → lts.Need-set-requires (claims t) (at t) complete.Post invariant-loop-k decreases-loop-k
-set-requires t c κs = let p = c.before.before.before.before.before.before.before.before.before.requires.1 in omega (arith, p.0.1, p.1.wide)
+set-requires t c κs = let p = c.requires.1 in omega (arith, p.0.1, p.1.wide)
 
-mul-size : (t : ℕ) → lts.Need-overflow-mul-size (claims t) (at t) complete.Post invariant-loop-k decreases-loop-k
-mul-size t c = let p = c.before.before.before.before.before.before.before.before.before.before.before.before.requires.1.0 in omega (arith, p.1, p.0.few)
+mul-size : (t : ℕ) → lts.Need-offset_bounds-outs-t (claims t) (at t) complete.Post invariant-loop-k decreases-loop-k
+mul-size t c = let p = c.requires.1.0 in omega (arith, p.1, p.0.few)
 
-shared-slice-read-size : (t : ℕ) → lts.Need-shared-slice-read-size (claims t) (at t) complete.Post invariant-loop-k decreases-loop-k
-shared-slice-read-size t c = let p = c.before.before.before.before.before.before.before.before.before.before.before.before.before.requires.1.0 in omega (arith, p.1, p.0.outs_long)
+shared-slice-read-size : (t : ℕ) → lts.Need-bounds-outs-t (claims t) (at t) complete.Post invariant-loop-k decreases-loop-k
+shared-slice-read-size t c = let p = c.requires.1.0 in omega (arith, p.1, p.0.outs_long)
 
-loop-holds : (t : ℕ) → lts.Need-loop-init (claims t) (at t) complete.Post invariant-loop-k decreases-loop-k
+loop-holds : (t : ℕ) → lts.Need-loop-k-init (claims t) (at t) complete.Post invariant-loop-k decreases-loop-k
 loop-holds t c = (omega arith, go_start _ _ _ _ _ _ _ _ refl)
 
-add-loop : (t : ℕ) → lts.Need-overflow-add-loop (claims t) (at t) complete.Post invariant-loop-k decreases-loop-k
-add-loop t c = omega (arith, c.loop.invariant.0, c.before.before.before.before.before.before.before.before.before.before.before.before.before.before.requires.1.0.0.cap_few)
+add-loop : (t : ℕ) → lts.Need-overflow_add-k (claims t) (at t) complete.Post invariant-loop-k decreases-loop-k
+add-loop t c = omega (arith, c.loop-k.invariant.0, c.requires.1.0.0.cap_few)
 
-mul_wide : (t : ℕ) → lts.Need-overflow-mul-wide (claims t) (at t) complete.Post invariant-loop-k decreases-loop-k
+mul_wide : (t : ℕ) → lts.Need-overflow_mul-t (claims t) (at t) complete.Post invariant-loop-k decreases-loop-k
 mul_wide t c = let f = few t c in omega (arith, f)
 
-add_wide : (t : ℕ) → lts.Need-overflow-add-wide (claims t) (at t) complete.Post invariant-loop-k decreases-loop-k
+add_wide : (t : ℕ) → lts.Need-overflow_add-t (claims t) (at t) complete.Post invariant-loop-k decreases-loop-k
 add_wide t c = let f = few t c in omega (arith, f)
 
-mul-wide-2 : (t : ℕ) → lts.Need-overflow-mul-wide-2 (claims t) (at t) complete.Post invariant-loop-k decreases-loop-k
+mul-wide-2 : (t : ℕ) → lts.Need-offset_bounds-succs-t (claims t) (at t) complete.Post invariant-loop-k decreases-loop-k
 mul-wide-2 t c = let f = few t c in omega (arith, f)
 
-shared-slice-read-wide : (t : ℕ) → lts.Need-shared-slice-read-wide (claims t) (at t) complete.Post invariant-loop-k decreases-loop-k
-shared-slice-read-wide t c = let p = c.before.before.before.before.before.before.before.before.before.before.before.before.before.before.before.before.requires.1.0 in let q = place_below _ _ _ _ p.1 (column t c.before) in omega (arith, q, p.0.succs_long)
+shared-slice-read-wide : (t : ℕ) → lts.Need-bounds-succs-t (claims t) (at t) complete.Post invariant-loop-k decreases-loop-k
+shared-slice-read-wide t c = let p = c.requires.1.0 in let q = place_below _ _ _ _ p.1 (column t c.before) in omega (arith, q, p.0.succs_long)
 
-wide-requires : (t : ℕ) → lts.Need-wide-requires (claims t) (at t) complete.Post invariant-loop-k decreases-loop-k
+wide-requires : (t : ℕ) → lts.Need-wide-u-requires (claims t) (at t) complete.Post invariant-loop-k decreases-loop-k
 wide-requires t c κs = search rules
 
-sub-complete : (t : ℕ) → lts.Need-overflow-sub-complete (claims t) (at t) complete.Post invariant-loop-k decreases-loop-k
-sub-complete t c = omega (arith, c.before.before.before.before.before.before.before.before.before.before.before.before.if1.false)
+sub-complete : (t : ℕ) → lts.Need-overflow_sub-fuel (claims t) (at t) complete.Post invariant-loop-k decreases-loop-k
+sub-complete t c = omega (arith, c.if-fuel-eq0.false)
 
-complete-requires : (t : ℕ) → lts.Need-complete-requires (claims t) (at t) complete.Post invariant-loop-k decreases-loop-k
+complete-requires : (t : ℕ) → lts.Need-complete-c-requires (claims t) (at t) complete.Post invariant-loop-k decreases-loop-k
 complete-requires t c κs =
-    let s = c.before.before.before.before.before.before.before.before.before.before.before.before.before.before.before.before.before.before.before in
-    let l = c.before.before.before.before.before in
-    let p = s.requires.1.0 in (
-      omega (arith, s.requires.0, c.before.before.before.before.before.before.before.before.before.before.before.before.before.before.if1.false),
-      ((p.0, rw c.before.before.wide.ensures (p.0.succ_below _ _ p.1 (omega (arith, c.before.before.before.before.loop-test.true)))), room-below (started t l) l.loop.invariant.1),
+    let p = c.requires.1.0 in (
+      omega (arith, c.requires.0, c.if-fuel-eq0.false),
+      ((p.0, rw c.wide-u.ensures (p.0.succ_below _ _ p.1 (omega (arith, c.loop-k-test.true)))), room-below (started t c) c.loop-k.invariant.1),
     )
 
-add-k : (t : ℕ) → lts.Need-overflow-add-k (claims t) (at t) complete.Post invariant-loop-k decreases-loop-k
-add-k t c = omega (arith, c.before.before.before.before.before.before.before.before.before.before.loop.invariant.0, c.before.before.before.before.before.before.before.before.before.before.before.before.before.before.before.before.before.before.before.before.before.before.before.before.requires.1.0.0.cap_few)
+add-k : (t : ℕ) → lts.Need-overflow_add-k-in-loop-k (claims t) (at t) complete.Post invariant-loop-k decreases-loop-k
+add-k t c = omega (arith, c.loop-k.invariant.0, c.requires.1.0.0.cap_few)
 
-loop-less : (t : ℕ) → lts.Need-loop-smaller (claims t) (at t) complete.Post invariant-loop-k decreases-loop-k
-loop-less t c = omega (arith, c.before.before.before.before.before.before.before.before.before.loop-test.true)
+loop-less : (t : ℕ) → lts.Need-loop-k-smaller (claims t) (at t) complete.Post invariant-loop-k decreases-loop-k
+loop-less t c = omega (arith, c.loop-k-test.true)
 
-loop-again : (t : ℕ) → lts.Need-loop-preserved (claims t) (at t) complete.Post invariant-loop-k decreases-loop-k
+loop-again : (t : ℕ) → lts.Need-loop-k-preserved (claims t) (at t) complete.Post invariant-loop-k decreases-loop-k
 loop-again t c =
-    let l = c.before.before.before.before.before.before.before.before.before.before.loop in
-    let k = c.before.before.before.before.complete.auto.1.1.1.1.1.1 in
+    let l = c.loop-k in
+    let k = c.complete-c.auto.1.1.1.1.1.1 in
     let h = column t c.before.before.before.before.before.before.before.before.before in (
       omega (arith, h),
-      go_step l.invariant.1 _ _ _ _ _ (succs_turn _ _ _ _ _ _ c.before.before.before.before.before.before.before.before.before.loop-test.true c.before.before.before.before.before.before.before.wide.ensures) k.0 k.1.0 c.before.before.before.before.complete.ensures,
+      go_step l.invariant.1 _ _ _ _ _ (succs_turn _ _ _ _ _ _ c.loop-k-test.true c.wide-u.ensures) k.0 k.1.0 c.complete-c.ensures,
     )
 
-mul-order : (t : ℕ) → lts.Need-overflow-mul-order (claims t) (at t) complete.Post invariant-loop-k decreases-loop-k
-mul-order t c = let r = room_for (started t c.before) c.before.loop.invariant.1 in omega (arith, r, c.before.before.before.before.before.before.before.before.before.before.before.before.before.before.before.requires.1.0.0.few)
+mul-order : (t : ℕ) → lts.Need-offset_bounds-order-c (claims t) (at t) complete.Post invariant-loop-k decreases-loop-k
+mul-order t c = let r = room_for (started t c.before) c.loop-k.invariant.1 in omega (arith, r, c.requires.1.0.0.few)
 
-slice-write-order : (t : ℕ) → lts.Need-slice-write-order (claims t) (at t) complete.Post invariant-loop-k decreases-loop-k
-slice-write-order t c = let r = room_for (started t c.before) c.before.loop.invariant.1 in let e = c.before.loop.invariant.1.same_order in omega (arith, r, e, c.before.before.before.before.before.before.before.before.before.before.before.before.before.before.before.requires.1.1.long)
+slice-write-order : (t : ℕ) → lts.Need-bounds-order-c (claims t) (at t) complete.Post invariant-loop-k decreases-loop-k
+slice-write-order t c = let r = room_for (started t c.before) c.loop-k.invariant.1 in let e = c.loop-k.invariant.1.same_order in omega (arith, r, e, c.requires.1.1.long)
 
-add-result : (t : ℕ) → lts.Need-overflow-add-result (claims t) (at t) complete.Post invariant-loop-k decreases-loop-k
-add-result t c = let r = room_for (started t c.before) c.before.loop.invariant.1 in omega (arith, r, c.before.before.before.before.before.before.before.before.before.before.before.before.before.before.before.requires.1.0.0.few)
+add-result : (t : ℕ) → lts.Need-overflow_add-result (claims t) (at t) complete.Post invariant-loop-k decreases-loop-k
+add-result t c = let r = room_for (started t c.before) c.loop-k.invariant.1 in omega (arith, r, c.requires.1.0.0.few)
 
-same-length-2 : (t : ℕ) → lts.Need-same-length-2 (claims t) (at t) complete.Post invariant-loop-k decreases-loop-k
-same-length-2 t c = c.before.loop.invariant.1.same_seen ∙ c.before.before.before.before.before.set.auto.0
+same-length-2 : (t : ℕ) → lts.Need-shape_of-seen (claims t) (at t) complete.Post invariant-loop-k decreases-loop-k
+same-length-2 t c = c.loop-k.invariant.1.same_seen ∙ c.set.auto.row
 
-same-length-3 : (t : ℕ) → lts.Need-same-length-3 (claims t) (at t) complete.Post invariant-loop-k decreases-loop-k
-same-length-3 t c = length-set c.before.loop.order c.before.loop.c c.before.before.before.before.before.before.before.before.before.before.before.before.before.before.before.args.t ∙ c.before.loop.invariant.1.same_order
+same-length-3 : (t : ℕ) → lts.Need-shape_of-order (claims t) (at t) complete.Post invariant-loop-k decreases-loop-k
+same-length-3 t c = length-set c.loop-k.order c.loop-k.c c.args.t ∙ c.loop-k.invariant.1.same_order
 
-returns-3 : (t : ℕ) → lts.Need-returns-3 (claims t) (at t) complete.Post invariant-loop-k decreases-loop-k
+returns-3 : (t : ℕ) → lts.Need-returns (claims t) (at t) complete.Post invariant-loop-k decreases-loop-k
 returns-3 t c =
-    walk_new (started t c.before) _ _ c.before.loop.invariant.1 c.before.before.before.before.before.before.before.before.before.before.if1.false (succs_all _ _ _ _ _ c.before.before.before.before.before.before.before.before.before.before.before.before.before.before.before.requires.1.0.1) (succs_over _ _ _ _ _ c.loop-test.false)
+    walk_new (started t c.before) _ _ c.loop-k.invariant.1 c.if-fuel-eq0.false (succs_all _ _ _ _ _ c.requires.1.0.1) (succs_over _ _ _ _ _ c.loop-k-test.false)
 
 pub +complete_spec : {M : Type 1} → statement M
 +complete_spec = close μ λ t. lts.spec (claims t)

@@ -34,10 +34,10 @@ mark_cycles-requires c κs =
     )
 
 shape_of-order : tie.Need-shape_of-order
-shape_of-order c = c.complete_all-count.auto.1.1.1.1.1.1.1.0
+shape_of-order c = c.complete_all-count.auto.order
 
 shape_of-plan : tie.Need-shape_of-plan
-shape_of-plan c = c.mark_cycles.auto.1.1.1.1.1.1.0
+shape_of-plan c = c.mark_cycles.auto.plan
 
 returns : tie.Need-returns
 returns c =

@@ -30,36 +30,36 @@ flag-requires c κs = omega arith
 show_dead_at_end-requires : tie.Need-show_dead_at_end-requires
 show_dead_at_end-requires c κs =
     let firsts = c.fill_first_records in
-    (c.requires.0, (c.requires.1.0, (omega (arith, firsts.auto.1.1.0, c.requires.1.1.0), firsts.ensures, omega (arith, c.clear.auto.0, c.requires.1.1.1, bytes_hold (record_count (graph_in c.args.numbers.now))))))
+    (c.requires.0, (c.requires.1.0, (omega (arith, firsts.auto.1.1.0, c.requires.1.1.0), firsts.ensures, omega (arith, c.clear.auto.row, c.requires.1.1.1, bytes_hold (record_count (graph_in c.args.numbers.now))))))
 
 show_found_dead-requires : tie.Need-show_found_dead-requires
 unfolding graph_in
 show_found_dead-requires c κs =
     let firsts = c.fill_first_records in
-    (c.requires.0, ((c.requires.1.0.long, omega (arith, c.clear.auto.0, c.requires.1.1.1, bytes_hold (record_count (graph_in c.args.numbers.now)))), (omega (arith, firsts.auto.1.1.0, c.requires.1.1.0), firsts.ensures)))
+    (c.requires.0, ((c.requires.1.0.long, omega (arith, c.clear.auto.row, c.requires.1.1.1, bytes_hold (record_count (graph_in c.args.numbers.now)))), (omega (arith, firsts.auto.1.1.0, c.requires.1.1.0), firsts.ensures)))
 
 shape_of-scratch-then-flag : tie.Need-shape_of-scratch-then-flag
-shape_of-scratch-then-flag c = c.show_dead_at_end.auto.1.1.1.1.1.1.1.0 ∙ c.fill_first_records.auto.1.1.0
+shape_of-scratch-then-flag c = c.show_dead_at_end.auto.scratch ∙ c.fill_first_records.auto.firsts
 
 shape_of-bits-then-flag : tie.Need-shape_of-bits-then-flag
-shape_of-bits-then-flag c = c.show_dead_at_end.auto.1.1.1.1.1.1.1.1.0 ∙ c.clear.auto.0
+shape_of-bits-then-flag c = c.show_dead_at_end.auto.bits ∙ c.clear.auto.row
 
 returns-then-flag : tie.Need-returns-then-flag
 returns-then-flag c =
     end_row c.requires.0.loaded _ _ _ _ _ _ _ (c.bytes_for.ensures ∙ ap bytes_for c.record_count-records.ensures.0) c.clear.ensures c.requires.1.1.1
-    (c.show_dead_at_end.auto.1.1.1.1.1.1.1.1.0 ∙ c.clear.auto.0) (λ i. (c.slice_known-then-flag-2-1.given i).fits) (λ i. (c.slice_known-2-1.given i).fits)
+    (c.show_dead_at_end.auto.bits ∙ c.clear.auto.row) (λ i. (c.slice_known-then-flag-2-1.given i).fits) (λ i. (c.slice_known-2-1.given i).fits)
     (option_is _ _ _ _ c.header_of-h.ensures c.flag.ensures c.if-flag.true) c.show_dead_at_end.ensures
 
 shape_of-scratch-else-flag : tie.Need-shape_of-scratch-else-flag
-shape_of-scratch-else-flag c = c.fill_first_records.auto.1.1.0
+shape_of-scratch-else-flag c = c.fill_first_records.auto.firsts
 
 shape_of-bits-else-flag : tie.Need-shape_of-bits-else-flag
-shape_of-bits-else-flag c = c.show_found_dead.auto.1.1.1.1.0 ∙ c.clear.auto.0
+shape_of-bits-else-flag c = c.show_found_dead.auto.bits ∙ c.clear.auto.row
 
 returns-else-flag : tie.Need-returns-else-flag
 returns-else-flag c =
     found-row c.requires.0.loaded _ _ _ _ _ _ _ (c.bytes_for.ensures ∙ ap bytes_for c.record_count-records.ensures.0) c.clear.ensures c.requires.1.1.1
-    (c.show_found_dead.auto.1.1.1.1.0 ∙ c.clear.auto.0) (λ i. (c.slice_known-else-flag-1.given i).fits) (λ i. (c.slice_known-2-1.given i).fits)
+    (c.show_found_dead.auto.bits ∙ c.clear.auto.row) (λ i. (c.slice_known-else-flag-1.given i).fits) (λ i. (c.slice_known-2-1.given i).fits)
     (option_is _ _ _ _ c.header_of-h.ensures c.flag.ensures c.if-flag.false) c.show_found_dead.ensures
 
 pub show_dead_spec : {M : Type 1} → statement M

@@ -13,23 +13,23 @@ clear_words-requires c κs = (c.requires.0.loaded.long, c.requires.1.1.0)
 note_late-requires : tie.Need-note_late-requires
 unfolding graph_in
 note_late-requires c κs =
-    (c.requires.0.loaded, ((c.requires.1.0.held.base_inside, c.requires.1.0.held.room, c.requires.1.0.held.good), (omega (arith, c.clear_words.auto.1.0, c.requires.1.1.0), c.clear_words.ensures.1)))
+    (c.requires.0.loaded, ((c.requires.1.0.held.base_inside, c.requires.1.0.held.room, c.requires.1.0.held.good), (omega (arith, c.clear_words.auto.scratch, c.requires.1.1.0), c.clear_words.ensures.1)))
 
 show_dead_now-requires : tie.Need-show_dead_now-requires
 unfolding graph_in
 show_dead_now-requires c κs =
-    (c.requires.0, ((c.requires.1.0.long, c.requires.1.1.2, record { words = omega (arith, c.note_late.auto.1.1.1.1.1.0, c.clear_words.auto.1.0, c.requires.1.1.0); wide = c.requires.1.0.held.wide }), (c.requires.1.0.cycles, λ m l. c.note_late.ensures.0 m l ∙ c.clear_words.ensures.0 m l ∙ c.requires.1.1.1 m l)))
+    (c.requires.0, ((c.requires.1.0.long, c.requires.1.1.2, record { words = omega (arith, c.note_late.auto.scratch, c.clear_words.auto.scratch, c.requires.1.1.0); wide = c.requires.1.0.held.wide }), (c.requires.1.0.cycles, λ m l. c.note_late.ensures.0 m l ∙ c.clear_words.ensures.0 m l ∙ c.requires.1.1.1 m l)))
 
 exempt-requires : tie.Need-exempt-requires
 unfolding graph_in
 exempt-requires c κs =
-    (c.requires.0.loaded, ((c.requires.1.0.long, omega (arith, c.show_dead_now.auto.1.1.1.1.1.0, c.requires.1.1.2), record { words = omega (arith, c.note_late.auto.1.1.1.1.1.0, c.clear_words.auto.1.0, c.requires.1.1.0); wide = c.requires.1.0.held.wide }), λ m l. c.note_late.ensures.0 m l ∙ c.clear_words.ensures.0 m l ∙ c.requires.1.1.1 m l))
+    (c.requires.0.loaded, ((c.requires.1.0.long, omega (arith, c.show_dead_now.auto.bits, c.requires.1.1.2), record { words = omega (arith, c.note_late.auto.scratch, c.clear_words.auto.scratch, c.requires.1.1.0); wide = c.requires.1.0.held.wide }), λ m l. c.note_late.ensures.0 m l ∙ c.clear_words.ensures.0 m l ∙ c.requires.1.1.1 m l))
 
 shape_of-scratch : tie.Need-shape_of-scratch
-shape_of-scratch c = c.note_late.auto.1.1.1.1.1.0 ∙ c.clear_words.auto.1.0
+shape_of-scratch c = c.note_late.auto.scratch ∙ c.clear_words.auto.scratch
 
 shape_of-bits : tie.Need-shape_of-bits
-shape_of-bits c = c.exempt.auto.1.1.1.1.1.0 ∙ c.show_dead_now.auto.1.1.1.1.1.0
+shape_of-bits c = c.exempt.auto.bits ∙ c.show_dead_now.auto.bits
 
 returns : tie.Need-returns
 returns c =

@@ -25,50 +25,50 @@ below t = and 2 kinds.ps (falls 2 kinds.ps ◌<◌ μ t) larger.Pre
 abbrev claims : ℕ → lts.Claims
 claims t = (below t, larger.Post, fits-reads.Asked, fits-reads.Learnt, middle-reads.Asked, middle-reads.Learnt, large-reads.Asked, large-reads.Learnt, largest-reads.Asked, largest-reads.Learnt)
 
-sub-effects-larger : (t : ℕ) → lts.Need-overflow-sub-effects-larger (claims t) (here t) larger.Post
-sub-effects-larger t c = c.before.if1.true
+sub-effects-larger : (t : ℕ) → lts.Need-overflow_sub-again (claims t) (here t) larger.Post
+sub-effects-larger t c = c.if-again-gt0.true
 
-effects-larger-requires : (t : ℕ) → lts.Need-effects-larger-requires (claims t) (here t) larger.Post
-effects-larger-requires t c κs = let s = c.before.before.before.before in (omega (arith, s.requires.0, c.before.if1.true), s.requires.1)
+effects-larger-requires : (t : ℕ) → lts.Need-effects_larger-requires (claims t) (here t) larger.Post
+effects-larger-requires t c κs = (omega (arith, c.requires.0, c.if-again-gt0.true), c.requires.1)
 
-same_length : (t : ℕ) → lts.Need-same-length (claims t) (here t) larger.Post
-same_length t c = c.before.before.effects-larger.auto.1.1.0
+same_length : (t : ℕ) → lts.Need-shape_of-row-then-again-gt0 (claims t) (here t) larger.Post
+same_length t c = c.effects_larger.auto.row
 
-returns : (t : ℕ) → lts.Need-returns (claims t) (here t) larger.Post
-returns t c = c.before.before.effects-larger.ensures
+returns : (t : ℕ) → lts.Need-returns-then-again-gt0 (claims t) (here t) larger.Post
+returns t c = c.effects_larger.ensures
 
 fits-requires : (t : ℕ) → lts.Need-fits-requires (claims t) (here t) larger.Post
 fits-requires t c κs = _
 
-effects-middle-requires : (t : ℕ) → lts.Need-effects-middle-requires (claims t) (here t) larger.Post
-effects-middle-requires t c κs = (c.before.before.before.before.before.before.requires.1, c.before.before.fits2.ensures c.before.if2.true)
+effects-middle-requires : (t : ℕ) → lts.Need-effects_middle-requires (claims t) (here t) larger.Post
+effects-middle-requires t c κs = (c.requires.1, c.fits.ensures c.if-fits.true)
 
-same-length-2 : (t : ℕ) → lts.Need-same-length-2 (claims t) (here t) larger.Post
-same-length-2 t c = c.before.before.effects-middle.auto.1.1.0
+same-length-2 : (t : ℕ) → lts.Need-shape_of-row-then-fits (claims t) (here t) larger.Post
+same-length-2 t c = c.effects_middle.auto.row
 
-returns-2 : (t : ℕ) → lts.Need-returns-2 (claims t) (here t) larger.Post
-returns-2 t c = c.before.before.effects-middle.ensures
+returns-2 : (t : ℕ) → lts.Need-returns-then-fits (claims t) (here t) larger.Post
+returns-2 t c = c.effects_middle.ensures
 
 fits-requires-2 : (t : ℕ) → lts.Need-fits-requires-2 (claims t) (here t) larger.Post
 fits-requires-2 t c κs = _
 
-effects-large-requires : (t : ℕ) → lts.Need-effects-large-requires (claims t) (here t) larger.Post
-effects-large-requires t c κs = (c.before.before.before.before.before.before.before.before.requires.1, c.before.before.fits3.ensures c.before.if3.true)
+effects-large-requires : (t : ℕ) → lts.Need-effects_large-requires (claims t) (here t) larger.Post
+effects-large-requires t c κs = (c.requires.1, c.fits-2.ensures c.if-fits-2.true)
 
-same-length-3 : (t : ℕ) → lts.Need-same-length-3 (claims t) (here t) larger.Post
-same-length-3 t c = c.before.before.effects-large.auto.1.1.0
+same-length-3 : (t : ℕ) → lts.Need-shape_of-row-then-fits-2 (claims t) (here t) larger.Post
+same-length-3 t c = c.effects_large.auto.row
 
-returns-3 : (t : ℕ) → lts.Need-returns-3 (claims t) (here t) larger.Post
-returns-3 t c = c.before.before.effects-large.ensures
+returns-3 : (t : ℕ) → lts.Need-returns-then-fits-2 (claims t) (here t) larger.Post
+returns-3 t c = c.effects_large.ensures
 
-effects-largest-requires : (t : ℕ) → lts.Need-effects-largest-requires (claims t) (here t) larger.Post
-effects-largest-requires t c κs = let h = c.before.before.before.before.before.before.before.before.requires.1 in (h, bounded _ _ h)
+effects-largest-requires : (t : ℕ) → lts.Need-effects_largest-requires (claims t) (here t) larger.Post
+effects-largest-requires t c κs = let h = c.requires.1 in (h, bounded _ _ h)
 
-same-length-4 : (t : ℕ) → lts.Need-same-length-4 (claims t) (here t) larger.Post
-same-length-4 t c = c.before.before.effects-largest.auto.1.1.0
+same-length-4 : (t : ℕ) → lts.Need-shape_of-row (claims t) (here t) larger.Post
+same-length-4 t c = c.effects_largest.auto.row
 
-returns-4 : (t : ℕ) → lts.Need-returns-4 (claims t) (here t) larger.Post
-returns-4 t c = c.before.before.effects-largest.ensures
+returns-4 : (t : ℕ) → lts.Need-returns (claims t) (here t) larger.Post
+returns-4 t c = c.effects_largest.ensures
 
 pub +effects_larger_spec : {M : Type 1} → statement M
 +effects_larger_spec =

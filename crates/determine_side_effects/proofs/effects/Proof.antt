@@ -30,7 +30,7 @@ effects_small-requires : tie.Need-effects_small-requires
 effects_small-requires c κs = (begun c.before.before.before, c.fits.ensures c.if-fits.true)
 
 shape_of-row-then-fits : tie.Need-shape_of-row-then-fits
-shape_of-row-then-fits c = c.effects_small.auto.1.1.0
+shape_of-row-then-fits c = c.effects_small.auto.row
 
 returns-then-fits : tie.Need-returns-then-fits
 returns-then-fits c = c.effects_small.ensures
@@ -47,7 +47,7 @@ returns-in-Fault c =
     (refused_answer _ a _, refused_row _ a _)
 
 shape_of-row : tie.Need-shape_of-row
-shape_of-row c = c.effects_larger.auto.1.1.0
+shape_of-row c = c.effects_larger.auto.row
 
 returns-else-fits : tie.Need-returns-else-fits
 returns-else-fits c = c.effects_larger.ensures

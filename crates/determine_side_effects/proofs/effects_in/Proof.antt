@@ -19,7 +19,7 @@ counted : (c : tie.In-Accepted) → c.args.h.modules ≡ (header_in c.args.numbe
 counted c = ap (λ q. q.modules) c.requires.0.is
 
 filled : (c : tie.In-Accepted) → HasVerdicts c.args.numbers.now c.load.new.tables
-filled c = verdicts_fit c.requires.0 c.requires.1.0 c.load.auto.1.1.0 (c.load.ensures.1.known c.in-Accepted.is)
+filled c = verdicts_fit c.requires.0 c.requires.1.0 c.load.auto.tables (c.load.ensures.1.known c.in-Accepted.is)
 
 load-requires : tie.Need-load-requires
 load-requires c κs =

@@ -29,28 +29,28 @@ drain_small-requires : tie.Need-drain_small-requires
 drain_small-requires c κs = (begun c.before.before.before.before.before.before.before.before.before.before, c.fits.ensures c.if-fits.true)
 
 shape_of-marks-then-fits : tie.Need-shape_of-marks-then-fits
-shape_of-marks-then-fits c = c.drain_small.auto.1.1.1.0
+shape_of-marks-then-fits c = c.drain_small.auto.marks
 
 shape_of-lines-then-fits : tie.Need-shape_of-lines-then-fits
-shape_of-lines-then-fits c = c.drain_small.auto.1.1.1.1.0
+shape_of-lines-then-fits c = c.drain_small.auto.lines
 
 shape_of-modules_row-then-fits : tie.Need-shape_of-modules_row-then-fits
-shape_of-modules_row-then-fits c = c.drain_small.auto.1.1.1.1.1.0
+shape_of-modules_row-then-fits c = c.drain_small.auto.modules_row
 
 shape_of-statements_row-then-fits : tie.Need-shape_of-statements_row-then-fits
-shape_of-statements_row-then-fits c = c.drain_small.auto.1.1.1.1.1.1.0
+shape_of-statements_row-then-fits c = c.drain_small.auto.statements_row
 
 shape_of-used-then-fits : tie.Need-shape_of-used-then-fits
-shape_of-used-then-fits c = c.drain_small.auto.1.1.1.1.1.1.1.0
+shape_of-used-then-fits c = c.drain_small.auto.used
 
 shape_of-external-then-fits : tie.Need-shape_of-external-then-fits
-shape_of-external-then-fits c = c.drain_small.auto.1.1.1.1.1.1.1.1.0
+shape_of-external-then-fits c = c.drain_small.auto.external
 
 shape_of-json-then-fits : tie.Need-shape_of-json-then-fits
-shape_of-json-then-fits c = c.drain_small.auto.1.1.1.1.1.1.1.1.1.0
+shape_of-json-then-fits c = c.drain_small.auto.json
 
 shape_of-reason-then-fits : tie.Need-shape_of-reason-then-fits
-shape_of-reason-then-fits c = c.drain_small.auto.1.1.1.1.1.1.1.1.1.1.0
+shape_of-reason-then-fits c = c.drain_small.auto.reason
 
 returns-then-fits : tie.Need-returns-then-fits
 returns-then-fits c = c.drain_small.ensures
@@ -65,28 +65,28 @@ returns-in-Fault : tie.Need-returns-in-Fault
 returns-in-Fault c = ends_before _ _ _ _ (outcome_refused _ _ _ (check_stop_header _ (sym c.header.ensures ∙ c.in-Fault.is)))
 
 shape_of-marks : tie.Need-shape_of-marks
-shape_of-marks c = c.drain_larger.auto.1.1.1.0
+shape_of-marks c = c.drain_larger.auto.marks
 
 shape_of-lines : tie.Need-shape_of-lines
-shape_of-lines c = c.drain_larger.auto.1.1.1.1.0
+shape_of-lines c = c.drain_larger.auto.lines
 
 shape_of-modules_row : tie.Need-shape_of-modules_row
-shape_of-modules_row c = c.drain_larger.auto.1.1.1.1.1.0
+shape_of-modules_row c = c.drain_larger.auto.modules_row
 
 shape_of-statements_row : tie.Need-shape_of-statements_row
-shape_of-statements_row c = c.drain_larger.auto.1.1.1.1.1.1.0
+shape_of-statements_row c = c.drain_larger.auto.statements_row
 
 shape_of-used : tie.Need-shape_of-used
-shape_of-used c = c.drain_larger.auto.1.1.1.1.1.1.1.0
+shape_of-used c = c.drain_larger.auto.used
 
 shape_of-external : tie.Need-shape_of-external
-shape_of-external c = c.drain_larger.auto.1.1.1.1.1.1.1.1.0
+shape_of-external c = c.drain_larger.auto.external
 
 shape_of-json : tie.Need-shape_of-json
-shape_of-json c = c.drain_larger.auto.1.1.1.1.1.1.1.1.1.0
+shape_of-json c = c.drain_larger.auto.json
 
 shape_of-reason : tie.Need-shape_of-reason
-shape_of-reason c = c.drain_larger.auto.1.1.1.1.1.1.1.1.1.1.0
+shape_of-reason c = c.drain_larger.auto.reason
 
 returns-else-fits : tie.Need-returns-else-fits
 returns-else-fits c = c.drain_larger.ensures

@@ -19,7 +19,7 @@ work_and_show-requires : tie.Need-work_and_show-requires
 work_and_show-requires c κs = let g = c.may_begin.ensures in let e = c.in-Accepted.is in (g.good e, ((partners_fit _ _ _ c.requires.0.is c.requires.1.1.0, c.requires.1.1.1), tier_enough _ _ _ _ _ _ c.lengths_of-lengths.ensures g e))
 
 shape_of-tables-in-Refused : tie.Need-shape_of-tables-in-Refused
-shape_of-tables-in-Refused c = c.may_begin.auto.1.1.1.1.1.0
+shape_of-tables-in-Refused c = c.may_begin.auto.tables
 
 shape_of-modules_row-in-Refused : tie.Need-shape_of-modules_row-in-Refused
 shape_of-modules_row-in-Refused c = refl
@@ -43,34 +43,34 @@ returns-in-Refused : tie.Need-returns-in-Refused
 returns-in-Refused c = tier_refused _ _ _ _ _ _ c.lengths_of-lengths.ensures c.may_begin.ensures c.in-Refused.is
 
 shape_of-tables-in-Accepted : tie.Need-shape_of-tables-in-Accepted
-shape_of-tables-in-Accepted c = c.may_begin.auto.1.1.1.1.1.0
+shape_of-tables-in-Accepted c = c.may_begin.auto.tables
 
 shape_of-partners : tie.Need-shape_of-partners
-shape_of-partners c = c.work_and_show.auto.1.1.1.0
+shape_of-partners c = c.work_and_show.auto.partners
 
 shape_of-marks : tie.Need-shape_of-marks
-shape_of-marks c = c.work_and_show.auto.1.1.1.1.0
+shape_of-marks c = c.work_and_show.auto.marks
 
 shape_of-lines : tie.Need-shape_of-lines
-shape_of-lines c = c.work_and_show.auto.1.1.1.1.1.0
+shape_of-lines c = c.work_and_show.auto.lines
 
 shape_of-modules_row-in-Accepted : tie.Need-shape_of-modules_row-in-Accepted
-shape_of-modules_row-in-Accepted c = c.work_and_show.auto.1.1.1.1.1.1.0
+shape_of-modules_row-in-Accepted c = c.work_and_show.auto.modules_row
 
 shape_of-statements_row-in-Accepted : tie.Need-shape_of-statements_row-in-Accepted
-shape_of-statements_row-in-Accepted c = c.work_and_show.auto.1.1.1.1.1.1.1.0
+shape_of-statements_row-in-Accepted c = c.work_and_show.auto.statements_row
 
 shape_of-used-in-Accepted : tie.Need-shape_of-used-in-Accepted
-shape_of-used-in-Accepted c = c.work_and_show.auto.1.1.1.1.1.1.1.1.0
+shape_of-used-in-Accepted c = c.work_and_show.auto.used
 
 shape_of-external-in-Accepted : tie.Need-shape_of-external-in-Accepted
-shape_of-external-in-Accepted c = c.work_and_show.auto.1.1.1.1.1.1.1.1.1.0
+shape_of-external-in-Accepted c = c.work_and_show.auto.external
 
 shape_of-json-in-Accepted : tie.Need-shape_of-json-in-Accepted
-shape_of-json-in-Accepted c = c.work_and_show.auto.1.1.1.1.1.1.1.1.1.1.0
+shape_of-json-in-Accepted c = c.work_and_show.auto.json
 
 shape_of-reason-in-Accepted : tie.Need-shape_of-reason-in-Accepted
-shape_of-reason-in-Accepted c = c.work_and_show.auto.1.1.1.1.1.1.1.1.1.1.1.0
+shape_of-reason-in-Accepted c = c.work_and_show.auto.reason
 
 returns-in-Accepted : tie.Need-returns-in-Accepted
 returns-in-Accepted c = tier_worked _ _ _ _ _ _ c.lengths_of-lengths.ensures c.may_begin.ensures c.in-Accepted.is c.work_and_show.ensures

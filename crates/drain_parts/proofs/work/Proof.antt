@@ -21,25 +21,25 @@ enum_known-n : tie.Need-enum_known-n
 enum_known-n c = c.in-Lines-1.keys2
 
 shape_of-partners-in-Full : tie.Need-shape_of-partners-in-Full
-shape_of-partners-in-Full c = c.drain_starts.auto.1.1.1.0
+shape_of-partners-in-Full c = c.drain_starts.auto.partners
 
 shape_of-marks-in-Full : tie.Need-shape_of-marks-in-Full
-shape_of-marks-in-Full c = c.clear-in-Full.auto.0 ∙ (c.drain_starts.auto.1.1.1.1.0 ∙ c.clear.auto.0)
+shape_of-marks-in-Full c = c.clear-in-Full.auto.marks ∙ (c.drain_starts.auto.marks ∙ c.clear.auto.marks)
 
 shape_of-lines-in-Full : tie.Need-shape_of-lines-in-Full
-shape_of-lines-in-Full c = c.clear-in-Full.auto.1.0 ∙ (c.drain_starts.auto.1.1.1.1.1.0 ∙ c.clear.auto.1.0)
+shape_of-lines-in-Full c = c.clear-in-Full.auto.lines ∙ (c.drain_starts.auto.lines ∙ c.clear.auto.lines)
 
 returns-in-Full : tie.Need-returns-in-Full
-returns-in-Full c = work_full _ _ _ _ _ _ _ c.drain_starts.ensures _ _ c.in-Full.is (c.drain_starts.auto.1.1.1.1.0 ∙ c.clear.auto.0) (c.drain_starts.auto.1.1.1.1.1.0 ∙ c.clear.auto.1.0) c.clear-in-Full.ensures.0 c.clear-in-Full.ensures.1
+returns-in-Full c = work_full _ _ _ _ _ _ _ c.drain_starts.ensures _ _ c.in-Full.is (c.drain_starts.auto.marks ∙ c.clear.auto.marks) (c.drain_starts.auto.lines ∙ c.clear.auto.lines) c.clear-in-Full.ensures.0 c.clear-in-Full.ensures.1
 
 shape_of-partners-in-Lines : tie.Need-shape_of-partners-in-Lines
-shape_of-partners-in-Lines c = c.drain_starts.auto.1.1.1.0
+shape_of-partners-in-Lines c = c.drain_starts.auto.partners
 
 shape_of-marks-in-Lines : tie.Need-shape_of-marks-in-Lines
-shape_of-marks-in-Lines c = c.drain_starts.auto.1.1.1.1.0 ∙ c.clear.auto.0
+shape_of-marks-in-Lines c = c.drain_starts.auto.marks ∙ c.clear.auto.marks
 
 shape_of-lines-in-Lines : tie.Need-shape_of-lines-in-Lines
-shape_of-lines-in-Lines c = c.drain_starts.auto.1.1.1.1.1.0 ∙ c.clear.auto.1.0
+shape_of-lines-in-Lines c = c.drain_starts.auto.lines ∙ c.clear.auto.lines
 
 returns-in-Lines : tie.Need-returns-in-Lines
 returns-in-Lines c = work_holds _ _ _ _ _ _ _ c.drain_starts.ensures _ c.in-Lines.is

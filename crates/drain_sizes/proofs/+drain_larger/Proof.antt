@@ -25,134 +25,134 @@ below t = and 10 kinds.ps (falls 10 kinds.ps ◌<◌ μ t) larger.Pre
 abbrev claims : ℕ → lts.Claims
 claims t = (below t, larger.Post, fits-reads.Asked, fits-reads.Learnt, middle-reads.Asked, middle-reads.Learnt, large-reads.Asked, large-reads.Learnt, largest-reads.Asked, largest-reads.Learnt)
 
-sub-drain-larger : (t : ℕ) → lts.Need-overflow-sub-drain-larger (claims t) (here t) larger.Post
-sub-drain-larger t c = c.before.before.before.before.before.before.before.before.if1.true
+sub-drain-larger : (t : ℕ) → lts.Need-overflow_sub-again (claims t) (here t) larger.Post
+sub-drain-larger t c = c.if-again-gt0.true
 
-drain-larger-requires : (t : ℕ) → lts.Need-drain-larger-requires (claims t) (here t) larger.Post
-drain-larger-requires t c κs = let s = c.before.before.before.before.before.before.before.before.before.before.before.before.before.before.before.before.before.before.before in (omega (arith, s.requires.0, c.before.before.before.before.before.before.before.before.if1.true), s.requires.1)
+drain-larger-requires : (t : ℕ) → lts.Need-drain_larger-requires (claims t) (here t) larger.Post
+drain-larger-requires t c κs = (omega (arith, c.requires.0, c.if-again-gt0.true), c.requires.1)
 
-same_length : (t : ℕ) → lts.Need-same-length (claims t) (here t) larger.Post
-same_length t c = c.before.before.before.before.before.before.before.before.before.before.before.before.before.before.before.before.drain-larger.auto.1.1.1.0
+same_length : (t : ℕ) → lts.Need-shape_of-marks-then-again-gt0 (claims t) (here t) larger.Post
+same_length t c = c.drain_larger.auto.marks
 
-same-length-2 : (t : ℕ) → lts.Need-same-length-2 (claims t) (here t) larger.Post
-same-length-2 t c = c.before.before.before.before.before.before.before.before.before.before.before.before.before.before.before.before.drain-larger.auto.1.1.1.1.0
+same-length-2 : (t : ℕ) → lts.Need-shape_of-lines-then-again-gt0 (claims t) (here t) larger.Post
+same-length-2 t c = c.drain_larger.auto.lines
 
-same-length-3 : (t : ℕ) → lts.Need-same-length-3 (claims t) (here t) larger.Post
-same-length-3 t c = c.before.before.before.before.before.before.before.before.before.before.before.before.before.before.before.before.drain-larger.auto.1.1.1.1.1.0
+same-length-3 : (t : ℕ) → lts.Need-shape_of-modules_row-then-again-gt0 (claims t) (here t) larger.Post
+same-length-3 t c = c.drain_larger.auto.modules_row
 
-same-length-4 : (t : ℕ) → lts.Need-same-length-4 (claims t) (here t) larger.Post
-same-length-4 t c = c.before.before.before.before.before.before.before.before.before.before.before.before.before.before.before.before.drain-larger.auto.1.1.1.1.1.1.0
+same-length-4 : (t : ℕ) → lts.Need-shape_of-statements_row-then-again-gt0 (claims t) (here t) larger.Post
+same-length-4 t c = c.drain_larger.auto.statements_row
 
-same-length-5 : (t : ℕ) → lts.Need-same-length-5 (claims t) (here t) larger.Post
-same-length-5 t c = c.before.before.before.before.before.before.before.before.before.before.before.before.before.before.before.before.drain-larger.auto.1.1.1.1.1.1.1.0
+same-length-5 : (t : ℕ) → lts.Need-shape_of-used-then-again-gt0 (claims t) (here t) larger.Post
+same-length-5 t c = c.drain_larger.auto.used
 
-same-length-6 : (t : ℕ) → lts.Need-same-length-6 (claims t) (here t) larger.Post
-same-length-6 t c = c.before.before.before.before.before.before.before.before.before.before.before.before.before.before.before.before.drain-larger.auto.1.1.1.1.1.1.1.1.0
+same-length-6 : (t : ℕ) → lts.Need-shape_of-external-then-again-gt0 (claims t) (here t) larger.Post
+same-length-6 t c = c.drain_larger.auto.external
 
-same-length-7 : (t : ℕ) → lts.Need-same-length-7 (claims t) (here t) larger.Post
-same-length-7 t c = c.before.before.before.before.before.before.before.before.before.before.before.before.before.before.before.before.drain-larger.auto.1.1.1.1.1.1.1.1.1.0
+same-length-7 : (t : ℕ) → lts.Need-shape_of-json-then-again-gt0 (claims t) (here t) larger.Post
+same-length-7 t c = c.drain_larger.auto.json
 
-same-length-8 : (t : ℕ) → lts.Need-same-length-8 (claims t) (here t) larger.Post
-same-length-8 t c = c.before.before.before.before.before.before.before.before.before.before.before.before.before.before.before.before.drain-larger.auto.1.1.1.1.1.1.1.1.1.1.0
+same-length-8 : (t : ℕ) → lts.Need-shape_of-reason-then-again-gt0 (claims t) (here t) larger.Post
+same-length-8 t c = c.drain_larger.auto.reason
 
-returns : (t : ℕ) → lts.Need-returns (claims t) (here t) larger.Post
-returns t c = c.before.before.before.before.before.before.before.before.before.before.before.before.before.before.before.before.drain-larger.ensures
+returns : (t : ℕ) → lts.Need-returns-then-again-gt0 (claims t) (here t) larger.Post
+returns t c = c.drain_larger.ensures
 
 fits-requires : (t : ℕ) → lts.Need-fits-requires (claims t) (here t) larger.Post
 fits-requires t c κs = _
 
-drain-middle-requires : (t : ℕ) → lts.Need-drain-middle-requires (claims t) (here t) larger.Post
-drain-middle-requires t c κs = (c.before.before.before.before.before.before.before.before.before.before.before.before.before.before.before.before.before.before.before.before.before.requires.1, c.before.before.before.before.before.before.before.before.before.fits2.ensures c.before.before.before.before.before.before.before.before.if2.true)
+drain-middle-requires : (t : ℕ) → lts.Need-drain_middle-requires (claims t) (here t) larger.Post
+drain-middle-requires t c κs = (c.requires.1, c.fits.ensures c.if-fits.true)
 
-same-length-9 : (t : ℕ) → lts.Need-same-length-9 (claims t) (here t) larger.Post
-same-length-9 t c = c.before.before.before.before.before.before.before.before.before.before.before.before.before.before.before.before.drain-middle.auto.1.1.1.0
+same-length-9 : (t : ℕ) → lts.Need-shape_of-marks-then-fits (claims t) (here t) larger.Post
+same-length-9 t c = c.drain_middle.auto.marks
 
-same-length-10 : (t : ℕ) → lts.Need-same-length-10 (claims t) (here t) larger.Post
-same-length-10 t c = c.before.before.before.before.before.before.before.before.before.before.before.before.before.before.before.before.drain-middle.auto.1.1.1.1.0
+same-length-10 : (t : ℕ) → lts.Need-shape_of-lines-then-fits (claims t) (here t) larger.Post
+same-length-10 t c = c.drain_middle.auto.lines
 
-same-length-11 : (t : ℕ) → lts.Need-same-length-11 (claims t) (here t) larger.Post
-same-length-11 t c = c.before.before.before.before.before.before.before.before.before.before.before.before.before.before.before.before.drain-middle.auto.1.1.1.1.1.0
+same-length-11 : (t : ℕ) → lts.Need-shape_of-modules_row-then-fits (claims t) (here t) larger.Post
+same-length-11 t c = c.drain_middle.auto.modules_row
 
-same-length-12 : (t : ℕ) → lts.Need-same-length-12 (claims t) (here t) larger.Post
-same-length-12 t c = c.before.before.before.before.before.before.before.before.before.before.before.before.before.before.before.before.drain-middle.auto.1.1.1.1.1.1.0
+same-length-12 : (t : ℕ) → lts.Need-shape_of-statements_row-then-fits (claims t) (here t) larger.Post
+same-length-12 t c = c.drain_middle.auto.statements_row
 
-same-length-13 : (t : ℕ) → lts.Need-same-length-13 (claims t) (here t) larger.Post
-same-length-13 t c = c.before.before.before.before.before.before.before.before.before.before.before.before.before.before.before.before.drain-middle.auto.1.1.1.1.1.1.1.0
+same-length-13 : (t : ℕ) → lts.Need-shape_of-used-then-fits (claims t) (here t) larger.Post
+same-length-13 t c = c.drain_middle.auto.used
 
-same-length-14 : (t : ℕ) → lts.Need-same-length-14 (claims t) (here t) larger.Post
-same-length-14 t c = c.before.before.before.before.before.before.before.before.before.before.before.before.before.before.before.before.drain-middle.auto.1.1.1.1.1.1.1.1.0
+same-length-14 : (t : ℕ) → lts.Need-shape_of-external-then-fits (claims t) (here t) larger.Post
+same-length-14 t c = c.drain_middle.auto.external
 
-same-length-15 : (t : ℕ) → lts.Need-same-length-15 (claims t) (here t) larger.Post
-same-length-15 t c = c.before.before.before.before.before.before.before.before.before.before.before.before.before.before.before.before.drain-middle.auto.1.1.1.1.1.1.1.1.1.0
+same-length-15 : (t : ℕ) → lts.Need-shape_of-json-then-fits (claims t) (here t) larger.Post
+same-length-15 t c = c.drain_middle.auto.json
 
-same-length-16 : (t : ℕ) → lts.Need-same-length-16 (claims t) (here t) larger.Post
-same-length-16 t c = c.before.before.before.before.before.before.before.before.before.before.before.before.before.before.before.before.drain-middle.auto.1.1.1.1.1.1.1.1.1.1.0
+same-length-16 : (t : ℕ) → lts.Need-shape_of-reason-then-fits (claims t) (here t) larger.Post
+same-length-16 t c = c.drain_middle.auto.reason
 
-returns-2 : (t : ℕ) → lts.Need-returns-2 (claims t) (here t) larger.Post
-returns-2 t c = c.before.before.before.before.before.before.before.before.before.before.before.before.before.before.before.before.drain-middle.ensures
+returns-2 : (t : ℕ) → lts.Need-returns-then-fits (claims t) (here t) larger.Post
+returns-2 t c = c.drain_middle.ensures
 
 fits-requires-2 : (t : ℕ) → lts.Need-fits-requires-2 (claims t) (here t) larger.Post
 fits-requires-2 t c κs = _
 
-drain-large-requires : (t : ℕ) → lts.Need-drain-large-requires (claims t) (here t) larger.Post
-drain-large-requires t c κs = (c.before.before.before.before.before.before.before.before.before.before.before.before.before.before.before.before.before.before.before.before.before.before.before.requires.1, c.before.before.before.before.before.before.before.before.before.fits3.ensures c.before.before.before.before.before.before.before.before.if3.true)
+drain-large-requires : (t : ℕ) → lts.Need-drain_large-requires (claims t) (here t) larger.Post
+drain-large-requires t c κs = (c.requires.1, c.fits-2.ensures c.if-fits-2.true)
 
-same-length-17 : (t : ℕ) → lts.Need-same-length-17 (claims t) (here t) larger.Post
-same-length-17 t c = c.before.before.before.before.before.before.before.before.before.before.before.before.before.before.before.before.drain-large.auto.1.1.1.0
+same-length-17 : (t : ℕ) → lts.Need-shape_of-marks-then-fits-2 (claims t) (here t) larger.Post
+same-length-17 t c = c.drain_large.auto.marks
 
-same-length-18 : (t : ℕ) → lts.Need-same-length-18 (claims t) (here t) larger.Post
-same-length-18 t c = c.before.before.before.before.before.before.before.before.before.before.before.before.before.before.before.before.drain-large.auto.1.1.1.1.0
+same-length-18 : (t : ℕ) → lts.Need-shape_of-lines-then-fits-2 (claims t) (here t) larger.Post
+same-length-18 t c = c.drain_large.auto.lines
 
-same-length-19 : (t : ℕ) → lts.Need-same-length-19 (claims t) (here t) larger.Post
-same-length-19 t c = c.before.before.before.before.before.before.before.before.before.before.before.before.before.before.before.before.drain-large.auto.1.1.1.1.1.0
+same-length-19 : (t : ℕ) → lts.Need-shape_of-modules_row-then-fits-2 (claims t) (here t) larger.Post
+same-length-19 t c = c.drain_large.auto.modules_row
 
-same-length-20 : (t : ℕ) → lts.Need-same-length-20 (claims t) (here t) larger.Post
-same-length-20 t c = c.before.before.before.before.before.before.before.before.before.before.before.before.before.before.before.before.drain-large.auto.1.1.1.1.1.1.0
+same-length-20 : (t : ℕ) → lts.Need-shape_of-statements_row-then-fits-2 (claims t) (here t) larger.Post
+same-length-20 t c = c.drain_large.auto.statements_row
 
-same-length-21 : (t : ℕ) → lts.Need-same-length-21 (claims t) (here t) larger.Post
-same-length-21 t c = c.before.before.before.before.before.before.before.before.before.before.before.before.before.before.before.before.drain-large.auto.1.1.1.1.1.1.1.0
+same-length-21 : (t : ℕ) → lts.Need-shape_of-used-then-fits-2 (claims t) (here t) larger.Post
+same-length-21 t c = c.drain_large.auto.used
 
-same-length-22 : (t : ℕ) → lts.Need-same-length-22 (claims t) (here t) larger.Post
-same-length-22 t c = c.before.before.before.before.before.before.before.before.before.before.before.before.before.before.before.before.drain-large.auto.1.1.1.1.1.1.1.1.0
+same-length-22 : (t : ℕ) → lts.Need-shape_of-external-then-fits-2 (claims t) (here t) larger.Post
+same-length-22 t c = c.drain_large.auto.external
 
-same-length-23 : (t : ℕ) → lts.Need-same-length-23 (claims t) (here t) larger.Post
-same-length-23 t c = c.before.before.before.before.before.before.before.before.before.before.before.before.before.before.before.before.drain-large.auto.1.1.1.1.1.1.1.1.1.0
+same-length-23 : (t : ℕ) → lts.Need-shape_of-json-then-fits-2 (claims t) (here t) larger.Post
+same-length-23 t c = c.drain_large.auto.json
 
-same-length-24 : (t : ℕ) → lts.Need-same-length-24 (claims t) (here t) larger.Post
-same-length-24 t c = c.before.before.before.before.before.before.before.before.before.before.before.before.before.before.before.before.drain-large.auto.1.1.1.1.1.1.1.1.1.1.0
+same-length-24 : (t : ℕ) → lts.Need-shape_of-reason-then-fits-2 (claims t) (here t) larger.Post
+same-length-24 t c = c.drain_large.auto.reason
 
-returns-3 : (t : ℕ) → lts.Need-returns-3 (claims t) (here t) larger.Post
-returns-3 t c = c.before.before.before.before.before.before.before.before.before.before.before.before.before.before.before.before.drain-large.ensures
+returns-3 : (t : ℕ) → lts.Need-returns-then-fits-2 (claims t) (here t) larger.Post
+returns-3 t c = c.drain_large.ensures
 
-drain-largest-requires : (t : ℕ) → lts.Need-drain-largest-requires (claims t) (here t) larger.Post
-drain-largest-requires t c κs = let h = c.before.before.before.before.before.before.before.before.before.before.before.before.before.before.before.before.before.before.before.before.before.before.before.requires.1 in (h, bounded _ _ h)
+drain-largest-requires : (t : ℕ) → lts.Need-drain_largest-requires (claims t) (here t) larger.Post
+drain-largest-requires t c κs = let h = c.requires.1 in (h, bounded _ _ h)
 
-same-length-25 : (t : ℕ) → lts.Need-same-length-25 (claims t) (here t) larger.Post
-same-length-25 t c = c.before.before.before.before.before.before.before.before.before.before.before.before.before.before.before.before.drain-largest.auto.1.1.1.0
+same-length-25 : (t : ℕ) → lts.Need-shape_of-marks (claims t) (here t) larger.Post
+same-length-25 t c = c.drain_largest.auto.marks
 
-same-length-26 : (t : ℕ) → lts.Need-same-length-26 (claims t) (here t) larger.Post
-same-length-26 t c = c.before.before.before.before.before.before.before.before.before.before.before.before.before.before.before.before.drain-largest.auto.1.1.1.1.0
+same-length-26 : (t : ℕ) → lts.Need-shape_of-lines (claims t) (here t) larger.Post
+same-length-26 t c = c.drain_largest.auto.lines
 
-same-length-27 : (t : ℕ) → lts.Need-same-length-27 (claims t) (here t) larger.Post
-same-length-27 t c = c.before.before.before.before.before.before.before.before.before.before.before.before.before.before.before.before.drain-largest.auto.1.1.1.1.1.0
+same-length-27 : (t : ℕ) → lts.Need-shape_of-modules_row (claims t) (here t) larger.Post
+same-length-27 t c = c.drain_largest.auto.modules_row
 
-same-length-28 : (t : ℕ) → lts.Need-same-length-28 (claims t) (here t) larger.Post
-same-length-28 t c = c.before.before.before.before.before.before.before.before.before.before.before.before.before.before.before.before.drain-largest.auto.1.1.1.1.1.1.0
+same-length-28 : (t : ℕ) → lts.Need-shape_of-statements_row (claims t) (here t) larger.Post
+same-length-28 t c = c.drain_largest.auto.statements_row
 
-same-length-29 : (t : ℕ) → lts.Need-same-length-29 (claims t) (here t) larger.Post
-same-length-29 t c = c.before.before.before.before.before.before.before.before.before.before.before.before.before.before.before.before.drain-largest.auto.1.1.1.1.1.1.1.0
+same-length-29 : (t : ℕ) → lts.Need-shape_of-used (claims t) (here t) larger.Post
+same-length-29 t c = c.drain_largest.auto.used
 
-same-length-30 : (t : ℕ) → lts.Need-same-length-30 (claims t) (here t) larger.Post
-same-length-30 t c = c.before.before.before.before.before.before.before.before.before.before.before.before.before.before.before.before.drain-largest.auto.1.1.1.1.1.1.1.1.0
+same-length-30 : (t : ℕ) → lts.Need-shape_of-external (claims t) (here t) larger.Post
+same-length-30 t c = c.drain_largest.auto.external
 
-same-length-31 : (t : ℕ) → lts.Need-same-length-31 (claims t) (here t) larger.Post
-same-length-31 t c = c.before.before.before.before.before.before.before.before.before.before.before.before.before.before.before.before.drain-largest.auto.1.1.1.1.1.1.1.1.1.0
+same-length-31 : (t : ℕ) → lts.Need-shape_of-json (claims t) (here t) larger.Post
+same-length-31 t c = c.drain_largest.auto.json
 
-same-length-32 : (t : ℕ) → lts.Need-same-length-32 (claims t) (here t) larger.Post
-same-length-32 t c = c.before.before.before.before.before.before.before.before.before.before.before.before.before.before.before.before.drain-largest.auto.1.1.1.1.1.1.1.1.1.1.0
+same-length-32 : (t : ℕ) → lts.Need-shape_of-reason (claims t) (here t) larger.Post
+same-length-32 t c = c.drain_largest.auto.reason
 
-returns-4 : (t : ℕ) → lts.Need-returns-4 (claims t) (here t) larger.Post
-returns-4 t c = c.before.before.before.before.before.before.before.before.before.before.before.before.before.before.before.before.drain-largest.ensures
+returns-4 : (t : ℕ) → lts.Need-returns (claims t) (here t) larger.Post
+returns-4 t c = c.drain_largest.ensures
 
 pub +drain_larger_spec : {M : Type 1} → statement M
 +drain_larger_spec =

@@ -42,30 +42,30 @@ enum_known-n c = c.in-Nodes-1.keys2
 sort_by_graph-requires : tie.Need-sort_by_graph-requires
 sort_by_graph-requires c κs =
     let b = rw (part_to_end c.args.plan.now c.args.users) at c.entry_graph.ensures in
-    let o : (header_in c.args.numbers.now).modules ≤ length c.entry_graph.new.records = omega (arith, c.requires.1.1.1.0, c.entry_graph.auto.1.1.1.1.1.0) in
-    let l : (header_in c.args.numbers.now).modules + (header_in c.args.numbers.now).entries ≤ length c.entry_graph.new.walks = omega (arith, c.requires.1.1.1.1, c.entry_graph.auto.1.1.1.1.1.1.0) in
+    let o : (header_in c.args.numbers.now).modules ≤ length c.entry_graph.new.records = omega (arith, c.requires.1.1.1.0, c.entry_graph.auto.records) in
+    let l : (header_in c.args.numbers.now).modules + (header_in c.args.numbers.now).entries ≤ length c.entry_graph.new.walks = omega (arith, c.requires.1.1.1.1, c.entry_graph.auto.walks) in
     (c.requires.0, ((c.requires.1.0.0, c.requires.1.0.1, built_holds _ _ _ c.requires.1.0.0 _ c.header_of-h.ensures _ _ _ _ _ _ b _ c.in-Nodes.is), (o, l, c.requires.1.1.1.2)))
 
 shape_of-visited-in-Full : tie.Need-shape_of-visited-in-Full
-shape_of-visited-in-Full c = c.entry_graph.auto.1.1.1.1.1.1.1.0
+shape_of-visited-in-Full c = c.entry_graph.auto.visited
 
 shape_of-nodes-in-Full : tie.Need-shape_of-nodes-in-Full
-shape_of-nodes-in-Full c = c.entry_graph.auto.1.1.1.1.1.1.1.1.0
+shape_of-nodes-in-Full c = c.entry_graph.auto.nodes
 
 shape_of-outs-in-Full : tie.Need-shape_of-outs-in-Full
-shape_of-outs-in-Full c = c.entry_graph.auto.1.1.1.1.1.1.1.1.1.0
+shape_of-outs-in-Full c = c.entry_graph.auto.outs
 
 shape_of-succs-in-Full : tie.Need-shape_of-succs-in-Full
-shape_of-succs-in-Full c = c.entry_graph.auto.1.1.1.1.1.1.1.1.1.1.0
+shape_of-succs-in-Full c = c.entry_graph.auto.succs
 
 shape_of-edges-in-Full : tie.Need-shape_of-edges-in-Full
-shape_of-edges-in-Full c = c.entry_graph.auto.1.1.1.1.1.1.1.1.1.1.1.0
+shape_of-edges-in-Full c = c.entry_graph.auto.edges
 
 shape_of-order-in-Full : tie.Need-shape_of-order-in-Full
-shape_of-order-in-Full c = c.entry_graph.auto.1.1.1.1.1.0
+shape_of-order-in-Full c = c.entry_graph.auto.records
 
 shape_of-chain-in-Full : tie.Need-shape_of-chain-in-Full
-shape_of-chain-in-Full c = c.entry_graph.auto.1.1.1.1.1.1.0
+shape_of-chain-in-Full c = c.entry_graph.auto.walks
 
 shape_of-plan-in-Full : tie.Need-shape_of-plan-in-Full
 shape_of-plan-in-Full c = refl
@@ -76,31 +76,31 @@ returns-in-Full c =
     built_full _ _ _ c.requires.1.0.0 _ c.header_of-h.ensures _ _ _ _ _ _ b c.in-Full.is
 
 shape_of-visited-in-Nodes : tie.Need-shape_of-visited-in-Nodes
-shape_of-visited-in-Nodes c = c.entry_graph.auto.1.1.1.1.1.1.1.0
+shape_of-visited-in-Nodes c = c.entry_graph.auto.visited
 
 shape_of-nodes-in-Nodes : tie.Need-shape_of-nodes-in-Nodes
-shape_of-nodes-in-Nodes c = c.entry_graph.auto.1.1.1.1.1.1.1.1.0
+shape_of-nodes-in-Nodes c = c.entry_graph.auto.nodes
 
 shape_of-outs-in-Nodes : tie.Need-shape_of-outs-in-Nodes
-shape_of-outs-in-Nodes c = c.entry_graph.auto.1.1.1.1.1.1.1.1.1.0
+shape_of-outs-in-Nodes c = c.entry_graph.auto.outs
 
 shape_of-succs-in-Nodes : tie.Need-shape_of-succs-in-Nodes
-shape_of-succs-in-Nodes c = c.entry_graph.auto.1.1.1.1.1.1.1.1.1.1.0
+shape_of-succs-in-Nodes c = c.entry_graph.auto.succs
 
 shape_of-edges-in-Nodes : tie.Need-shape_of-edges-in-Nodes
-shape_of-edges-in-Nodes c = c.entry_graph.auto.1.1.1.1.1.1.1.1.1.1.1.0
+shape_of-edges-in-Nodes c = c.entry_graph.auto.edges
 
 shape_of-order-in-Nodes : tie.Need-shape_of-order-in-Nodes
-shape_of-order-in-Nodes c = c.sort_by_graph.auto.1.1.1.1.1.1.1.1.1.0 ∙ c.entry_graph.auto.1.1.1.1.1.0
+shape_of-order-in-Nodes c = c.sort_by_graph.auto.order ∙ c.entry_graph.auto.records
 
 shape_of-chain-in-Nodes : tie.Need-shape_of-chain-in-Nodes
-shape_of-chain-in-Nodes c = c.sort_by_graph.auto.1.1.1.1.1.1.1.1.1.1.0 ∙ c.entry_graph.auto.1.1.1.1.1.1.0
+shape_of-chain-in-Nodes c = c.sort_by_graph.auto.chain ∙ c.entry_graph.auto.walks
 
 shape_of-list : tie.Need-shape_of-list
-shape_of-list c = c.sort_by_graph.auto.1.1.1.1.1.1.1.1.1.1.1.0
+shape_of-list c = c.sort_by_graph.auto.list
 
 shape_of-plan-in-Nodes : tie.Need-shape_of-plan-in-Nodes
-shape_of-plan-in-Nodes c = c.sort_by_graph.auto.1.1.1.1.1.1.1.1.1.1.1.1.0
+shape_of-plan-in-Nodes c = c.sort_by_graph.auto.plan
 
 returns-in-Nodes : tie.Need-returns-in-Nodes
 returns-in-Nodes c = orders_done _ _ _ _ _ c.sort_by_graph.ensures

@@ -24,21 +24,21 @@ find_cycles-found-requires c κs = rw c.cycled_at-at.ensures (search_ready _ _ c
 
 sort_entries-requires : tie.Need-sort_entries-requires
 sort_entries-requires c κs =
-    let k : length c.find_cycles-found.new.order ≡ length c.args.order.now = c.find_cycles-found.auto.1.1.1.1.1.1.1.0 in
+    let k : length c.find_cycles-found.new.order ≡ length c.args.order.now = c.find_cycles-found.auto.order in
     let d = search-done _ _ c.header_of-h.ensures _ _ _ _ _ _ _ _ c.requires.1.0 _ _ _ (rw c.cycled_at-at.ensures at c.find_cycles-found.ensures) (omega (arith, k, c.requires.1.1.0)) in
     (c.requires.0, (d, (c.requires.1.1.1, c.requires.1.1.2, holds_length _ _ _ _ _ _ _ c.requires.1.0.2)))
 
 shape_of-order : tie.Need-shape_of-order
-shape_of-order c = c.find_cycles-found.auto.1.1.1.1.1.1.1.0
+shape_of-order c = c.find_cycles-found.auto.order
 
 shape_of-chain : tie.Need-shape_of-chain
-shape_of-chain c = c.sort_entries.auto.1.1.1.1.1.1.0
+shape_of-chain c = c.sort_entries.auto.chain
 
 shape_of-list : tie.Need-shape_of-list
-shape_of-list c = c.sort_entries.auto.1.1.1.1.1.1.1.0
+shape_of-list c = c.sort_entries.auto.list
 
 shape_of-plan : tie.Need-shape_of-plan
-shape_of-plan c = c.sort_entries.auto.1.1.1.1.1.1.1.1.0 ∙ c.find_cycles-found.auto.1.1.1.1.1.1.1.1.0
+shape_of-plan c = c.sort_entries.auto.plan ∙ c.find_cycles-found.auto.plan
 
 returns : tie.Need-returns
 returns c =

@@ -45,22 +45,22 @@ take_by_completion-requires : tie.Need-take_by_completion-requires
 take_by_completion-requires c κs =
     let h = c.header_of-h.ensures in
     let l = rw (h, part_to_end c.args.plan.now c.args.users) at c.link.ensures in
-    let o = rest-room _ _ h _ _ c.requires.1.0.0 c.requires.1.0.1 c.requires.1.1.2 _ _ _ c.take_first-n.ensures c.requires.1.1.1 c.take_first-n.auto.1.1.1.1.1.0 in
+    let o = rest-room _ _ h _ _ c.requires.1.0.0 c.requires.1.0.1 c.requires.1.1.2 _ _ _ c.take_first-n.ensures c.requires.1.1.1 c.take_first-n.auto.list in
     ((c.requires.0.long, c.requires.0.few_entries), ((c.requires.1.0.0, c.requires.1.0.1, c.requires.1.0.3), (l, o)))
 
 copy_back-requires : tie.Need-copy_back-requires
 copy_back-requires c κs =
-    let k : length c.take_by_completion.new.list ≡ length c.args.list.now = c.take_by_completion.auto.1.1.1.1.1.1.0 ∙ c.take_first-n.auto.1.1.1.1.1.0 in
+    let k : length c.take_by_completion.new.list ≡ length c.args.list.now = c.take_by_completion.auto.list ∙ c.take_first-n.auto.list in
     part_fits _ _ c.header_of-h.ensures _ _ c.requires.1.0.0 c.requires.1.0.1 c.requires.1.1.2 c.take_by_completion.new.list (omega (arith, k, c.requires.1.1.1))
 
 shape_of-chain : tie.Need-shape_of-chain
-shape_of-chain c = c.link.auto.1.1.1.1.0
+shape_of-chain c = c.link.auto.chain
 
 shape_of-list : tie.Need-shape_of-list
-shape_of-list c = c.take_by_completion.auto.1.1.1.1.1.1.0 ∙ c.take_first-n.auto.1.1.1.1.1.0
+shape_of-list c = c.take_by_completion.auto.list ∙ c.take_first-n.auto.list
 
 shape_of-plan : tie.Need-shape_of-plan
-shape_of-plan c = c.copy_back.auto.1.1.0
+shape_of-plan c = c.copy_back.auto.plan
 
 returns : tie.Need-returns
 returns c =

@@ -49,10 +49,10 @@ test-requires : tie.Need-test-requires
 test-requires c κs = bit-inside c
 
 shape_of-nodes-then-test : tie.Need-shape_of-nodes-then-test
-shape_of-nodes-then-test c = c.put_node-both.auto.1.1.0 ∙ c.put_node-first.auto.1.1.0
+shape_of-nodes-then-test c = c.put_node-both.auto.nodes ∙ c.put_node-first.auto.nodes
 
 shape_of-outs-then-test : tie.Need-shape_of-outs-then-test
-shape_of-outs-then-test c = c.put_node-both.auto.1.1.1.0 ∙ c.put_node-first.auto.1.1.1.0
+shape_of-outs-then-test c = c.put_node-both.auto.outs ∙ c.put_node-first.auto.outs
 
 shape_of-edges-then-test : tie.Need-shape_of-edges-then-test
 shape_of-edges-then-test c = refl
@@ -70,10 +70,10 @@ overflow_sub-count : tie.Need-overflow_sub-count
 overflow_sub-count c = let l : 1 ≤ get_or c.put_node-both.new.outs c.args.from 0 = omega (arith, (both-put c.before.before.before.before.before.before.before.before).from_put) in l
 
 shape_of-nodes-then-count-cap : tie.Need-shape_of-nodes-then-count-cap
-shape_of-nodes-then-count-cap c = c.put_node-both.auto.1.1.0 ∙ c.put_node-first.auto.1.1.0
+shape_of-nodes-then-count-cap c = c.put_node-both.auto.nodes ∙ c.put_node-first.auto.nodes
 
 shape_of-outs-then-count-cap : tie.Need-shape_of-outs-then-count-cap
-shape_of-outs-then-count-cap c = c.put_node-both.auto.1.1.1.0 ∙ c.put_node-first.auto.1.1.1.0
+shape_of-outs-then-count-cap c = c.put_node-both.auto.outs ∙ c.put_node-first.auto.outs
 
 shape_of-edges-then-count-cap : tie.Need-shape_of-edges-then-count-cap
 shape_of-edges-then-count-cap c = refl
@@ -108,21 +108,21 @@ set-requires : tie.Need-set-requires
 set-requires c κs = bit-inside c.before.before.before.before.before.before.before
 
 shape_of-nodes : tie.Need-shape_of-nodes
-shape_of-nodes c = c.put_node-both.auto.1.1.0 ∙ c.put_node-first.auto.1.1.0
+shape_of-nodes c = c.put_node-both.auto.nodes ∙ c.put_node-first.auto.nodes
 
 shape_of-outs : tie.Need-shape_of-outs
-shape_of-outs c = length-set c.put_node-both.new.outs c.args.from (get_or c.put_node-both.new.outs c.args.from 0 - 1 + 2) ∙ c.put_node-both.auto.1.1.1.0 ∙ c.put_node-first.auto.1.1.1.0
+shape_of-outs c = length-set c.put_node-both.new.outs c.args.from (get_or c.put_node-both.new.outs c.args.from 0 - 1 + 2) ∙ c.put_node-both.auto.outs ∙ c.put_node-first.auto.outs
 
 shape_of-succs : tie.Need-shape_of-succs
 shape_of-succs c = length-set c.args.succs.now c.cell-at.result c.narrow.result
 
 shape_of-edges : tie.Need-shape_of-edges
-shape_of-edges c = c.set.auto.0
+shape_of-edges c = c.set.auto.row
 
 returns : tie.Need-returns
 returns c = λ v.
     rw c.cell-at.ensures
-    (edge-added (both-put c.before.before.before.before.before.before.before.before.before.before.before.before.before.before.before) c.requires.1.0 c.requires.1.1 (rw c.cell-bit.ensures at (sym c.test.ensures ∙ c.if-test.false)) _ _ refl c.if-count-cap.false c.narrow.ensures _ (rw c.cell-bit.ensures at c.set.ensures) c.set.auto.0 v)
+    (edge-added (both-put c.before.before.before.before.before.before.before.before.before.before.before.before.before.before.before) c.requires.1.0 c.requires.1.1 (rw c.cell-bit.ensures at (sym c.test.ensures ∙ c.if-test.false)) _ _ refl c.if-count-cap.false c.narrow.ensures _ (rw c.cell-bit.ensures at c.set.ensures) c.set.auto.row v)
 
 pub add_edge_spec : {M : Type 1} → statement M
 add_edge_spec =

@@ -32,7 +32,7 @@ room c =
 
 -- each module has a bit
 long : (c : tie.At-loop-i invariant-loop-i decreases-loop-i) → (header_in c.args.numbers.now).modules ≤ 8 * length c.loop-i.visited
-long c = omega (arith, c.requires.1.1.1.1, c.loop-i.invariant.2, c.set.auto.0)
+long c = omega (arith, c.requires.1.1.1.1, c.loop-i.invariant.2, c.set.auto.row)
 
 header_of-h-requires : tie.Need-header_of-h-requires invariant-loop-i decreases-loop-i
 header_of-h-requires c κs = c.requires.0.long
@@ -89,11 +89,11 @@ loop-i-preserved-in-UpTo : tie.Need-loop-i-preserved-in-UpTo invariant-loop-i de
 loop-i-preserved-in-UpTo c = (
   rw length-set c.loop-i.invariant.0,
   rw length-set c.loop-i.invariant.1,
-  c.set-in-UpTo.auto.0 ∙ c.loop-i.invariant.2,
-  c.take_records.auto.1.1.1.1.1.1.1.1.1.0 ∙ c.loop-i.invariant.3,
-  c.take_records.auto.1.1.1.1.1.1.1.1.1.1.0 ∙ c.loop-i.invariant.4,
-  c.take_records.auto.1.1.1.1.1.1.1.1.1.1.1.0 ∙ c.loop-i.invariant.5,
-  c.take_records.auto.1.1.1.1.1.1.1.1.1.1.1.1.0 ∙ c.loop-i.invariant.6,
+  c.set-in-UpTo.auto.row ∙ c.loop-i.invariant.2,
+  c.take_records.auto.nodes ∙ c.loop-i.invariant.3,
+  c.take_records.auto.outs ∙ c.loop-i.invariant.4,
+  c.take_records.auto.succs ∙ c.loop-i.invariant.5,
+  c.take_records.auto.edges ∙ c.loop-i.invariant.6,
   stacked_in c.loop-i.invariant.7 (rw c.header_of-h.ensures at c.take_records.ensures) _ _ _ _ c.in-UpTo.is _ c.set-in-UpTo.ensures (room c.before.before.before.before.before.before.before.before.before.before.before.before.before.before.before.before.before.before.before).0 (room c.before.before.before.before.before.before.before.before.before.before.before.before.before.before.before.before.before.before.before).1,
 )
 
@@ -107,19 +107,19 @@ shape_of-walks-then-depth-eq0 : tie.Need-shape_of-walks-then-depth-eq0 invariant
 shape_of-walks-then-depth-eq0 c = c.loop-i.invariant.1
 
 shape_of-visited-then-depth-eq0 : tie.Need-shape_of-visited-then-depth-eq0 invariant-loop-i decreases-loop-i
-shape_of-visited-then-depth-eq0 c = c.loop-i.invariant.2 ∙ c.set.auto.0
+shape_of-visited-then-depth-eq0 c = c.loop-i.invariant.2 ∙ c.set.auto.row
 
 shape_of-nodes-then-depth-eq0 : tie.Need-shape_of-nodes-then-depth-eq0 invariant-loop-i decreases-loop-i
-shape_of-nodes-then-depth-eq0 c = c.take_records.auto.1.1.1.1.1.1.1.1.1.0 ∙ c.loop-i.invariant.3
+shape_of-nodes-then-depth-eq0 c = c.take_records.auto.nodes ∙ c.loop-i.invariant.3
 
 shape_of-outs-then-depth-eq0 : tie.Need-shape_of-outs-then-depth-eq0 invariant-loop-i decreases-loop-i
-shape_of-outs-then-depth-eq0 c = c.take_records.auto.1.1.1.1.1.1.1.1.1.1.0 ∙ c.loop-i.invariant.4
+shape_of-outs-then-depth-eq0 c = c.take_records.auto.outs ∙ c.loop-i.invariant.4
 
 shape_of-succs-then-depth-eq0 : tie.Need-shape_of-succs-then-depth-eq0 invariant-loop-i decreases-loop-i
-shape_of-succs-then-depth-eq0 c = c.take_records.auto.1.1.1.1.1.1.1.1.1.1.1.0 ∙ c.loop-i.invariant.5
+shape_of-succs-then-depth-eq0 c = c.take_records.auto.succs ∙ c.loop-i.invariant.5
 
 shape_of-edges-then-depth-eq0 : tie.Need-shape_of-edges-then-depth-eq0 invariant-loop-i decreases-loop-i
-shape_of-edges-then-depth-eq0 c = c.take_records.auto.1.1.1.1.1.1.1.1.1.1.1.1.0 ∙ c.loop-i.invariant.6
+shape_of-edges-then-depth-eq0 c = c.take_records.auto.edges ∙ c.loop-i.invariant.6
 
 returns-then-depth-eq0 : tie.Need-returns-then-depth-eq0 invariant-loop-i decreases-loop-i
 returns-then-depth-eq0 c =
@@ -155,10 +155,10 @@ loop-i-preserved c = (
   c.loop-i.invariant.0,
   c.loop-i.invariant.1,
   c.loop-i.invariant.2,
-  c.take_records.auto.1.1.1.1.1.1.1.1.1.0 ∙ c.loop-i.invariant.3,
-  c.take_records.auto.1.1.1.1.1.1.1.1.1.1.0 ∙ c.loop-i.invariant.4,
-  c.take_records.auto.1.1.1.1.1.1.1.1.1.1.1.0 ∙ c.loop-i.invariant.5,
-  c.take_records.auto.1.1.1.1.1.1.1.1.1.1.1.1.0 ∙ c.loop-i.invariant.6,
+  c.take_records.auto.nodes ∙ c.loop-i.invariant.3,
+  c.take_records.auto.outs ∙ c.loop-i.invariant.4,
+  c.take_records.auto.succs ∙ c.loop-i.invariant.5,
+  c.take_records.auto.edges ∙ c.loop-i.invariant.6,
   stacked_out c.loop-i.invariant.7 (rw c.header_of-h.ensures at c.take_records.ensures) _ c.in-All.is c.if-depth-eq0.false,
 )
 
@@ -172,19 +172,19 @@ shape_of-walks-in-Overfull : tie.Need-shape_of-walks-in-Overfull invariant-loop-
 shape_of-walks-in-Overfull c = c.loop-i.invariant.1
 
 shape_of-visited-in-Overfull : tie.Need-shape_of-visited-in-Overfull invariant-loop-i decreases-loop-i
-shape_of-visited-in-Overfull c = c.loop-i.invariant.2 ∙ c.set.auto.0
+shape_of-visited-in-Overfull c = c.loop-i.invariant.2 ∙ c.set.auto.row
 
 shape_of-nodes-in-Overfull : tie.Need-shape_of-nodes-in-Overfull invariant-loop-i decreases-loop-i
-shape_of-nodes-in-Overfull c = c.take_records.auto.1.1.1.1.1.1.1.1.1.0 ∙ c.loop-i.invariant.3
+shape_of-nodes-in-Overfull c = c.take_records.auto.nodes ∙ c.loop-i.invariant.3
 
 shape_of-outs-in-Overfull : tie.Need-shape_of-outs-in-Overfull invariant-loop-i decreases-loop-i
-shape_of-outs-in-Overfull c = c.take_records.auto.1.1.1.1.1.1.1.1.1.1.0 ∙ c.loop-i.invariant.4
+shape_of-outs-in-Overfull c = c.take_records.auto.outs ∙ c.loop-i.invariant.4
 
 shape_of-succs-in-Overfull : tie.Need-shape_of-succs-in-Overfull invariant-loop-i decreases-loop-i
-shape_of-succs-in-Overfull c = c.take_records.auto.1.1.1.1.1.1.1.1.1.1.1.0 ∙ c.loop-i.invariant.5
+shape_of-succs-in-Overfull c = c.take_records.auto.succs ∙ c.loop-i.invariant.5
 
 shape_of-edges-in-Overfull : tie.Need-shape_of-edges-in-Overfull invariant-loop-i decreases-loop-i
-shape_of-edges-in-Overfull c = c.take_records.auto.1.1.1.1.1.1.1.1.1.1.1.1.0 ∙ c.loop-i.invariant.6
+shape_of-edges-in-Overfull c = c.take_records.auto.edges ∙ c.loop-i.invariant.6
 
 returns-in-Overfull : tie.Need-returns-in-Overfull invariant-loop-i decreases-loop-i
 returns-in-Overfull c = holds_full (c.take_records.ensures.too_many c.in-Overfull.is)

@@ -43,7 +43,7 @@ construct_dynamic_entry_graph-requires c κs =
     let m = c.entry_module-m.ensures.1 in
     let r : (header_in c.args.numbers.now).modules ≤ length c.loop-i.records = omega (arith, c.requires.1.1.0.0, i.0) in
     let w : (header_in c.args.numbers.now).modules ≤ length c.loop-i.walks = omega (arith, c.requires.1.1.0.1, i.1) in
-    let v : (header_in c.args.numbers.now).modules ≤ 8 * length c.clear.new.row = omega (arith, c.requires.1.1.1.1, i.2, c.clear.auto.0) in
+    let v : (header_in c.args.numbers.now).modules ≤ 8 * length c.clear.new.row = omega (arith, c.requires.1.1.1.1, i.2, c.clear.auto.row) in
     (c.requires.0, (i.8.stored, ((r, w), (m, v, rw c.clear.ensures (all_clear _ _ (omega (arith, i.2)) _)))))
 
 enum_known-d : tie.Need-enum_known-d invariant-loop-i decreases-loop-i
@@ -53,25 +53,25 @@ enum_told-1 : tie.Need-enum_told-1 invariant-loop-i decreases-loop-i
 enum_told-1 c = c.in-Full-1.keys2
 
 shape_of-records-in-Full : tie.Need-shape_of-records-in-Full invariant-loop-i decreases-loop-i
-shape_of-records-in-Full c = c.construct_dynamic_entry_graph.auto.1.1.1.1.1.0 ∙ c.loop-i.invariant.0
+shape_of-records-in-Full c = c.construct_dynamic_entry_graph.auto.records ∙ c.loop-i.invariant.0
 
 shape_of-walks-in-Full : tie.Need-shape_of-walks-in-Full invariant-loop-i decreases-loop-i
-shape_of-walks-in-Full c = c.construct_dynamic_entry_graph.auto.1.1.1.1.1.1.0 ∙ c.loop-i.invariant.1
+shape_of-walks-in-Full c = c.construct_dynamic_entry_graph.auto.walks ∙ c.loop-i.invariant.1
 
 shape_of-visited-in-Full : tie.Need-shape_of-visited-in-Full invariant-loop-i decreases-loop-i
-shape_of-visited-in-Full c = c.construct_dynamic_entry_graph.auto.1.1.1.1.1.1.1.0 ∙ c.clear.auto.0 ∙ c.loop-i.invariant.2
+shape_of-visited-in-Full c = c.construct_dynamic_entry_graph.auto.visited ∙ c.clear.auto.row ∙ c.loop-i.invariant.2
 
 shape_of-nodes-in-Full : tie.Need-shape_of-nodes-in-Full invariant-loop-i decreases-loop-i
-shape_of-nodes-in-Full c = c.construct_dynamic_entry_graph.auto.1.1.1.1.1.1.1.1.0 ∙ c.loop-i.invariant.3
+shape_of-nodes-in-Full c = c.construct_dynamic_entry_graph.auto.nodes ∙ c.loop-i.invariant.3
 
 shape_of-outs-in-Full : tie.Need-shape_of-outs-in-Full invariant-loop-i decreases-loop-i
-shape_of-outs-in-Full c = c.construct_dynamic_entry_graph.auto.1.1.1.1.1.1.1.1.1.0 ∙ c.loop-i.invariant.4
+shape_of-outs-in-Full c = c.construct_dynamic_entry_graph.auto.outs ∙ c.loop-i.invariant.4
 
 shape_of-succs-in-Full : tie.Need-shape_of-succs-in-Full invariant-loop-i decreases-loop-i
-shape_of-succs-in-Full c = c.construct_dynamic_entry_graph.auto.1.1.1.1.1.1.1.1.1.1.0 ∙ c.loop-i.invariant.5
+shape_of-succs-in-Full c = c.construct_dynamic_entry_graph.auto.succs ∙ c.loop-i.invariant.5
 
 shape_of-edges-in-Full : tie.Need-shape_of-edges-in-Full invariant-loop-i decreases-loop-i
-shape_of-edges-in-Full c = c.construct_dynamic_entry_graph.auto.1.1.1.1.1.1.1.1.1.1.1.0 ∙ c.loop-i.invariant.6
+shape_of-edges-in-Full c = c.construct_dynamic_entry_graph.auto.edges ∙ c.loop-i.invariant.6
 
 returns-in-Full : tie.Need-returns-in-Full invariant-loop-i decreases-loop-i
 returns-in-Full c = builds_full (c.construct_dynamic_entry_graph.ensures.too_many c.in-Full.is)
@@ -88,13 +88,13 @@ loop-i-preserved c =
     let i = c.loop-i.invariant in
     let all = take c.args.count c.args.list.now in
     let long = length-take-le c.args.count c.args.list.now c.requires.1.0.0 in (
-      c.construct_dynamic_entry_graph.auto.1.1.1.1.1.0 ∙ i.0,
-      c.construct_dynamic_entry_graph.auto.1.1.1.1.1.1.0 ∙ i.1,
-      c.construct_dynamic_entry_graph.auto.1.1.1.1.1.1.1.0 ∙ c.clear.auto.0 ∙ i.2,
-      c.construct_dynamic_entry_graph.auto.1.1.1.1.1.1.1.1.0 ∙ i.3,
-      c.construct_dynamic_entry_graph.auto.1.1.1.1.1.1.1.1.1.0 ∙ i.4,
-      c.construct_dynamic_entry_graph.auto.1.1.1.1.1.1.1.1.1.1.0 ∙ i.5,
-      c.construct_dynamic_entry_graph.auto.1.1.1.1.1.1.1.1.1.1.1.0 ∙ i.6,
+      c.construct_dynamic_entry_graph.auto.records ∙ i.0,
+      c.construct_dynamic_entry_graph.auto.walks ∙ i.1,
+      c.construct_dynamic_entry_graph.auto.visited ∙ c.clear.auto.row ∙ i.2,
+      c.construct_dynamic_entry_graph.auto.nodes ∙ i.3,
+      c.construct_dynamic_entry_graph.auto.outs ∙ i.4,
+      c.construct_dynamic_entry_graph.auto.succs ∙ i.5,
+      c.construct_dynamic_entry_graph.auto.edges ∙ i.6,
       omega (arith, c.loop-i-test.true),
       building-step (graph_in c.args.numbers.now) c.args.cap all i.8 c.clear.new.row c.entry_module-m.result.0
           (omega (arith, long, c.loop-i-test.true))

@@ -42,16 +42,16 @@ returns-in-SameRoot : tie.Need-returns-in-SameRoot
 returns-in-SameRoot c = rw c.in-SameRoot.is (left_same_root _ _ _ _ _ _ _ c.requires.1.0 c.args.root c.requires.1.1.0 _ (c.requires.1.1.1.below _ c.in-SameRoot.is))
 
 shape_of-nodes : tie.Need-shape_of-nodes
-shape_of-nodes c = c.add_edge-built.auto.1.1.1.1.1.0
+shape_of-nodes c = c.add_edge-built.auto.nodes
 
 shape_of-outs : tie.Need-shape_of-outs
-shape_of-outs c = c.add_edge-built.auto.1.1.1.1.1.1.0
+shape_of-outs c = c.add_edge-built.auto.outs
 
 shape_of-succs : tie.Need-shape_of-succs
-shape_of-succs c = c.add_edge-built.auto.1.1.1.1.1.1.1.0
+shape_of-succs c = c.add_edge-built.auto.succs
 
 shape_of-edges : tie.Need-shape_of-edges
-shape_of-edges c = c.add_edge-built.auto.1.1.1.1.1.1.1.1.0
+shape_of-edges c = c.add_edge-built.auto.edges
 
 returns-in-Edge : tie.Need-returns-in-Edge
 returns-in-Edge c = rw (c.behind_edge.ensures, c.in-Edge.is) (left-edge _ _ _ _ _ _ _ c.requires.1.0 c.args.root c.requires.1.1.0 _ (inside c.before.before.before.before.before.before.before.before.before.before.before.before.before.before.before.before) _ _ _ _ c.add_edge-built.result _ refl (rw c.header_of-h.ensures at c.add_edge-built.ensures))

@@ -45,16 +45,16 @@ is_over-requires : tie.Need-is_over-requires invariant-loop-i decreases-loop-i
 is_over-requires c κs = let t = (c.take_import.ensures.walk_below _ _ _ c.in-Walk.is).1 in omega (arith, t, c.requires.1.1.2)
 
 shape_of-nodes-then-not-is_over : tie.Need-shape_of-nodes-then-not-is_over invariant-loop-i decreases-loop-i
-shape_of-nodes-then-not-is_over c = c.take_import.auto.1.1.1.1.1.0 ∙ c.loop-i.invariant.0
+shape_of-nodes-then-not-is_over c = c.take_import.auto.nodes ∙ c.loop-i.invariant.0
 
 shape_of-outs-then-not-is_over : tie.Need-shape_of-outs-then-not-is_over invariant-loop-i decreases-loop-i
-shape_of-outs-then-not-is_over c = c.take_import.auto.1.1.1.1.1.1.0 ∙ c.loop-i.invariant.1
+shape_of-outs-then-not-is_over c = c.take_import.auto.outs ∙ c.loop-i.invariant.1
 
 shape_of-succs-then-not-is_over : tie.Need-shape_of-succs-then-not-is_over invariant-loop-i decreases-loop-i
-shape_of-succs-then-not-is_over c = c.take_import.auto.1.1.1.1.1.1.1.0 ∙ c.loop-i.invariant.2
+shape_of-succs-then-not-is_over c = c.take_import.auto.succs ∙ c.loop-i.invariant.2
 
 shape_of-edges-then-not-is_over : tie.Need-shape_of-edges-then-not-is_over invariant-loop-i decreases-loop-i
-shape_of-edges-then-not-is_over c = c.take_import.auto.1.1.1.1.1.1.1.1.0 ∙ c.loop-i.invariant.3
+shape_of-edges-then-not-is_over c = c.take_import.auto.edges ∙ c.loop-i.invariant.3
 
 returns-then-not-is_over : tie.Need-returns-then-not-is_over invariant-loop-i decreases-loop-i
 returns-then-not-is_over c = takes-upto c.loop-i.invariant.4 (inside c.before.before.before.before.before.before.before.before.before.before.before.before.before.before.before.before.before) c.read_record-import.ensures c.take_import.ensures _ _ _ c.in-Walk.is refl (sym c.is_over.ensures ∙ c.if-not-is_over.true)
@@ -64,10 +64,10 @@ loop-i-smaller-else-not-is_over c = omega (arith, c.loop-i-test.true)
 
 loop-i-preserved-else-not-is_over : tie.Need-loop-i-preserved-else-not-is_over invariant-loop-i decreases-loop-i
 loop-i-preserved-else-not-is_over c = (
-  c.take_import.auto.1.1.1.1.1.0 ∙ c.loop-i.invariant.0,
-  c.take_import.auto.1.1.1.1.1.1.0 ∙ c.loop-i.invariant.1,
-  c.take_import.auto.1.1.1.1.1.1.1.0 ∙ c.loop-i.invariant.2,
-  c.take_import.auto.1.1.1.1.1.1.1.1.0 ∙ c.loop-i.invariant.3,
+  c.take_import.auto.nodes ∙ c.loop-i.invariant.0,
+  c.take_import.auto.outs ∙ c.loop-i.invariant.1,
+  c.take_import.auto.succs ∙ c.loop-i.invariant.2,
+  c.take_import.auto.edges ∙ c.loop-i.invariant.3,
   going-over c.loop-i.invariant.4 (inside c.before.before.before.before.before.before.before.before.before.before.before.before.before.before.before.before.before) c.read_record-import.ensures c.take_import.ensures _ _ _ c.in-Walk.is (sym c.is_over.ensures ∙ c.if-not-is_over.false),
 )
 
@@ -79,10 +79,10 @@ loop-i-smaller c = omega (arith, c.loop-i-test.true)
 
 loop-i-preserved : tie.Need-loop-i-preserved invariant-loop-i decreases-loop-i
 loop-i-preserved c = (
-  c.take_import.auto.1.1.1.1.1.0 ∙ c.loop-i.invariant.0,
-  c.take_import.auto.1.1.1.1.1.1.0 ∙ c.loop-i.invariant.1,
-  c.take_import.auto.1.1.1.1.1.1.1.0 ∙ c.loop-i.invariant.2,
-  c.take_import.auto.1.1.1.1.1.1.1.1.0 ∙ c.loop-i.invariant.3,
+  c.take_import.auto.nodes ∙ c.loop-i.invariant.0,
+  c.take_import.auto.outs ∙ c.loop-i.invariant.1,
+  c.take_import.auto.succs ∙ c.loop-i.invariant.2,
+  c.take_import.auto.edges ∙ c.loop-i.invariant.3,
   going_stay c.loop-i.invariant.4 (inside c.before.before.before.before.before.before.before.before.before.before.before.before.before.before.before) c.read_record-import.ensures c.take_import.ensures _ c.in-Stay.is,
 )
 
@@ -90,16 +90,16 @@ enum_told-1 : tie.Need-enum_told-1 invariant-loop-i decreases-loop-i
 enum_told-1 c = c.in-Overfull-1.keys3
 
 shape_of-nodes-in-Overfull : tie.Need-shape_of-nodes-in-Overfull invariant-loop-i decreases-loop-i
-shape_of-nodes-in-Overfull c = c.take_import.auto.1.1.1.1.1.0 ∙ c.loop-i.invariant.0
+shape_of-nodes-in-Overfull c = c.take_import.auto.nodes ∙ c.loop-i.invariant.0
 
 shape_of-outs-in-Overfull : tie.Need-shape_of-outs-in-Overfull invariant-loop-i decreases-loop-i
-shape_of-outs-in-Overfull c = c.take_import.auto.1.1.1.1.1.1.0 ∙ c.loop-i.invariant.1
+shape_of-outs-in-Overfull c = c.take_import.auto.outs ∙ c.loop-i.invariant.1
 
 shape_of-succs-in-Overfull : tie.Need-shape_of-succs-in-Overfull invariant-loop-i decreases-loop-i
-shape_of-succs-in-Overfull c = c.take_import.auto.1.1.1.1.1.1.1.0 ∙ c.loop-i.invariant.2
+shape_of-succs-in-Overfull c = c.take_import.auto.succs ∙ c.loop-i.invariant.2
 
 shape_of-edges-in-Overfull : tie.Need-shape_of-edges-in-Overfull invariant-loop-i decreases-loop-i
-shape_of-edges-in-Overfull c = c.take_import.auto.1.1.1.1.1.1.1.1.0 ∙ c.loop-i.invariant.3
+shape_of-edges-in-Overfull c = c.take_import.auto.edges ∙ c.loop-i.invariant.3
 
 returns-in-Overfull : tie.Need-returns-in-Overfull invariant-loop-i decreases-loop-i
 returns-in-Overfull c = takes_full (c.take_import.ensures.too_many c.in-Overfull.is)

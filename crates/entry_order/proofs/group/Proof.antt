@@ -38,7 +38,7 @@ offset_bounds-chain-u : tie.Need-offset_bounds-chain-u invariant-loop-i decrease
 offset_bounds-chain-u c = let u = c.entry_module-m.ensures.1 in record { fits = omega (arith, u, c.requires.0.few_modules) }
 
 bounds-chain-u : tie.Need-bounds-chain-u invariant-loop-i decreases-loop-i
-bounds-chain-u c = let u = c.entry_module-m.ensures.1 in let k = c.link.auto.1.1.1.1.0 in omega (arith, u, c.requires.1.1, k)
+bounds-chain-u c = let u = c.entry_module-m.ensures.1 in let k = c.link.auto.chain in omega (arith, u, c.requires.1.1, k)
 
 overflow_add-i : tie.Need-overflow_add-i invariant-loop-i decreases-loop-i
 overflow_add-i c = let t = here c.before.before.before in record { fits = omega (arith, t.0, c.well-formed.1.1.0.1) }
@@ -67,7 +67,7 @@ loop-i-preserved c =
     c.if-chain-u.branch
 
 shape_of-chain : tie.Need-shape_of-chain invariant-loop-i decreases-loop-i
-shape_of-chain c = c.link.auto.1.1.1.1.0
+shape_of-chain c = c.link.auto.chain
 
 shape_of-out : tie.Need-shape_of-out invariant-loop-i decreases-loop-i
 shape_of-out c = c.loop-i.invariant.fill.long

@@ -28,7 +28,7 @@ owner c =
     let m = c.header_of-h in
     let t = (turn c.before.before).0 in
     let long = chain_long _ _ m.ensures _ _ _ _ l.invariant.2 in
-    let k = c.clear.auto.0 in
+    let k = c.clear.auto.chain in
     let u : c.entry_module-owner.result.0 < m.result.modules = rw m.ensures c.entry_module-owner.ensures.1 in
     (omega (arith, u, long), omega (arith, t, long), omega (arith, l.invariant.0, k, c.well-formed.1.1.1.1.0.1))
 
@@ -39,7 +39,7 @@ clear-requires : tie.Need-clear-requires invariant-loop-i decreases-loop-i
 clear-requires c κs = rw c.header_of-h.ensures (omega (arith, c.requires.1.1))
 
 loop-i-init : tie.Need-loop-i-init invariant-loop-i decreases-loop-i
-loop-i-init c = (refl, omega arith, chain_ready _ _ c.header_of-h.ensures _ _ c.args.chain.now _ c.requires.1.1 c.clear.auto.0 c.clear.ensures)
+loop-i-init c = (refl, omega arith, chain_ready _ _ c.header_of-h.ensures _ _ c.args.chain.now _ c.requires.1.1 c.clear.auto.chain c.clear.ensures)
 
 overflow_sub-i : tie.Need-overflow_sub-i invariant-loop-i decreases-loop-i
 overflow_sub-i c = c.loop-i-test.true
@@ -87,7 +87,7 @@ loop-i-preserved c =
     (simp length-set l.invariant.0, omega (arith, l.invariant.1), chain_turn _ _ c.header_of-h.ensures _ _ _ _ _ h l.invariant.1 c.entry_module-owner.ensures l.invariant.2)
 
 shape_of-chain : tie.Need-shape_of-chain invariant-loop-i decreases-loop-i
-shape_of-chain c = c.loop-i.invariant.0 ∙ c.clear.auto.0
+shape_of-chain c = c.loop-i.invariant.0 ∙ c.clear.auto.chain
 
 returns : tie.Need-returns invariant-loop-i decreases-loop-i
 returns c = link_done _ _ _ _ _ c.loop-i-test.false c.loop-i.invariant.2

@@ -38,13 +38,13 @@ copy_kind-requires c κs =
     (c.requires.0, (list-entries _ _ (is c.before.before.before.before.before.before.before.before.before.before.before.before.before.before.before.before) _ _ n.2 c.number.ensures _ _ n.1 c.group.ensures, omega (arith, room)))
 
 shape_of-chain : tie.Need-shape_of-chain
-shape_of-chain c = c.group.auto.1.1.1.1.0
+shape_of-chain c = c.group.auto.chain
 
 shape_of-list : tie.Need-shape_of-list
-shape_of-list c = c.group.auto.1.1.1.1.1.0
+shape_of-list c = c.group.auto.out
 
 shape_of-plan : tie.Need-shape_of-plan
-shape_of-plan c = c.copy_kind.auto.1.1.1.1.1.0 ∙ c.copy_kind-users.auto.1.1.1.1.1.0 ∙ c.number.auto.0
+shape_of-plan c = c.copy_kind.auto.plan ∙ c.copy_kind-users.auto.plan ∙ c.number.auto.plan
 
 returns : tie.Need-returns
 returns c =

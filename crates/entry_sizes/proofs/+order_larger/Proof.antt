@@ -29,66 +29,65 @@ below t = and 3 kinds.ps (falls 3 kinds.ps ◌<◌ μ t) larger.Pre
 abbrev claims : ℕ → lts.Claims
 claims t = (below t, larger.Post, split-large-reads.Asked, split-large-reads.Learnt, is-within-reads.Asked, is-within-reads.Learnt, order-middle-reads.Asked, order-middle-reads.Learnt, order-large-reads.Asked, order-large-reads.Learnt, order-full-reads.Asked, order-full-reads.Learnt)
 
-sub-order-larger : (t : ℕ) → lts.Need-overflow-sub-order-larger (claims t) (here t) larger.Post
-sub-order-larger t c = c.before.if1.true
+sub-order-larger : (t : ℕ) → lts.Need-overflow_sub-again (claims t) (here t) larger.Post
+sub-order-larger t c = c.if-again-gt0.true
 
-order-larger-requires : (t : ℕ) → lts.Need-order-larger-requires (claims t) (here t) larger.Post
-order-larger-requires t c κs = let s = c.before.before.before.before.before in (omega (arith, s.requires.0, c.before.if1.true), s.requires.1)
+order-larger-requires : (t : ℕ) → lts.Need-order_larger-requires (claims t) (here t) larger.Post
+order-larger-requires t c κs = (omega (arith, c.requires.0, c.if-again-gt0.true), c.requires.1)
 
-same_length : (t : ℕ) → lts.Need-same-length (claims t) (here t) larger.Post
-same_length t c = c.before.before.order-larger.auto.1.1.1.0
+same_length : (t : ℕ) → lts.Need-shape_of-plan-then-again-gt0 (claims t) (here t) larger.Post
+same_length t c = c.order_larger.auto.plan
 
-returns : (t : ℕ) → lts.Need-returns (claims t) (here t) larger.Post
-returns t c = c.before.before.order-larger.ensures
+returns : (t : ℕ) → lts.Need-returns-then-again-gt0 (claims t) (here t) larger.Post
+returns t c = c.order_larger.ensures
 
-split-large-requires : (t : ℕ) → lts.Need-split-large-requires (claims t) (here t) larger.Post
-split-large-requires t c κs = let s = c.before.before.before.before.before in (s.requires.1.0, s.requires.1.1.1)
+split-large-requires : (t : ℕ) → lts.Need-split_large-users-requires (claims t) (here t) larger.Post
+split-large-requires t c κs = (c.requires.1.0, c.requires.1.1.1)
 
-same-length-2 : (t : ℕ) → lts.Need-same-length-2 (claims t) (here t) larger.Post
-same-length-2 t c = c.before.before.before.before.split-large.auto.1.1.0
+same-length-2 : (t : ℕ) → lts.Need-shape_of-plan-then-users-h (claims t) (here t) larger.Post
+same-length-2 t c = c.split_large-users.auto.plan
 
-returns-2 : (t : ℕ) → lts.Need-returns-2 (claims t) (here t) larger.Post
-returns-2 t c = all_users _ _ _ c.before.before.before.before.split-large.ensures _ c.before.before.before.before.before.before.before.before.before.before.requires.1.1.0 c.if2.true
+returns-2 : (t : ℕ) → lts.Need-returns-then-users-h (claims t) (here t) larger.Post
+returns-2 t c = all_users _ _ _ c.split_large-users.ensures _ c.requires.1.1.0 c.if-users-h.true
 
-is-within-requires : (t : ℕ) → lts.Need-is-within-requires (claims t) (here t) larger.Post
+is-within-requires : (t : ℕ) → lts.Need-is_within-requires (claims t) (here t) larger.Post
 is-within-requires t c κs = _
 
-order-middle-requires : (t : ℕ) → lts.Need-order-middle-requires (claims t) (here t) larger.Post
+order-middle-requires : (t : ℕ) → lts.Need-order_middle-requires (claims t) (here t) larger.Post
 order-middle-requires t c κs =
-    let s = c.before.before.before.before.before.before.before.before.before.before.before.before.before in
-    (s.requires.1.0, (within _ _ s.requires.1.1.0 _ _ c.before.before.is_Within.ensures c.before.if3.true, c.before.before.before.before.before.before.before.split-large.ensures))
+    (c.requires.1.0, (within _ _ c.requires.1.1.0 _ _ c.is_within.ensures c.if-is_within.true, c.split_large-users.ensures))
 
-same-length-3 : (t : ℕ) → lts.Need-same-length-3 (claims t) (here t) larger.Post
-same-length-3 t c = c.before.before.order-middle.auto.1.1.1.0 ∙ c.before.before.before.before.before.before.before.before.before.before.split-large.auto.1.1.0
+same-length-3 : (t : ℕ) → lts.Need-shape_of-plan-then-is_within (claims t) (here t) larger.Post
+same-length-3 t c = c.order_middle.auto.plan ∙ c.split_large-users.auto.plan
 
-returns-3 : (t : ℕ) → lts.Need-returns-3 (claims t) (here t) larger.Post
+returns-3 : (t : ℕ) → lts.Need-returns-then-is_within (claims t) (here t) larger.Post
 returns-3 t c =
-    let w = within _ _ c.before.before.before.before.before.before.before.before.before.before.before.before.before.before.before.before.requires.1.1.0 _ _ c.before.before.before.before.before.is_Within.ensures c.before.before.before.before.if3.true in
-    full_done _ _ _ _ _ _ w.0 c.before.before.order-middle.ensures
+    let w = within _ _ c.requires.1.1.0 _ _ c.is_within.ensures c.if-is_within.true in
+    full_done _ _ _ _ _ _ w.0 c.order_middle.ensures
 
-order-large-requires : (t : ℕ) → lts.Need-order-large-requires (claims t) (here t) larger.Post
-order-large-requires t c κs = (c.before.before.before.before.before.before.before.before.before.before.before.before.before.requires.1.0, c.before.before.before.before.before.before.before.split-large.ensures)
+order-large-requires : (t : ℕ) → lts.Need-order_large-requires (claims t) (here t) larger.Post
+order-large-requires t c κs = (c.requires.1.0, c.split_large-users.ensures)
 
-enum_told : (t : ℕ) → lts.Need-enum-told (claims t) (here t) larger.Post
-enum_told t c = c.match.keys1
+enum_told : (t : ℕ) → lts.Need-enum_told-1 (claims t) (here t) larger.Post
+enum_told t c = c.in-Done-1.keys1
 
-enum-told-2 : (t : ℕ) → lts.Need-enum-told-2 (claims t) (here t) larger.Post
-enum-told-2 t c = c.match.keys2
+enum-told-2 : (t : ℕ) → lts.Need-enum_told-in-Full (claims t) (here t) larger.Post
+enum-told-2 t c = c.in-Full-1.keys2
 
-order-full-requires : (t : ℕ) → lts.Need-order-full-requires (claims t) (here t) larger.Post
-order-full-requires t c κs = (c.before.before.before.before.before.before.before.before.before.before.before.before.before.before.before.before.before.before.before.requires.1.0, orders_ready _ _ _ _ _ _ c.before.before.before.before.before.order-large.ensures c.before.enum-told2.given.1 c.before.before.before.before.before.before.before.before.before.before.before.before.before.split-large.ensures)
+order-full-requires : (t : ℕ) → lts.Need-order_full-requires (claims t) (here t) larger.Post
+order-full-requires t c κs = (c.requires.1.0, orders_ready _ _ _ _ _ _ c.order_large.ensures c.in-Full.is c.split_large-users.ensures)
 
-same-length-4 : (t : ℕ) → lts.Need-same-length-4 (claims t) (here t) larger.Post
-same-length-4 t c = c.before.before.before.before.order-large.auto.1.1.1.0 ∙ c.before.before.before.before.before.before.before.before.before.before.before.before.split-large.auto.1.1.0
+same-length-4 : (t : ℕ) → lts.Need-shape_of-plan-in-Done (claims t) (here t) larger.Post
+same-length-4 t c = c.order_large.auto.plan ∙ c.split_large-users.auto.plan
 
-returns-4 : (t : ℕ) → lts.Need-returns-4 (claims t) (here t) larger.Post
-returns-4 t c = c.before.before.before.before.order-large.ensures.done c.enum_told.given.1
+returns-4 : (t : ℕ) → lts.Need-returns-in-Done (claims t) (here t) larger.Post
+returns-4 t c = c.order_large.ensures.done c.in-Done.is
 
-same-length-5 : (t : ℕ) → lts.Need-same-length-5 (claims t) (here t) larger.Post
-same-length-5 t c = c.before.before.order-full.auto.1.1.1.0 ∙ c.before.before.before.before.before.before.before.before.order-large.auto.1.1.1.0 ∙ c.before.before.before.before.before.before.before.before.before.before.before.before.before.before.before.before.split-large.auto.1.1.0
+same-length-5 : (t : ℕ) → lts.Need-shape_of-plan-in-Full (claims t) (here t) larger.Post
+same-length-5 t c = c.order_full.auto.plan ∙ c.order_large.auto.plan ∙ c.split_large-users.auto.plan
 
-returns-5 : (t : ℕ) → lts.Need-returns-5 (claims t) (here t) larger.Post
-returns-5 t c = full_done _ _ _ _ _ _ c.before.before.before.before.before.before.before.before.before.before.before.before.before.before.before.before.before.before.before.before.before.before.requires.1.0.few_modules c.before.before.order-full.ensures
+returns-5 : (t : ℕ) → lts.Need-returns-in-Full (claims t) (here t) larger.Post
+returns-5 t c = full_done _ _ _ _ _ _ c.requires.1.0.few_modules c.order_full.ensures
 
 pub +order_larger_spec : {M : Type 1} → statement M
 +order_larger_spec =

@@ -16,7 +16,7 @@ order_few-requires c κs =
     (c.requires.0, ((is, w.0, w.1), all_cleared _ _ c.requires.1))
 
 shape_of-plan-then-is_within : tie.Need-shape_of-plan-then-is_within
-shape_of-plan-then-is_within c = c.order_few.auto.1.1.1.0
+shape_of-plan-then-is_within c = c.order_few.auto.plan
 
 returns-then-is_within : tie.Need-returns-then-is_within
 returns-then-is_within c = c.order_few.ensures
@@ -28,7 +28,7 @@ order_larger-requires : tie.Need-order_larger-requires
 order_larger-requires c κs = (c.requires.0, (c.header_of-h.ensures, all_cleared _ _ c.requires.1))
 
 shape_of-plan : tie.Need-shape_of-plan
-shape_of-plan c = c.order_larger.auto.1.1.1.0
+shape_of-plan c = c.order_larger.auto.plan
 
 returns : tie.Need-returns
 returns c = c.order_larger.ensures

@@ -37,7 +37,7 @@ order_in-requires c κs =
     (c.requires.0, (c.requires.1, rows_ready h.modules h.entries 1024 1024 c.requires.0.few_modules c.requires.0.few_entries (omega arith) (omega arith) 128 1024 1024 1048576 131072 1024 2048 1024 (omega arith) (omega arith) (omega arith) (omega arith) (omega arith) (omega arith) (omega arith) (omega arith)))
 
 shape_of-plan : tie.Need-shape_of-plan
-shape_of-plan c = c.order_in.auto.1.1.1.1.1.1.1.1.1.1.1.1.0
+shape_of-plan c = c.order_in.auto.plan
 
 returns : tie.Need-returns
 returns c = c.order_in.ensures

@@ -41,7 +41,7 @@ order_in-requires c κs =
     (c.requires.0, (c.requires.1.1, rows_ready h.modules h.entries 16 16 c.requires.1.0.0 c.requires.1.0.1 (omega arith) (omega arith) 2 16 16 256 32 16 32 16 (omega arith) (omega arith) (omega arith) (omega arith) (omega arith) (omega arith) (omega arith) (omega arith)))
 
 shape_of-plan : tie.Need-shape_of-plan
-shape_of-plan c = c.order_in.auto.1.1.1.1.1.1.1.1.1.1.1.1.0
+shape_of-plan c = c.order_in.auto.plan
 
 returns : tie.Need-returns
 returns c = c.order_in.ensures

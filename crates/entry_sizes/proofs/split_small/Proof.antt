@@ -20,7 +20,7 @@ split_entries-requires : tie.Need-split_entries-requires
 split_entries-requires c κs = (c.requires.0, split_ready _ _ c.requires.1.1 16 32 16 c.requires.1.0.0 c.requires.1.0.1 (omega arith) (omega arith))
 
 shape_of-plan : tie.Need-shape_of-plan
-shape_of-plan c = c.split_entries.auto.1.1.1.1.0
+shape_of-plan c = c.split_entries.auto.plan
 
 returns : tie.Need-returns
 returns c = split_done _ _ c.requires.1.1 _ _ c.split_entries.ensures

@@ -13,7 +13,7 @@ shape_of-marks : tie.Need-shape_of-marks
 shape_of-marks c = search rules
 
 returns : tie.Need-returns
-returns c = marks_one _ _ _ _ _ c.mark_of.ensures.0 c.set.auto.0 c.set.ensures
+returns c = marks_one _ _ _ _ _ c.mark_of.ensures.0 c.set.auto.row c.set.ensures
 
 pub mark_spec : {M : Type 1} → statement M
 mark_spec =

@@ -25,38 +25,38 @@ below t = and 1 kinds.ps (falls 1 kinds.ps ◌<◌ μ t) larger.Pre
 abbrev claims : ℕ → lts.Claims
 claims t = (below t, larger.Post, fits-reads.Asked, fits-reads.Learnt, middle-reads.Asked, middle-reads.Learnt, large-reads.Asked, large-reads.Learnt, largest-reads.Asked, largest-reads.Learnt)
 
-sub-check-larger : (t : ℕ) → lts.Need-overflow-sub-check-larger (claims t) (here t) larger.Post
-sub-check-larger t c = c.if1.true
+sub-check-larger : (t : ℕ) → lts.Need-overflow_sub-again (claims t) (here t) larger.Post
+sub-check-larger t c = c.if-again-gt0.true
 
-check-larger-requires : (t : ℕ) → lts.Need-check-larger-requires (claims t) (here t) larger.Post
-check-larger-requires t c κs = let s = c.before.before in (omega (arith, s.requires.0, c.if1.true), s.requires.1)
+check-larger-requires : (t : ℕ) → lts.Need-check_larger-requires (claims t) (here t) larger.Post
+check-larger-requires t c κs = (omega (arith, c.requires.0, c.if-again-gt0.true), c.requires.1)
 
-returns : (t : ℕ) → lts.Need-returns (claims t) (here t) larger.Post
-returns t c = c.check-larger.ensures
+returns : (t : ℕ) → lts.Need-returns-then-again-gt0 (claims t) (here t) larger.Post
+returns t c = c.check_larger.ensures
 
 fits-requires : (t : ℕ) → lts.Need-fits-requires (claims t) (here t) larger.Post
 fits-requires t c κs = _
 
-check-middle-requires : (t : ℕ) → lts.Need-check-middle-requires (claims t) (here t) larger.Post
-check-middle-requires t c κs = (c.before.before.before.before.requires.1, c.before.fits2.ensures c.if2.true)
+check-middle-requires : (t : ℕ) → lts.Need-check_middle-requires (claims t) (here t) larger.Post
+check-middle-requires t c κs = (c.requires.1, c.fits.ensures c.if-fits.true)
 
-returns-2 : (t : ℕ) → lts.Need-returns-2 (claims t) (here t) larger.Post
-returns-2 t c = c.check-middle.ensures
+returns-2 : (t : ℕ) → lts.Need-returns-then-fits (claims t) (here t) larger.Post
+returns-2 t c = c.check_middle.ensures
 
 fits-requires-2 : (t : ℕ) → lts.Need-fits-requires-2 (claims t) (here t) larger.Post
 fits-requires-2 t c κs = _
 
-check-large-requires : (t : ℕ) → lts.Need-check-large-requires (claims t) (here t) larger.Post
-check-large-requires t c κs = (c.before.before.before.before.before.before.requires.1, c.before.fits3.ensures c.if3.true)
+check-large-requires : (t : ℕ) → lts.Need-check_large-requires (claims t) (here t) larger.Post
+check-large-requires t c κs = (c.requires.1, c.fits-2.ensures c.if-fits-2.true)
 
-returns-3 : (t : ℕ) → lts.Need-returns-3 (claims t) (here t) larger.Post
-returns-3 t c = c.check-large.ensures
+returns-3 : (t : ℕ) → lts.Need-returns-then-fits-2 (claims t) (here t) larger.Post
+returns-3 t c = c.check_large.ensures
 
-check-largest-requires : (t : ℕ) → lts.Need-check-largest-requires (claims t) (here t) larger.Post
-check-largest-requires t c κs = let h = c.before.before.before.before.before.before.requires.1 in (h, bounded _ _ h)
+check-largest-requires : (t : ℕ) → lts.Need-check_largest-requires (claims t) (here t) larger.Post
+check-largest-requires t c κs = let h = c.requires.1 in (h, bounded _ _ h)
 
-returns-4 : (t : ℕ) → lts.Need-returns-4 (claims t) (here t) larger.Post
-returns-4 t c = c.check-largest.ensures
+returns-4 : (t : ℕ) → lts.Need-returns (claims t) (here t) larger.Post
+returns-4 t c = c.check_largest.ensures
 
 pub +check_larger_spec : {M : Type 1} → statement M
 +check_larger_spec =

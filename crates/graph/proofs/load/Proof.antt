@@ -11,7 +11,7 @@ use Rattle.graph.proofs.load.Tie as tie
 
 -- the layout, before and after the parts are read, and their sections
 begun : (c : tie.After-lay_out) → Laid c.args.h at_verdicts c.lay_out.new.tables
-begun c = let k = c.lay_out.auto.0 in
+begun c = let k = c.lay_out.auto.tables in
     record { known = omega arith; few = omega (arith, k, c.requires.1.1); starts = c.lay_out.ensures; fits = omega (arith, k, c.requires.1.0) }
 
 laid : (c : tie.After-parts) → Laid c.args.h at_verdicts c.parts.new.tables

@@ -35,38 +35,38 @@ enum_told-in-Bailout : tie.Need-enum_told-in-Bailout
 enum_told-in-Bailout c = c.in-Bailout-1.keys6
 
 shape_of-marks-in-Module : tie.Need-shape_of-marks-in-Module
-shape_of-marks-in-Module c = c.follow_module.auto.1.1.0
+shape_of-marks-in-Module c = c.follow_module.auto.marks
 
 shape_of-lines-in-Module : tie.Need-shape_of-lines-in-Module
-shape_of-lines-in-Module c = c.follow_module.auto.1.1.1.0
+shape_of-lines-in-Module c = c.follow_module.auto.lines
 
 returns-in-Module : tie.Need-returns-in-Module
 returns-in-Module c = rw c.in-Module.is c.follow_module.ensures
 
 shape_of-marks-in-Statement : tie.Need-shape_of-marks-in-Statement
-shape_of-marks-in-Statement c = c.follow_statement.auto.1.1.0
+shape_of-marks-in-Statement c = c.follow_statement.auto.marks
 
 shape_of-lines-in-Statement : tie.Need-shape_of-lines-in-Statement
-shape_of-lines-in-Statement c = c.follow_statement.auto.1.1.1.0
+shape_of-lines-in-Statement c = c.follow_statement.auto.lines
 
 returns-in-Statement : tie.Need-returns-in-Statement
 returns-in-Statement c = rw c.in-Statement.is c.follow_statement.ensures
 
 shape_of-marks-in-CheckedUse : tie.Need-shape_of-marks-in-CheckedUse
-shape_of-marks-in-CheckedUse c = c.follow_checked_use.auto.1.1.0
+shape_of-marks-in-CheckedUse c = c.follow_checked_use.auto.marks
 
 shape_of-lines-in-CheckedUse : tie.Need-shape_of-lines-in-CheckedUse
-shape_of-lines-in-CheckedUse c = c.follow_checked_use.auto.1.1.1.0
+shape_of-lines-in-CheckedUse c = c.follow_checked_use.auto.lines
 
 returns-in-CheckedUse : tie.Need-returns-in-CheckedUse
 unfolding segments_of
 returns-in-CheckedUse c = rw (c.in-CheckedUse.is, segments_of) c.follow_checked_use.ensures
 
 shape_of-marks-in-Use : tie.Need-shape_of-marks-in-Use
-shape_of-marks-in-Use c = c.follow_use.auto.1.1.0
+shape_of-marks-in-Use c = c.follow_use.auto.marks
 
 shape_of-lines-in-Use : tie.Need-shape_of-lines-in-Use
-shape_of-lines-in-Use c = c.follow_use.auto.1.1.1.0
+shape_of-lines-in-Use c = c.follow_use.auto.lines
 
 returns-in-Use : tie.Need-returns-in-Use
 returns-in-Use c = rw c.in-Use.is c.follow_use.ensures

@@ -18,10 +18,10 @@ enum_told-1 : tie.Need-enum_told-1
 enum_told-1 c = c.in-Full-1.keys1
 
 shape_of-marks-in-Full : tie.Need-shape_of-marks-in-Full
-shape_of-marks-in-Full c = c.sweep_statements.auto.1.1.0
+shape_of-marks-in-Full c = c.sweep_statements.auto.marks
 
 shape_of-lines-in-Full : tie.Need-shape_of-lines-in-Full
-shape_of-lines-in-Full c = c.sweep_statements.auto.1.1.1.0
+shape_of-lines-in-Full c = c.sweep_statements.auto.lines
 
 returns-in-Full : tie.Need-returns-in-Full
 unfolding module_segments
@@ -34,10 +34,10 @@ include_imports-requires : tie.Need-include_imports-requires
 include_imports-requires c κs = let w1 = grown_on _ _ _ _ _ _ _ _ _ c.in-Lines.is c.sweep_statements.ensures _ c.requires.1.1.2 in (c.requires.0, (w1.0, (c.requires.1.1.0, c.requires.1.1.1, w1.1)))
 
 shape_of-marks : tie.Need-shape_of-marks
-shape_of-marks c = c.include_imports.auto.1.1.0 ∙ c.sweep_statements.auto.1.1.0
+shape_of-marks c = c.include_imports.auto.marks ∙ c.sweep_statements.auto.marks
 
 shape_of-lines : tie.Need-shape_of-lines
-shape_of-lines c = c.include_imports.auto.1.1.1.0 ∙ c.sweep_statements.auto.1.1.1.0
+shape_of-lines c = c.include_imports.auto.lines ∙ c.sweep_statements.auto.lines
 
 returns : tie.Need-returns
 unfolding module_segments

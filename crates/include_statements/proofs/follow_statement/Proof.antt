@@ -11,10 +11,10 @@ enum_told-1 : tie.Need-enum_told-1
 enum_told-1 c = c.in-Full-1.keys1
 
 shape_of-marks-in-Full : tie.Need-shape_of-marks-in-Full
-shape_of-marks-in-Full c = c.scan_import_records.auto.1.1.0
+shape_of-marks-in-Full c = c.scan_import_records.auto.marks
 
 shape_of-lines-in-Full : tie.Need-shape_of-lines-in-Full
-shape_of-lines-in-Full c = c.scan_import_records.auto.1.1.1.0
+shape_of-lines-in-Full c = c.scan_import_records.auto.lines
 
 returns-in-Full : tie.Need-returns-in-Full
 unfolding segments_of statement_segments
@@ -27,10 +27,10 @@ include_references-requires : tie.Need-include_references-requires
 include_references-requires c κs = let w1 = grown_on _ _ _ _ _ _ _ _ _ c.in-Lines.is c.scan_import_records.ensures _ c.requires.1.1.2 in (c.requires.0, (w1.0, (c.requires.1.1.0, c.requires.1.1.1, w1.1)))
 
 shape_of-marks : tie.Need-shape_of-marks
-shape_of-marks c = c.include_references.auto.1.1.0 ∙ c.scan_import_records.auto.1.1.0
+shape_of-marks c = c.include_references.auto.marks ∙ c.scan_import_records.auto.marks
 
 shape_of-lines : tie.Need-shape_of-lines
-shape_of-lines c = c.include_references.auto.1.1.1.0 ∙ c.scan_import_records.auto.1.1.1.0
+shape_of-lines c = c.include_references.auto.lines ∙ c.scan_import_records.auto.lines
 
 returns : tie.Need-returns
 unfolding segments_of statement_segments

@@ -20,10 +20,10 @@ enum_told-1 : tie.Need-enum_told-1
 enum_told-1 c = c.in-Full-1.keys1
 
 shape_of-marks-in-Full : tie.Need-shape_of-marks-in-Full
-shape_of-marks-in-Full c = c.demand_body.auto.1.1.0
+shape_of-marks-in-Full c = c.demand_body.auto.marks
 
 shape_of-lines-in-Full : tie.Need-shape_of-lines-in-Full
-shape_of-lines-in-Full c = c.demand_body.auto.1.1.1.0
+shape_of-lines-in-Full c = c.demand_body.auto.lines
 
 returns-in-Full : tie.Need-returns-in-Full
 unfolding use_segments
@@ -42,10 +42,10 @@ enum_told-in-Full-give : tie.Need-enum_told-in-Full-give
 enum_told-in-Full-give c = c.in-Full-give-1.keys1
 
 shape_of-marks-in-Full-give : tie.Need-shape_of-marks-in-Full-give
-shape_of-marks-in-Full-give c = c.give.auto.1.1.0 ∙ c.demand_body.auto.1.1.0
+shape_of-marks-in-Full-give c = c.give.auto.marks ∙ c.demand_body.auto.marks
 
 shape_of-lines-in-Full-give : tie.Need-shape_of-lines-in-Full-give
-shape_of-lines-in-Full-give c = c.give.auto.1.1.1.0 ∙ c.demand_body.auto.1.1.1.0
+shape_of-lines-in-Full-give c = c.give.auto.lines ∙ c.demand_body.auto.lines
 
 returns-in-Full-give : tie.Need-returns-in-Full-give
 unfolding use_segments
@@ -58,10 +58,10 @@ include_target-requires : tie.Need-include_target-requires
 include_target-requires c κs = let w1 = grown_on _ _ _ _ _ _ _ _ _ c.in-Lines.is c.demand_body.ensures _ c.requires.1.1.3 in let w2 = grown_on _ _ _ _ _ _ _ _ _ c.in-Lines-give.is c.give.ensures _ w1.1 in (c.requires.0, (w2.0, (c.requires.1.1.0, c.requires.1.1.1, c.requires.1.1.2, w2.1)))
 
 shape_of-marks : tie.Need-shape_of-marks
-shape_of-marks c = c.include_target.auto.1.1.0 ∙ c.give.auto.1.1.0 ∙ c.demand_body.auto.1.1.0
+shape_of-marks c = c.include_target.auto.marks ∙ c.give.auto.marks ∙ c.demand_body.auto.marks
 
 shape_of-lines : tie.Need-shape_of-lines
-shape_of-lines c = c.include_target.auto.1.1.1.0 ∙ c.give.auto.1.1.1.0 ∙ c.demand_body.auto.1.1.1.0
+shape_of-lines c = c.include_target.auto.lines ∙ c.give.auto.lines ∙ c.demand_body.auto.lines
 
 returns : tie.Need-returns
 unfolding use_segments

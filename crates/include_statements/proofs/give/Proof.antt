@@ -23,10 +23,10 @@ returns-in-Nothing : tie.Need-returns-in-Nothing
 returns-in-Nothing c = give_none _ _ _ _ _ _ _ _ c.in-Nothing.is c.requires.1.0
 
 shape_of-marks : tie.Need-shape_of-marks
-shape_of-marks c = c.add.auto.1.1.0
+shape_of-marks c = c.add.auto.marks
 
 shape_of-lines : tie.Need-shape_of-lines
-shape_of-lines c = c.add.auto.1.1.1.0
+shape_of-lines c = c.add.auto.lines
 
 returns-in-Gives : tie.Need-returns-in-Gives
 returns-in-Gives c = give_one _ _ _ _ _ _ _ _ _ _ c.in-Gives.is c.add.ensures

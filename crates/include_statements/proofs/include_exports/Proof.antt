@@ -12,10 +12,10 @@ enum_told-1 : tie.Need-enum_told-1
 enum_told-1 c = c.in-Full-1.keys1
 
 shape_of-marks-in-Full : tie.Need-shape_of-marks-in-Full
-shape_of-marks-in-Full c = c.include_export_symbols.auto.1.1.0
+shape_of-marks-in-Full c = c.include_export_symbols.auto.marks
 
 shape_of-lines-in-Full : tie.Need-shape_of-lines-in-Full
-shape_of-lines-in-Full c = c.include_export_symbols.auto.1.1.1.0
+shape_of-lines-in-Full c = c.include_export_symbols.auto.lines
 
 returns-in-Full : tie.Need-returns-in-Full
 unfolding module_segments
@@ -31,10 +31,10 @@ give-requires : tie.Need-give-requires
 give-requires c κs = let w1 = grown_on _ _ _ _ _ _ _ _ _ c.in-Lines.is c.include_export_symbols.ensures _ c.requires.1.1.2 in (c.requires.0, (w1.0, (omega arith, c.dev_candidate.ensures.1, w1.1)))
 
 shape_of-marks : tie.Need-shape_of-marks
-shape_of-marks c = c.give.auto.1.1.0 ∙ c.include_export_symbols.auto.1.1.0
+shape_of-marks c = c.give.auto.marks ∙ c.include_export_symbols.auto.marks
 
 shape_of-lines : tie.Need-shape_of-lines
-shape_of-lines c = c.give.auto.1.1.1.0 ∙ c.include_export_symbols.auto.1.1.1.0
+shape_of-lines c = c.give.auto.lines ∙ c.include_export_symbols.auto.lines
 
 returns : tie.Need-returns
 unfolding module_segments

@@ -11,10 +11,10 @@ enum_told-1 : tie.Need-enum_told-1
 enum_told-1 c = c.in-Full-1.keys1
 
 shape_of-marks-in-Full : tie.Need-shape_of-marks-in-Full
-shape_of-marks-in-Full c = c.include_dependencies.auto.1.1.0
+shape_of-marks-in-Full c = c.include_dependencies.auto.marks
 
 shape_of-lines-in-Full : tie.Need-shape_of-lines-in-Full
-shape_of-lines-in-Full c = c.include_dependencies.auto.1.1.1.0
+shape_of-lines-in-Full c = c.include_dependencies.auto.lines
 
 returns-in-Full : tie.Need-returns-in-Full
 unfolding module_segments
@@ -30,10 +30,10 @@ enum_told-in-Full-include_named_imports : tie.Need-enum_told-in-Full-include_nam
 enum_told-in-Full-include_named_imports c = c.in-Full-include_named_imports-1.keys1
 
 shape_of-marks-in-Full-include_named_imports : tie.Need-shape_of-marks-in-Full-include_named_imports
-shape_of-marks-in-Full-include_named_imports c = c.include_named_imports.auto.1.1.0 ∙ c.include_dependencies.auto.1.1.0
+shape_of-marks-in-Full-include_named_imports c = c.include_named_imports.auto.marks ∙ c.include_dependencies.auto.marks
 
 shape_of-lines-in-Full-include_named_imports : tie.Need-shape_of-lines-in-Full-include_named_imports
-shape_of-lines-in-Full-include_named_imports c = c.include_named_imports.auto.1.1.1.0 ∙ c.include_dependencies.auto.1.1.1.0
+shape_of-lines-in-Full-include_named_imports c = c.include_named_imports.auto.lines ∙ c.include_dependencies.auto.lines
 
 returns-in-Full-include_named_imports : tie.Need-returns-in-Full-include_named_imports
 unfolding module_segments
@@ -46,10 +46,10 @@ include_exports-requires : tie.Need-include_exports-requires
 include_exports-requires c κs = let w1 = grown_on _ _ _ _ _ _ _ _ _ c.in-Lines.is c.include_dependencies.ensures _ c.requires.1.1.2 in let w2 = grown_on _ _ _ _ _ _ _ _ _ c.in-Lines-include_named_imports.is c.include_named_imports.ensures _ w1.1 in (c.requires.0, (w2.0, (c.requires.1.1.0, c.requires.1.1.1, w2.1)))
 
 shape_of-marks : tie.Need-shape_of-marks
-shape_of-marks c = c.include_exports.auto.1.1.0 ∙ c.include_named_imports.auto.1.1.0 ∙ c.include_dependencies.auto.1.1.0
+shape_of-marks c = c.include_exports.auto.marks ∙ c.include_named_imports.auto.marks ∙ c.include_dependencies.auto.marks
 
 shape_of-lines : tie.Need-shape_of-lines
-shape_of-lines c = c.include_exports.auto.1.1.1.0 ∙ c.include_named_imports.auto.1.1.1.0 ∙ c.include_dependencies.auto.1.1.1.0
+shape_of-lines c = c.include_exports.auto.lines ∙ c.include_named_imports.auto.lines ∙ c.include_dependencies.auto.lines
 
 returns : tie.Need-returns
 unfolding module_segments

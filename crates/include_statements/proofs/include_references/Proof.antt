@@ -42,10 +42,10 @@ enum_told-1 : tie.Need-enum_told-1 invariant-loop-r decreases-loop-r
 enum_told-1 c = c.in-Full-1.keys2
 
 shape_of-marks-in-Full : tie.Need-shape_of-marks-in-Full invariant-loop-r decreases-loop-r
-shape_of-marks-in-Full c = c.include_reference.auto.1.1.0 ∙ c.loop-r.invariant.0
+shape_of-marks-in-Full c = c.include_reference.auto.marks ∙ c.loop-r.invariant.0
 
 shape_of-lines-in-Full : tie.Need-shape_of-lines-in-Full invariant-loop-r decreases-loop-r
-shape_of-lines-in-Full c = c.include_reference.auto.1.1.1.0 ∙ c.loop-r.invariant.1
+shape_of-lines-in-Full c = c.include_reference.auto.lines ∙ c.loop-r.invariant.1
 
 returns-in-Full : tie.Need-returns-in-Full invariant-loop-r decreases-loop-r
 returns-in-Full c = references-full _ _ _ _ _ _ _ _ _ _ _ _ c.reference_count-count.ensures.0 c.loop-r.invariant.3 c.loop-r-test.true _ _ _ c.in-Full.is c.include_reference.ensures

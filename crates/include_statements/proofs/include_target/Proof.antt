@@ -11,10 +11,10 @@ enum_told-1 : tie.Need-enum_told-1
 enum_told-1 c = c.in-Full-1.keys1
 
 shape_of-marks-in-Full : tie.Need-shape_of-marks-in-Full
-shape_of-marks-in-Full c = c.demand_wrapper.auto.1.1.0
+shape_of-marks-in-Full c = c.demand_wrapper.auto.marks
 
 shape_of-lines-in-Full : tie.Need-shape_of-lines-in-Full
-shape_of-lines-in-Full c = c.demand_wrapper.auto.1.1.1.0
+shape_of-lines-in-Full c = c.demand_wrapper.auto.lines
 
 returns-in-Full : tie.Need-returns-in-Full
 unfolding use_segments
@@ -30,10 +30,10 @@ enum_told-in-Full-include_declarations : tie.Need-enum_told-in-Full-include_decl
 enum_told-in-Full-include_declarations c = c.in-Full-include_declarations-1.keys1
 
 shape_of-marks-in-Full-include_declarations : tie.Need-shape_of-marks-in-Full-include_declarations
-shape_of-marks-in-Full-include_declarations c = c.include_declarations.auto.1.1.0 ∙ c.demand_wrapper.auto.1.1.0
+shape_of-marks-in-Full-include_declarations c = c.include_declarations.auto.marks ∙ c.demand_wrapper.auto.marks
 
 shape_of-lines-in-Full-include_declarations : tie.Need-shape_of-lines-in-Full-include_declarations
-shape_of-lines-in-Full-include_declarations c = c.include_declarations.auto.1.1.1.0 ∙ c.demand_wrapper.auto.1.1.1.0
+shape_of-lines-in-Full-include_declarations c = c.include_declarations.auto.lines ∙ c.demand_wrapper.auto.lines
 
 returns-in-Full-include_declarations : tie.Need-returns-in-Full-include_declarations
 unfolding use_segments
@@ -46,10 +46,10 @@ include_writes-requires : tie.Need-include_writes-requires
 include_writes-requires c κs = let w1 = grown_on _ _ _ _ _ _ _ _ _ c.in-Lines.is c.demand_wrapper.ensures _ c.requires.1.1.3 in let w2 = grown_on _ _ _ _ _ _ _ _ _ c.in-Lines-include_declarations.is c.include_declarations.ensures _ w1.1 in (c.requires.0, (w2.0, (c.requires.1.1.0, w2.1)))
 
 shape_of-marks : tie.Need-shape_of-marks
-shape_of-marks c = c.include_writes.auto.1.1.0 ∙ c.include_declarations.auto.1.1.0 ∙ c.demand_wrapper.auto.1.1.0
+shape_of-marks c = c.include_writes.auto.marks ∙ c.include_declarations.auto.marks ∙ c.demand_wrapper.auto.marks
 
 shape_of-lines : tie.Need-shape_of-lines
-shape_of-lines c = c.include_writes.auto.1.1.1.0 ∙ c.include_declarations.auto.1.1.1.0 ∙ c.demand_wrapper.auto.1.1.1.0
+shape_of-lines c = c.include_writes.auto.lines ∙ c.include_declarations.auto.lines ∙ c.demand_wrapper.auto.lines
 
 returns : tie.Need-returns
 unfolding use_segments

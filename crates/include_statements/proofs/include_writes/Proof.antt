@@ -42,10 +42,10 @@ enum_told-1 : tie.Need-enum_told-1 invariant-loop-c decreases-loop-c
 enum_told-1 c = c.in-Full-1.keys2
 
 shape_of-marks-in-Full : tie.Need-shape_of-marks-in-Full invariant-loop-c decreases-loop-c
-shape_of-marks-in-Full c = c.give.auto.1.1.0 ∙ c.loop-c.invariant.0
+shape_of-marks-in-Full c = c.give.auto.marks ∙ c.loop-c.invariant.0
 
 shape_of-lines-in-Full : tie.Need-shape_of-lines-in-Full invariant-loop-c decreases-loop-c
-shape_of-lines-in-Full c = c.give.auto.1.1.1.0 ∙ c.loop-c.invariant.1
+shape_of-lines-in-Full c = c.give.auto.lines ∙ c.loop-c.invariant.1
 
 returns-in-Full : tie.Need-returns-in-Full invariant-loop-c decreases-loop-c
 returns-in-Full c = segment-full _ _ _ _ _ _ _ _ _ _ _ c.loop-c.invariant.2 c.write_candidates-count.ensures c.loop-c-test.true _ c.write_candidate-candidate.ensures.0 _ _ _ c.in-Full.is c.give.ensures

@@ -25,38 +25,38 @@ below t = and 3 kinds.ps (falls 3 kinds.ps ◌<◌ μ t) larger.Pre
 abbrev claims : ℕ → lts.Claims
 claims t = (below t, larger.Post, fits-reads.Asked, fits-reads.Learnt, middle-reads.Asked, middle-reads.Learnt, large-reads.Asked, large-reads.Learnt, largest-reads.Asked, largest-reads.Learnt)
 
-sub-judge-larger : (t : ℕ) → lts.Need-overflow-sub-judge-larger (claims t) (here t) larger.Post
-sub-judge-larger t c = c.if1.true
+sub-judge-larger : (t : ℕ) → lts.Need-overflow_sub-again (claims t) (here t) larger.Post
+sub-judge-larger t c = c.if-again-gt0.true
 
-judge-larger-requires : (t : ℕ) → lts.Need-judge-larger-requires (claims t) (here t) larger.Post
-judge-larger-requires t c κs = let s = c.before.before.before.before in (omega (arith, s.requires.0, c.if1.true), s.requires.1)
+judge-larger-requires : (t : ℕ) → lts.Need-judge_larger-requires (claims t) (here t) larger.Post
+judge-larger-requires t c κs = (omega (arith, c.requires.0, c.if-again-gt0.true), c.requires.1)
 
-returns : (t : ℕ) → lts.Need-returns (claims t) (here t) larger.Post
-returns t c = c.judge-larger.ensures
+returns : (t : ℕ) → lts.Need-returns-then-again-gt0 (claims t) (here t) larger.Post
+returns t c = c.judge_larger.ensures
 
 fits-requires : (t : ℕ) → lts.Need-fits-requires (claims t) (here t) larger.Post
 fits-requires t c κs = _
 
-judge-middle-requires : (t : ℕ) → lts.Need-judge-middle-requires (claims t) (here t) larger.Post
-judge-middle-requires t c κs = (c.before.before.before.before.before.before.requires.1, c.before.fits2.ensures c.if2.true)
+judge-middle-requires : (t : ℕ) → lts.Need-judge_middle-requires (claims t) (here t) larger.Post
+judge-middle-requires t c κs = (c.requires.1, c.fits.ensures c.if-fits.true)
 
-returns-2 : (t : ℕ) → lts.Need-returns-2 (claims t) (here t) larger.Post
-returns-2 t c = c.judge-middle.ensures
+returns-2 : (t : ℕ) → lts.Need-returns-then-fits (claims t) (here t) larger.Post
+returns-2 t c = c.judge_middle.ensures
 
 fits-requires-2 : (t : ℕ) → lts.Need-fits-requires-2 (claims t) (here t) larger.Post
 fits-requires-2 t c κs = _
 
-judge-large-requires : (t : ℕ) → lts.Need-judge-large-requires (claims t) (here t) larger.Post
-judge-large-requires t c κs = (c.before.before.before.before.before.before.before.before.requires.1, c.before.fits3.ensures c.if3.true)
+judge-large-requires : (t : ℕ) → lts.Need-judge_large-requires (claims t) (here t) larger.Post
+judge-large-requires t c κs = (c.requires.1, c.fits-2.ensures c.if-fits-2.true)
 
-returns-3 : (t : ℕ) → lts.Need-returns-3 (claims t) (here t) larger.Post
-returns-3 t c = c.judge-large.ensures
+returns-3 : (t : ℕ) → lts.Need-returns-then-fits-2 (claims t) (here t) larger.Post
+returns-3 t c = c.judge_large.ensures
 
-judge-largest-requires : (t : ℕ) → lts.Need-judge-largest-requires (claims t) (here t) larger.Post
-judge-largest-requires t c κs = let h = c.before.before.before.before.before.before.before.before.requires.1 in (h, bounded _ _ h)
+judge-largest-requires : (t : ℕ) → lts.Need-judge_largest-requires (claims t) (here t) larger.Post
+judge-largest-requires t c κs = let h = c.requires.1 in (h, bounded _ _ h)
 
-returns-4 : (t : ℕ) → lts.Need-returns-4 (claims t) (here t) larger.Post
-returns-4 t c = c.judge-largest.ensures
+returns-4 : (t : ℕ) → lts.Need-returns (claims t) (here t) larger.Post
+returns-4 t c = c.judge_largest.ensures
 
 pub +judge_larger_spec : {M : Type 1} → statement M
 +judge_larger_spec =

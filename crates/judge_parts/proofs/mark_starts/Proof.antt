@@ -32,7 +32,7 @@ loop-i-smaller : tie.Need-loop-i-smaller invariant-loop-i decreases-loop-i
 loop-i-smaller c = omega (arith, c.loop-i-test.true)
 
 loop-i-preserved : tie.Need-loop-i-preserved invariant-loop-i decreases-loop-i
-loop-i-preserved c = (c.mark.auto.1.1.0 ∙ c.loop-i.invariant.0, omega (arith, c.loop-i-test.true), mark_turn _ _ _ _ c.loop-i.invariant.2 c.loop-i-test.true _ c.start_at-fact.ensures _ c.mark.ensures)
+loop-i-preserved c = (c.mark.auto.marks ∙ c.loop-i.invariant.0, omega (arith, c.loop-i-test.true), mark_turn _ _ _ _ c.loop-i.invariant.2 c.loop-i-test.true _ c.start_at-fact.ensures _ c.mark.ensures)
 
 shape_of-begun : tie.Need-shape_of-begun invariant-loop-i decreases-loop-i
 shape_of-begun c = c.loop-i.invariant.0

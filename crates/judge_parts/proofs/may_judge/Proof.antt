@@ -22,25 +22,25 @@ enum_told-in-At : tie.Need-enum_told-in-At
 enum_told-in-At c = c.in-At-1.keys2
 
 shape_of-tables-then-lines-ne0 : tie.Need-shape_of-tables-then-lines-ne0
-shape_of-tables-then-lines-ne0 c = c.ready.auto.1.1.0
+shape_of-tables-then-lines-ne0 c = c.ready.auto.tables
 
 returns-then-lines-ne0 : tie.Need-returns-then-lines-ne0
 returns-then-lines-ne0 c = by_length _ _ _ _ (sym c.ready.ensures.0 ∙ c.in-Accepted.is) (sym c.check.ensures.0 ∙ c.in-At.is) c.if-lines-ne0.true
 
 shape_of-tables-in-Refused : tie.Need-shape_of-tables-in-Refused
-shape_of-tables-in-Refused c = c.ready.auto.1.1.0
+shape_of-tables-in-Refused c = c.ready.auto.tables
 
 returns-in-Refused : tie.Need-returns-in-Refused
 returns-in-Refused c = by_check _ _ _ _ (sym c.ready.ensures.0 ∙ c.in-Refused.is)
 
 shape_of-tables-in-Fault : tie.Need-shape_of-tables-in-Fault
-shape_of-tables-in-Fault c = c.ready.auto.1.1.0
+shape_of-tables-in-Fault c = c.ready.auto.tables
 
 returns-in-Fault : tie.Need-returns-in-Fault
 returns-in-Fault c = by-starts _ _ _ _ (sym c.ready.ensures.0 ∙ c.in-Accepted.is) (sym c.check.ensures.0 ∙ c.in-Fault.is)
 
 shape_of-tables-else-lines-ne0 : tie.Need-shape_of-tables-else-lines-ne0
-shape_of-tables-else-lines-ne0 c = c.ready.auto.1.1.0
+shape_of-tables-else-lines-ne0 c = c.ready.auto.tables
 
 returns-else-lines-ne0 : tie.Need-returns-else-lines-ne0
 returns-else-lines-ne0 c = judges _ _ _ _ (sym c.ready.ensures.0 ∙ c.in-Accepted.is) (sym c.check.ensures.0 ∙ c.in-At.is) c.if-lines-ne0.false (c.ready.ensures.1.known c.in-Accepted.is).0 (c.check.ensures.1.known _ c.in-At.is)

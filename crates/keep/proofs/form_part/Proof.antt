@@ -13,7 +13,7 @@ shape_of-out-then-length-skip c = search rules
 
 returns-then-length-skip : tie.Need-returns-then-length-skip
 returns-then-length-skip c =
-    part_last _ _ _ _ _ _ c.requires c.text-length.auto.1.1.1.0 c.text-length.ensures 0 (omega (arith, c.if-length-skip.true)) (omega arith)
+    part_last _ _ _ _ _ _ c.requires c.text-length.auto.out c.text-length.ensures 0 (omega (arith, c.if-length-skip.true)) (omega arith)
 
 overflow_sub-left : tie.Need-overflow_sub-left
 overflow_sub-left c = search rules
@@ -23,7 +23,7 @@ shape_of-out-then-left-out c = search rules
 
 returns-then-left-out : tie.Need-returns-then-left-out
 returns-then-left-out c =
-    part_last _ _ _ _ _ _ c.requires c.text-length.auto.1.1.1.0 c.text-length.ensures _ refl c.if-left-out.true
+    part_last _ _ _ _ _ _ c.requires c.text-length.auto.out c.text-length.ensures _ refl c.if-left-out.true
 
 overflow_add-result : tie.Need-overflow_add-result
 overflow_add-result c = search rules
@@ -33,7 +33,7 @@ shape_of-out c = search rules
 
 returns : tie.Need-returns
 returns c =
-    part_next _ _ _ _ _ _ c.requires c.text-length.auto.1.1.1.0 c.text-length.ensures c.if-left-out.false
+    part_next _ _ _ _ _ _ c.requires c.text-length.auto.out c.text-length.ensures c.if-left-out.false
 
 pub form_part_spec : {M : Type 1} → statement M
 form_part_spec =

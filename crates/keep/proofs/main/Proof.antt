@@ -40,7 +40,7 @@ slice_bounds-print-end-in-Read c = sym (length-take-le _ _ (input_bytes _ _ _ _ 
 
 print-requires : tie.Need-print-requires
 print-requires c κs =
-    read_file _ _ _ _ (omega (arith, c.read_file.auto.0, length-replicate {A = ℕ} 8192 0)) (input_bytes _ _ _ _ c.in-Read.is c.read_file.ensures)
+    read_file _ _ _ _ (omega (arith, c.read_file.auto.front, length-replicate {A = ℕ} 8192 0)) (input_bytes _ _ _ _ c.in-Read.is c.read_file.ensures)
 
 fail-requires-then-not-print : tie.Need-fail-requires-then-not-print
 fail-requires-then-not-print c κs = search rules

@@ -44,7 +44,7 @@ enum_known-next : tie.Need-enum_known-next invariant-loop-count decreases-loop-c
 enum_known-next c = search rules
 
 slice_bounds-write_all-end-in-Next : tie.Need-slice_bounds-write_all-end-in-Next invariant-loop-count decreases-loop-count
-slice_bounds-write_all-end-in-Next c = omega (arith, c.form_part.auto.1.1.1.0, length-replicate {A = ℕ} 8192 0)
+slice_bounds-write_all-end-in-Next c = omega (arith, c.form_part.auto.out, length-replicate {A = ℕ} 8192 0)
 
 write_all-requires-in-Next : tie.Need-write_all-requires-in-Next invariant-loop-count decreases-loop-count
 write_all-requires-in-Next c κs = search rules
@@ -54,7 +54,7 @@ returns-then-not-write_all c = search rules
 
 loop-count-smaller : tie.Need-loop-count-smaller invariant-loop-count decreases-loop-count
 loop-count-smaller c =
-    omega (arith, next_behind _ _ _ _ c.in-Next.is c.form_part.ensures, c.form_part.auto.1.1.1.0, length-replicate {A = ℕ} 8192 0)
+    omega (arith, next_behind _ _ _ _ c.in-Next.is c.form_part.ensures, c.form_part.auto.out, length-replicate {A = ℕ} 8192 0)
 
 loop-count-preserved : tie.Need-loop-count-preserved invariant-loop-count decreases-loop-count
 loop-count-preserved c = search rules

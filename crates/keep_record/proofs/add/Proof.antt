@@ -45,7 +45,7 @@ shape_of-lines : tie.Need-shape_of-lines
 shape_of-lines c = search rules
 
 returns : tie.Need-returns
-returns c = grown-more _ _ _ _ _ _ _ c.requires.1.0 c.mark_of-mark.ensures.0 _ _ (omega (arith, c.if-lines-count.false)) c.write_line.ensures c.requires.1.1.good_fact (sym c.test.ensures ∙ c.if-test.false) c.set.ensures c.set.auto.0 c.write_line.auto.0
+returns c = grown-more _ _ _ _ _ _ _ c.requires.1.0 c.mark_of-mark.ensures.0 _ _ (omega (arith, c.if-lines-count.false)) c.write_line.ensures c.requires.1.1.good_fact (sym c.test.ensures ∙ c.if-test.false) c.set.ensures c.set.auto.row c.write_line.auto.lines
 
 pub add_spec : {M : Type 1} → statement M
 add_spec =

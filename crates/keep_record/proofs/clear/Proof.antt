@@ -12,10 +12,10 @@ clear_lines-requires : tie.Need-clear_lines-requires
 clear_lines-requires c κs = search rules
 
 shape_of-marks : tie.Need-shape_of-marks
-shape_of-marks c = c.clear.auto.0
+shape_of-marks c = c.clear.auto.row
 
 shape_of-lines : tie.Need-shape_of-lines
-shape_of-lines c = c.clear_lines.auto.0
+shape_of-lines c = c.clear_lines.auto.lines
 
 returns : tie.Need-returns
 returns c = (c.clear.ensures ∙ cleared_whole _ _ (omega arith), c.clear_lines.ensures)

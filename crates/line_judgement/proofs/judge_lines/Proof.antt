@@ -39,7 +39,7 @@ loop-k-smaller : tie.Need-loop-k-smaller invariant-loop-k decreases-loop-k
 loop-k-smaller c = omega (arith, c.loop-k-test.true)
 
 loop-k-preserved : tie.Need-loop-k-preserved invariant-loop-k decreases-loop-k
-loop-k-preserved c = (going_on _ _ _ _ _ _ c.loop-k.invariant.0 c.loop-k-test.true _ _ c.judge_line.ensures _ c.in-Stands.is, c.judge_line.auto.1.1.1.1.1.0 ∙ c.loop-k.invariant.1)
+loop-k-preserved c = (going_on _ _ _ _ _ _ c.loop-k.invariant.0 c.loop-k-test.true _ _ c.judge_line.ensures _ c.in-Stands.is, c.judge_line.auto.marks ∙ c.loop-k.invariant.1)
 
 shape_of-marks : tie.Need-shape_of-marks invariant-loop-k decreases-loop-k
 shape_of-marks c = search rules

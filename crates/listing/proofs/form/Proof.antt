@@ -77,8 +77,8 @@ put_dead-requires c κs =
     )
 
 shape_of-out : tie.Need-shape_of-out
-shape_of-out c = c.put_dead.auto.1.1.1.1.1.1.0 ∙ c.put_json-at.auto.1.1.1.1.1.1.1.0 ∙ c.put_symbols-at-2.auto.1.1.1.1.1.0 ∙ c.put_symbols-at.auto.1.1.1.1.1.0 ∙ c.put_statements-at.auto.1.1.1.1.1.1.0 ∙ c.put_modules-at.auto.1.1.1.1.1.1.1.1.1.0 ∙ c.put_entries-at.auto.1.1.1.1.1.1.0
-    ∙ c.put_line-at.auto.1.1.1.1.0
+shape_of-out c = c.put_dead.auto.out ∙ c.put_json-at.auto.out ∙ c.put_symbols-at-2.auto.out ∙ c.put_symbols-at.auto.out ∙ c.put_statements-at.auto.out ∙ c.put_modules-at.auto.out ∙ c.put_entries-at.auto.out
+    ∙ c.put_line-at.auto.out
 
 returns : tie.Need-returns
 returns c = emits_all

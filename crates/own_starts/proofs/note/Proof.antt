@@ -30,7 +30,7 @@ shape_of-out : tie.Need-shape_of-out
 shape_of-out c = search rules
 
 returns : tie.Need-returns
-returns c = note-miss _ _ _ _ _ _ _ c.requires.1.1 c.mark.ensures c.write_triple.ensures c.write_triple.auto.0 (sym c.is_marked.ensures ∙ c.if-is_marked.false)
+returns c = note-miss _ _ _ _ _ _ _ c.requires.1.1 c.mark.ensures c.write_triple.ensures c.write_triple.auto.out (sym c.is_marked.ensures ∙ c.if-is_marked.false)
 
 pub note_spec : {M : Type 1} → statement M
 note_spec =

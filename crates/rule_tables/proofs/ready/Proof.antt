@@ -15,7 +15,7 @@ enum_told-1 : tie.Need-enum_told-1
 enum_told-1 c = search rules
 
 fill-requires : tie.Need-fill-requires
-fill-requires c κs = let l = c.load.ensures.1.known c.in-Accepted.is in (l, all_laid _ _ _ _ c.requires.0.is l c.load.auto.1.1.0 c.requires.1.0)
+fill-requires c κs = let l = c.load.ensures.1.known c.in-Accepted.is in (l, all_laid _ _ _ _ c.requires.0.is l c.load.auto.tables c.requires.1.0)
 
 shape_of-tables-in-Refused : tie.Need-shape_of-tables-in-Refused
 shape_of-tables-in-Refused c = search rules

@@ -30,37 +30,37 @@ run_small-requires : tie.Need-run_small-requires
 run_small-requires c κs = (begun c.before.before.before.before.before.before.before.before.before.before.before.before.before, c.fits.ensures c.if-fits.true)
 
 shape_of-marks-then-fits : tie.Need-shape_of-marks-then-fits
-shape_of-marks-then-fits c = c.run_small.auto.1.1.0
+shape_of-marks-then-fits c = c.run_small.auto.marks
 
 shape_of-lines-then-fits : tie.Need-shape_of-lines-then-fits
-shape_of-lines-then-fits c = c.run_small.auto.1.1.1.0
+shape_of-lines-then-fits c = c.run_small.auto.lines
 
 shape_of-modules_row-then-fits : tie.Need-shape_of-modules_row-then-fits
-shape_of-modules_row-then-fits c = c.run_small.auto.1.1.1.1.0
+shape_of-modules_row-then-fits c = c.run_small.auto.modules_row
 
 shape_of-statements_row-then-fits : tie.Need-shape_of-statements_row-then-fits
-shape_of-statements_row-then-fits c = c.run_small.auto.1.1.1.1.1.0
+shape_of-statements_row-then-fits c = c.run_small.auto.statements_row
 
 shape_of-used-then-fits : tie.Need-shape_of-used-then-fits
-shape_of-used-then-fits c = c.run_small.auto.1.1.1.1.1.1.0
+shape_of-used-then-fits c = c.run_small.auto.used
 
 shape_of-external-then-fits : tie.Need-shape_of-external-then-fits
-shape_of-external-then-fits c = c.run_small.auto.1.1.1.1.1.1.1.0
+shape_of-external-then-fits c = c.run_small.auto.external
 
 shape_of-json-then-fits : tie.Need-shape_of-json-then-fits
-shape_of-json-then-fits c = c.run_small.auto.1.1.1.1.1.1.1.1.0
+shape_of-json-then-fits c = c.run_small.auto.json
 
 shape_of-reason-then-fits : tie.Need-shape_of-reason-then-fits
-shape_of-reason-then-fits c = c.run_small.auto.1.1.1.1.1.1.1.1.1.0
+shape_of-reason-then-fits c = c.run_small.auto.reason
 
 shape_of-dead-then-fits : tie.Need-shape_of-dead-then-fits
-shape_of-dead-then-fits c = c.run_small.auto.1.1.1.1.1.1.1.1.1.1.0
+shape_of-dead-then-fits c = c.run_small.auto.dead
 
 shape_of-helpers-then-fits : tie.Need-shape_of-helpers-then-fits
-shape_of-helpers-then-fits c = c.run_small.auto.1.1.1.1.1.1.1.1.1.1.1.0
+shape_of-helpers-then-fits c = c.run_small.auto.helpers
 
 shape_of-entries-then-fits : tie.Need-shape_of-entries-then-fits
-shape_of-entries-then-fits c = c.run_small.auto.1.1.1.1.1.1.1.1.1.1.1.1.0
+shape_of-entries-then-fits c = c.run_small.auto.entries
 
 returns-then-fits : tie.Need-returns-then-fits
 returns-then-fits c = c.run_small.ensures
@@ -75,37 +75,37 @@ returns-in-Fault : tie.Need-returns-in-Fault
 returns-in-Fault c = ends_before _ _ _ _ (outcome_refused _ _ (check_stop_header _ (sym c.header.ensures ∙ c.in-Fault.is)))
 
 shape_of-marks : tie.Need-shape_of-marks
-shape_of-marks c = c.run_larger.auto.1.1.0
+shape_of-marks c = c.run_larger.auto.marks
 
 shape_of-lines : tie.Need-shape_of-lines
-shape_of-lines c = c.run_larger.auto.1.1.1.0
+shape_of-lines c = c.run_larger.auto.lines
 
 shape_of-modules_row : tie.Need-shape_of-modules_row
-shape_of-modules_row c = c.run_larger.auto.1.1.1.1.0
+shape_of-modules_row c = c.run_larger.auto.modules_row
 
 shape_of-statements_row : tie.Need-shape_of-statements_row
-shape_of-statements_row c = c.run_larger.auto.1.1.1.1.1.0
+shape_of-statements_row c = c.run_larger.auto.statements_row
 
 shape_of-used : tie.Need-shape_of-used
-shape_of-used c = c.run_larger.auto.1.1.1.1.1.1.0
+shape_of-used c = c.run_larger.auto.used
 
 shape_of-external : tie.Need-shape_of-external
-shape_of-external c = c.run_larger.auto.1.1.1.1.1.1.1.0
+shape_of-external c = c.run_larger.auto.external
 
 shape_of-json : tie.Need-shape_of-json
-shape_of-json c = c.run_larger.auto.1.1.1.1.1.1.1.1.0
+shape_of-json c = c.run_larger.auto.json
 
 shape_of-reason : tie.Need-shape_of-reason
-shape_of-reason c = c.run_larger.auto.1.1.1.1.1.1.1.1.1.0
+shape_of-reason c = c.run_larger.auto.reason
 
 shape_of-dead : tie.Need-shape_of-dead
-shape_of-dead c = c.run_larger.auto.1.1.1.1.1.1.1.1.1.1.0
+shape_of-dead c = c.run_larger.auto.dead
 
 shape_of-helpers : tie.Need-shape_of-helpers
-shape_of-helpers c = c.run_larger.auto.1.1.1.1.1.1.1.1.1.1.1.0
+shape_of-helpers c = c.run_larger.auto.helpers
 
 shape_of-entries : tie.Need-shape_of-entries
-shape_of-entries c = c.run_larger.auto.1.1.1.1.1.1.1.1.1.1.1.1.0
+shape_of-entries c = c.run_larger.auto.entries
 
 returns-else-fits : tie.Need-returns-else-fits
 returns-else-fits c = c.run_larger.ensures

@@ -17,7 +17,7 @@ show_helpers-requires c κs =
 show_entries-requires : tie.Need-show_entries-requires
 unfolding graph_in
 show_entries-requires c κs =
-    (c.requires.0.loaded, (c.requires.1.0.leaves.planned, ((still_fits c.show_dead.auto.1.1.1.1.1.1.1.0 c.requires.1.1.0).chain, c.requires.1.1.1.entries_fit)))
+    (c.requires.0.loaded, (c.requires.1.0.leaves.planned, ((still_fits c.show_dead.auto.scratch c.requires.1.1.0).chain, c.requires.1.1.1.entries_fit)))
 
 shape_of-plan : tie.Need-shape_of-plan
 shape_of-plan c = search rules

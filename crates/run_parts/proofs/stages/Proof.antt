@@ -73,7 +73,7 @@ shape_of-lines-in-Full-runtime_stage : tie.Need-shape_of-lines-in-Full-runtime_s
 shape_of-lines-in-Full-runtime_stage c = search rules
 
 shape_of-plan-in-Full-runtime_stage : tie.Need-shape_of-plan-in-Full-runtime_stage
-shape_of-plan-in-Full-runtime_stage c = (c.runtime_stage.auto.1.1.1.1.1.0 ∙ c.main_part.auto.1.1.1.1.1.0) ∙ c.order_entries-users.auto.1.1.0
+shape_of-plan-in-Full-runtime_stage c = (c.runtime_stage.auto.plan ∙ c.main_part.auto.plan) ∙ c.order_entries-users.auto.plan
 
 returns-in-Full-runtime_stage : tie.Need-returns-in-Full-runtime_stage
 returns-in-Full-runtime_stage c = stages_of c.in-Whole.is (stage-short _ _ _ _ _ _ _ c.main_part.ensures c.in-Done.is _ _ _ _ _ c.runtime_stage.ensures c.in-Full-runtime_stage.is)
@@ -88,7 +88,7 @@ shape_of-lines-in-Lines : tie.Need-shape_of-lines-in-Lines
 shape_of-lines-in-Lines c = search rules
 
 shape_of-plan-in-Lines : tie.Need-shape_of-plan-in-Lines
-shape_of-plan-in-Lines c = (c.runtime_stage.auto.1.1.1.1.1.0 ∙ c.main_part.auto.1.1.1.1.1.0) ∙ c.order_entries-users.auto.1.1.0
+shape_of-plan-in-Lines c = (c.runtime_stage.auto.plan ∙ c.main_part.auto.plan) ∙ c.order_entries-users.auto.plan
 
 returns-in-Lines : tie.Need-returns-in-Lines
 returns-in-Lines c = stages_of c.in-Whole.is (stages-done _ _ _ _ _ _ _ c.main_part.ensures c.in-Done.is _ _ _ _ _ c.runtime_stage.ensures c.in-Lines.is)

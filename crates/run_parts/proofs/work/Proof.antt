@@ -34,7 +34,7 @@ shape_of-plan-in-Full : tie.Need-shape_of-plan-in-Full
 shape_of-plan-in-Full c = search rules
 
 returns-in-Full : tie.Need-returns-in-Full
-returns-in-Full c = work_short _ _ _ _ _ _ _ _ c.stages.ensures _ _ c.in-Full.is (c.stages.auto.1.1.1.0 ∙ c.clear.auto.0) (c.stages.auto.1.1.1.1.0 ∙ c.clear.auto.1.0) c.clear-in-Full.ensures.0 c.clear-in-Full.ensures.1
+returns-in-Full c = work_short _ _ _ _ _ _ _ _ c.stages.ensures _ _ c.in-Full.is (c.stages.auto.marks ∙ c.clear.auto.marks) (c.stages.auto.lines ∙ c.clear.auto.lines) c.clear-in-Full.ensures.0 c.clear-in-Full.ensures.1
 
 shape_of-partners-in-Done : tie.Need-shape_of-partners-in-Done
 shape_of-partners-in-Done c = search rules

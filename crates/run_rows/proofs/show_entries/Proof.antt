@@ -12,13 +12,13 @@ group-requires c κs =
     (c.requires.0, (k.1.1, omega (arith, k.1.0, c.requires.1.1.0), omega (arith, k.1.0, c.requires.1.1.1)))
 
 shape_of-plan : tie.Need-shape_of-plan
-shape_of-plan c = c.keep_final-n.auto.1.1.0
+shape_of-plan c = c.keep_final-n.auto.plan
 
 shape_of-chain : tie.Need-shape_of-chain
-shape_of-chain c = c.group.auto.1.1.1.1.0
+shape_of-chain c = c.group.auto.chain
 
 shape_of-row : tie.Need-shape_of-row
-shape_of-row c = c.group.auto.1.1.1.1.1.0
+shape_of-row c = c.group.auto.out
 
 returns : tie.Need-returns
 returns c =

@@ -25,74 +25,74 @@ below t = and 4 kinds.ps (falls 4 kinds.ps ◌<◌ μ t) larger.Pre
 abbrev claims : ℕ → lts.Claims
 claims t = (below t, larger.Post, fits-reads.Asked, fits-reads.Learnt, middle-reads.Asked, middle-reads.Learnt, large-reads.Asked, large-reads.Learnt, largest-reads.Asked, largest-reads.Learnt)
 
-sub-starts-larger : (t : ℕ) → lts.Need-overflow-sub-starts-larger (claims t) (here t) larger.Post
-sub-starts-larger t c = c.before.before.before.if1.true
+sub-starts-larger : (t : ℕ) → lts.Need-overflow_sub-again (claims t) (here t) larger.Post
+sub-starts-larger t c = c.if-again-gt0.true
 
-starts-larger-requires : (t : ℕ) → lts.Need-starts-larger-requires (claims t) (here t) larger.Post
-starts-larger-requires t c κs = let s = c.before.before.before.before.before.before.before.before in (omega (arith, s.requires.0, c.before.before.before.if1.true), s.requires.1)
+starts-larger-requires : (t : ℕ) → lts.Need-starts_larger-requires (claims t) (here t) larger.Post
+starts-larger-requires t c κs = (omega (arith, c.requires.0, c.if-again-gt0.true), c.requires.1)
 
-same_length : (t : ℕ) → lts.Need-same-length (claims t) (here t) larger.Post
-same_length t c = c.before.before.before.before.before.before.starts-larger.auto.1.1.0
+same_length : (t : ℕ) → lts.Need-shape_of-marks-then-again-gt0 (claims t) (here t) larger.Post
+same_length t c = c.starts_larger.auto.marks
 
-same-length-2 : (t : ℕ) → lts.Need-same-length-2 (claims t) (here t) larger.Post
-same-length-2 t c = c.before.before.before.before.before.before.starts-larger.auto.1.1.1.0
+same-length-2 : (t : ℕ) → lts.Need-shape_of-lines-then-again-gt0 (claims t) (here t) larger.Post
+same-length-2 t c = c.starts_larger.auto.lines
 
-same-length-3 : (t : ℕ) → lts.Need-same-length-3 (claims t) (here t) larger.Post
-same-length-3 t c = c.before.before.before.before.before.before.starts-larger.auto.1.1.1.1.0
+same-length-3 : (t : ℕ) → lts.Need-shape_of-out-then-again-gt0 (claims t) (here t) larger.Post
+same-length-3 t c = c.starts_larger.auto.out
 
-returns : (t : ℕ) → lts.Need-returns (claims t) (here t) larger.Post
-returns t c = c.before.before.before.before.before.before.starts-larger.ensures
+returns : (t : ℕ) → lts.Need-returns-then-again-gt0 (claims t) (here t) larger.Post
+returns t c = c.starts_larger.ensures
 
 fits-requires : (t : ℕ) → lts.Need-fits-requires (claims t) (here t) larger.Post
 fits-requires t c κs = _
 
-starts-middle-requires : (t : ℕ) → lts.Need-starts-middle-requires (claims t) (here t) larger.Post
-starts-middle-requires t c κs = (c.before.before.before.before.before.before.before.before.before.before.requires.1, c.before.before.before.before.fits2.ensures c.before.before.before.if2.true)
+starts-middle-requires : (t : ℕ) → lts.Need-starts_middle-requires (claims t) (here t) larger.Post
+starts-middle-requires t c κs = (c.requires.1, c.fits.ensures c.if-fits.true)
 
-same-length-4 : (t : ℕ) → lts.Need-same-length-4 (claims t) (here t) larger.Post
-same-length-4 t c = c.before.before.before.before.before.before.starts-middle.auto.1.1.0
+same-length-4 : (t : ℕ) → lts.Need-shape_of-marks-then-fits (claims t) (here t) larger.Post
+same-length-4 t c = c.starts_middle.auto.marks
 
-same-length-5 : (t : ℕ) → lts.Need-same-length-5 (claims t) (here t) larger.Post
-same-length-5 t c = c.before.before.before.before.before.before.starts-middle.auto.1.1.1.0
+same-length-5 : (t : ℕ) → lts.Need-shape_of-lines-then-fits (claims t) (here t) larger.Post
+same-length-5 t c = c.starts_middle.auto.lines
 
-same-length-6 : (t : ℕ) → lts.Need-same-length-6 (claims t) (here t) larger.Post
-same-length-6 t c = c.before.before.before.before.before.before.starts-middle.auto.1.1.1.1.0
+same-length-6 : (t : ℕ) → lts.Need-shape_of-out-then-fits (claims t) (here t) larger.Post
+same-length-6 t c = c.starts_middle.auto.out
 
-returns-2 : (t : ℕ) → lts.Need-returns-2 (claims t) (here t) larger.Post
-returns-2 t c = c.before.before.before.before.before.before.starts-middle.ensures
+returns-2 : (t : ℕ) → lts.Need-returns-then-fits (claims t) (here t) larger.Post
+returns-2 t c = c.starts_middle.ensures
 
 fits-requires-2 : (t : ℕ) → lts.Need-fits-requires-2 (claims t) (here t) larger.Post
 fits-requires-2 t c κs = _
 
-starts-large-requires : (t : ℕ) → lts.Need-starts-large-requires (claims t) (here t) larger.Post
-starts-large-requires t c κs = (c.before.before.before.before.before.before.before.before.before.before.before.before.requires.1, c.before.before.before.before.fits3.ensures c.before.before.before.if3.true)
+starts-large-requires : (t : ℕ) → lts.Need-starts_large-requires (claims t) (here t) larger.Post
+starts-large-requires t c κs = (c.requires.1, c.fits-2.ensures c.if-fits-2.true)
 
-same-length-7 : (t : ℕ) → lts.Need-same-length-7 (claims t) (here t) larger.Post
-same-length-7 t c = c.before.before.before.before.before.before.starts-large.auto.1.1.0
+same-length-7 : (t : ℕ) → lts.Need-shape_of-marks-then-fits-2 (claims t) (here t) larger.Post
+same-length-7 t c = c.starts_large.auto.marks
 
-same-length-8 : (t : ℕ) → lts.Need-same-length-8 (claims t) (here t) larger.Post
-same-length-8 t c = c.before.before.before.before.before.before.starts-large.auto.1.1.1.0
+same-length-8 : (t : ℕ) → lts.Need-shape_of-lines-then-fits-2 (claims t) (here t) larger.Post
+same-length-8 t c = c.starts_large.auto.lines
 
-same-length-9 : (t : ℕ) → lts.Need-same-length-9 (claims t) (here t) larger.Post
-same-length-9 t c = c.before.before.before.before.before.before.starts-large.auto.1.1.1.1.0
+same-length-9 : (t : ℕ) → lts.Need-shape_of-out-then-fits-2 (claims t) (here t) larger.Post
+same-length-9 t c = c.starts_large.auto.out
 
-returns-3 : (t : ℕ) → lts.Need-returns-3 (claims t) (here t) larger.Post
-returns-3 t c = c.before.before.before.before.before.before.starts-large.ensures
+returns-3 : (t : ℕ) → lts.Need-returns-then-fits-2 (claims t) (here t) larger.Post
+returns-3 t c = c.starts_large.ensures
 
-starts-largest-requires : (t : ℕ) → lts.Need-starts-largest-requires (claims t) (here t) larger.Post
-starts-largest-requires t c κs = let h = c.before.before.before.before.before.before.before.before.before.before.before.before.requires.1 in (h, bounded _ _ h)
+starts-largest-requires : (t : ℕ) → lts.Need-starts_largest-requires (claims t) (here t) larger.Post
+starts-largest-requires t c κs = let h = c.requires.1 in (h, bounded _ _ h)
 
-same-length-10 : (t : ℕ) → lts.Need-same-length-10 (claims t) (here t) larger.Post
-same-length-10 t c = c.before.before.before.before.before.before.starts-largest.auto.1.1.0
+same-length-10 : (t : ℕ) → lts.Need-shape_of-marks (claims t) (here t) larger.Post
+same-length-10 t c = c.starts_largest.auto.marks
 
-same-length-11 : (t : ℕ) → lts.Need-same-length-11 (claims t) (here t) larger.Post
-same-length-11 t c = c.before.before.before.before.before.before.starts-largest.auto.1.1.1.0
+same-length-11 : (t : ℕ) → lts.Need-shape_of-lines (claims t) (here t) larger.Post
+same-length-11 t c = c.starts_largest.auto.lines
 
-same-length-12 : (t : ℕ) → lts.Need-same-length-12 (claims t) (here t) larger.Post
-same-length-12 t c = c.before.before.before.before.before.before.starts-largest.auto.1.1.1.1.0
+same-length-12 : (t : ℕ) → lts.Need-shape_of-out (claims t) (here t) larger.Post
+same-length-12 t c = c.starts_largest.auto.out
 
-returns-4 : (t : ℕ) → lts.Need-returns-4 (claims t) (here t) larger.Post
-returns-4 t c = c.before.before.before.before.before.before.starts-largest.ensures
+returns-4 : (t : ℕ) → lts.Need-returns (claims t) (here t) larger.Post
+returns-4 t c = c.starts_largest.ensures
 
 pub +starts_larger_spec : {M : Type 1} → statement M
 +starts_larger_spec =

@@ -29,13 +29,13 @@ starts_small-requires : tie.Need-starts_small-requires
 starts_small-requires c κs = (begun c.before.before.before.before.before, c.fits.ensures c.if-fits.true)
 
 shape_of-marks-then-fits : tie.Need-shape_of-marks-then-fits
-shape_of-marks-then-fits c = c.starts_small.auto.1.1.0
+shape_of-marks-then-fits c = c.starts_small.auto.marks
 
 shape_of-lines-then-fits : tie.Need-shape_of-lines-then-fits
-shape_of-lines-then-fits c = c.starts_small.auto.1.1.1.0
+shape_of-lines-then-fits c = c.starts_small.auto.lines
 
 shape_of-out-then-fits : tie.Need-shape_of-out-then-fits
-shape_of-out-then-fits c = c.starts_small.auto.1.1.1.1.0
+shape_of-out-then-fits c = c.starts_small.auto.out
 
 returns-then-fits : tie.Need-returns-then-fits
 returns-then-fits c = c.starts_small.ensures
@@ -50,13 +50,13 @@ returns-in-Fault : tie.Need-returns-in-Fault
 returns-in-Fault c = ends_before _ _ _ _ (outcome_refused _ _ (check_stop_header _ (sym c.header.ensures ∙ c.in-Fault.is)))
 
 shape_of-marks : tie.Need-shape_of-marks
-shape_of-marks c = c.starts_larger.auto.1.1.0
+shape_of-marks c = c.starts_larger.auto.marks
 
 shape_of-lines : tie.Need-shape_of-lines
-shape_of-lines c = c.starts_larger.auto.1.1.1.0
+shape_of-lines c = c.starts_larger.auto.lines
 
 shape_of-out : tie.Need-shape_of-out
-shape_of-out c = c.starts_larger.auto.1.1.1.1.0
+shape_of-out c = c.starts_larger.auto.out
 
 returns-else-fits : tie.Need-returns-else-fits
 returns-else-fits c = c.starts_larger.ensures

@@ -22,7 +22,7 @@ bytes_for-requires : tie.Need-bytes_for-requires
 bytes_for-requires c κs = omega (arith, c.mark_count.ensures, few_marks _ _ (c.ready.ensures.1.known c.in-Accepted.is).0.loaded)
 
 shape_of-tables-then-marks-bytes_for : tie.Need-shape_of-tables-then-marks-bytes_for
-shape_of-tables-then-marks-bytes_for c = c.ready.auto.1.1.0
+shape_of-tables-then-marks-bytes_for c = c.ready.auto.tables
 
 returns-then-marks-bytes_for : tie.Need-returns-then-marks-bytes_for
 returns-then-marks-bytes_for c = ends_before _ _ _ _ (outcome_short _ (sym c.ready.ensures.0 ∙ c.in-Accepted.is) c.mark_count.ensures c.bytes_for.ensures _ c.if-marks-bytes_for.true)
@@ -31,31 +31,31 @@ work_and_give-requires : tie.Need-work_and_give-requires
 work_and_give-requires c κs = let e = c.requires.0.is in let q = c.requires.1.1 in ((c.ready.ensures.1.known c.in-Accepted.is).0, ((marks_fit _ (sym c.ready.ensures.0 ∙ c.in-Accepted.is) c.mark_count.ensures c.bytes_for.ensures _ c.if-marks-bytes_for.false, partners_fit _ _ e _ q.0.0, q.0.1), ((plan_fits _ _ e _ q.1.0.0, q.1.0.1, q.1.0.2), (seen_fits _ _ e _ q.1.1.0, q.1.1.1))))
 
 shape_of-tables-in-Refused : tie.Need-shape_of-tables-in-Refused
-shape_of-tables-in-Refused c = c.ready.auto.1.1.0
+shape_of-tables-in-Refused c = c.ready.auto.tables
 
 returns-in-Refused : tie.Need-returns-in-Refused
 returns-in-Refused c = ends_before _ _ _ _ (outcome_refused _ _ (sym c.ready.ensures.0 ∙ c.in-Refused.is))
 
 shape_of-tables-else-marks-bytes_for : tie.Need-shape_of-tables-else-marks-bytes_for
-shape_of-tables-else-marks-bytes_for c = c.ready.auto.1.1.0
+shape_of-tables-else-marks-bytes_for c = c.ready.auto.tables
 
 shape_of-partners : tie.Need-shape_of-partners
-shape_of-partners c = c.work_and_give.auto.1.1.0
+shape_of-partners c = c.work_and_give.auto.partners
 
 shape_of-plan : tie.Need-shape_of-plan
-shape_of-plan c = c.work_and_give.auto.1.1.1.0
+shape_of-plan c = c.work_and_give.auto.plan
 
 shape_of-seen : tie.Need-shape_of-seen
-shape_of-seen c = c.work_and_give.auto.1.1.1.1.0
+shape_of-seen c = c.work_and_give.auto.seen
 
 shape_of-marks : tie.Need-shape_of-marks
-shape_of-marks c = c.work_and_give.auto.1.1.1.1.1.0
+shape_of-marks c = c.work_and_give.auto.marks
 
 shape_of-lines : tie.Need-shape_of-lines
-shape_of-lines c = c.work_and_give.auto.1.1.1.1.1.1.0
+shape_of-lines c = c.work_and_give.auto.lines
 
 shape_of-out : tie.Need-shape_of-out
-shape_of-out c = c.work_and_give.auto.1.1.1.1.1.1.1.0
+shape_of-out c = c.work_and_give.auto.out
 
 returns-else-marks-bytes_for : tie.Need-returns-else-marks-bytes_for
 returns-else-marks-bytes_for c = ends_same _ _ _ _ _ (outcome_work _ (sym c.ready.ensures.0 ∙ c.in-Accepted.is) c.mark_count.ensures c.bytes_for.ensures _ c.if-marks-bytes_for.false) c.work_and_give.ensures

@@ -25,13 +25,13 @@ starts_in-requires : tie.Need-starts_in-requires
 starts_in-requires c κs = let h = c.args.h in let f = c.requires.1 in (c.requires.0, (tables_long h Small 363 refl (omega arith) f, (partners_long h 16 64 112 (omega arith) f.0 f.1, (plan_long h 16 80 (omega arith) (omega arith) f.0 f.3, seen_clear h 16 64 64 516 (omega arith) f.0 f.1 f.2))))
 
 shape_of-marks : tie.Need-shape_of-marks
-shape_of-marks c = c.starts_in.auto.1.1.1.1.1.1.0
+shape_of-marks c = c.starts_in.auto.marks
 
 shape_of-lines : tie.Need-shape_of-lines
-shape_of-lines c = c.starts_in.auto.1.1.1.1.1.1.1.0
+shape_of-lines c = c.starts_in.auto.lines
 
 shape_of-out : tie.Need-shape_of-out
-shape_of-out c = c.starts_in.auto.1.1.1.1.1.1.1.1.0
+shape_of-out c = c.starts_in.auto.out
 
 returns : tie.Need-returns
 returns c = c.starts_in.ensures

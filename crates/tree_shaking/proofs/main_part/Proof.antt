@@ -19,13 +19,13 @@ rounds-requires : tie.Need-rounds-requires
 rounds-requires c κs = (c.requires.0, (working_after _ _ _ _ _ _ _ _ (rw c.in-Lines.is at c.include_user_entries.ensures), c.requires.1.1))
 
 shape_of-partners-in-Full : tie.Need-shape_of-partners-in-Full
-shape_of-partners-in-Full c = c.include_user_entries.auto.1.1.0
+shape_of-partners-in-Full c = c.include_user_entries.auto.partners
 
 shape_of-marks-in-Full : tie.Need-shape_of-marks-in-Full
-shape_of-marks-in-Full c = c.include_user_entries.auto.1.1.1.0
+shape_of-marks-in-Full c = c.include_user_entries.auto.marks
 
 shape_of-lines-in-Full : tie.Need-shape_of-lines-in-Full
-shape_of-lines-in-Full c = c.include_user_entries.auto.1.1.1.1.0
+shape_of-lines-in-Full c = c.include_user_entries.auto.lines
 
 shape_of-plan-in-Full : tie.Need-shape_of-plan-in-Full
 shape_of-plan-in-Full c = refl
@@ -35,16 +35,16 @@ unfolding graph_in
 returns-in-Full c = main_full _ _ _ _ _ c.args.plan.now _ (rw c.in-Full.is at c.include_user_entries.ensures)
 
 shape_of-partners-in-Lines : tie.Need-shape_of-partners-in-Lines
-shape_of-partners-in-Lines c = c.rounds.auto.1.1.0 ∙ c.include_user_entries.auto.1.1.0
+shape_of-partners-in-Lines c = c.rounds.auto.partners ∙ c.include_user_entries.auto.partners
 
 shape_of-marks-in-Lines : tie.Need-shape_of-marks-in-Lines
-shape_of-marks-in-Lines c = c.rounds.auto.1.1.1.0 ∙ c.include_user_entries.auto.1.1.1.0
+shape_of-marks-in-Lines c = c.rounds.auto.marks ∙ c.include_user_entries.auto.marks
 
 shape_of-lines-in-Lines : tie.Need-shape_of-lines-in-Lines
-shape_of-lines-in-Lines c = c.rounds.auto.1.1.1.1.0 ∙ c.include_user_entries.auto.1.1.1.1.0
+shape_of-lines-in-Lines c = c.rounds.auto.lines ∙ c.include_user_entries.auto.lines
 
 shape_of-plan-in-Lines : tie.Need-shape_of-plan-in-Lines
-shape_of-plan-in-Lines c = c.rounds.auto.1.1.1.1.1.0
+shape_of-plan-in-Lines c = c.rounds.auto.plan
 
 returns-in-Lines : tie.Need-returns-in-Lines
 unfolding graph_in

@@ -20,29 +20,29 @@ try_dynamic_entries-requires : tie.Need-try_dynamic_entries-requires
 try_dynamic_entries-requires c κs = (c.requires.0, (working_after _ _ _ _ _ _ _ _ (rw c.in-Lines.is at c.include_cjs_bailout_exports.ensures), c.requires.1.1))
 
 shape_of-partners-in-Full : tie.Need-shape_of-partners-in-Full
-shape_of-partners-in-Full c = c.include_cjs_bailout_exports.auto.1.1.0
+shape_of-partners-in-Full c = c.include_cjs_bailout_exports.auto.partners
 
 shape_of-marks-in-Full : tie.Need-shape_of-marks-in-Full
-shape_of-marks-in-Full c = c.include_cjs_bailout_exports.auto.1.1.1.0
+shape_of-marks-in-Full c = c.include_cjs_bailout_exports.auto.marks
 
 shape_of-lines-in-Full : tie.Need-shape_of-lines-in-Full
-shape_of-lines-in-Full c = c.include_cjs_bailout_exports.auto.1.1.1.1.0
+shape_of-lines-in-Full c = c.include_cjs_bailout_exports.auto.lines
 
 returns-in-Full : tie.Need-returns-in-Full
 unfolding graph_in
 returns-in-Full c = round_full _ _ _ _ _ _ _ _ _ _ (rw c.in-Full.is at c.include_cjs_bailout_exports.ensures)
 
 shape_of-partners-in-Lines : tie.Need-shape_of-partners-in-Lines
-shape_of-partners-in-Lines c = c.try_dynamic_entries.auto.1.1.0 ∙ c.include_cjs_bailout_exports.auto.1.1.0
+shape_of-partners-in-Lines c = c.try_dynamic_entries.auto.partners ∙ c.include_cjs_bailout_exports.auto.partners
 
 shape_of-marks-in-Lines : tie.Need-shape_of-marks-in-Lines
-shape_of-marks-in-Lines c = c.try_dynamic_entries.auto.1.1.1.0 ∙ c.include_cjs_bailout_exports.auto.1.1.1.0
+shape_of-marks-in-Lines c = c.try_dynamic_entries.auto.marks ∙ c.include_cjs_bailout_exports.auto.marks
 
 shape_of-lines-in-Lines : tie.Need-shape_of-lines-in-Lines
-shape_of-lines-in-Lines c = c.try_dynamic_entries.auto.1.1.1.1.0 ∙ c.include_cjs_bailout_exports.auto.1.1.1.1.0
+shape_of-lines-in-Lines c = c.try_dynamic_entries.auto.lines ∙ c.include_cjs_bailout_exports.auto.lines
 
 shape_of-plan : tie.Need-shape_of-plan
-shape_of-plan c = c.try_dynamic_entries.auto.1.1.1.1.1.0
+shape_of-plan c = c.try_dynamic_entries.auto.plan
 
 returns-in-Lines : tie.Need-returns-in-Lines
 unfolding graph_in

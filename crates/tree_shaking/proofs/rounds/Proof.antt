@@ -45,16 +45,16 @@ enum_told-1 : tie.Need-enum_told-1 invariant-loop-made decreases-loop-made
 enum_told-1 c = search rules
 
 shape_of-partners-in-Full : tie.Need-shape_of-partners-in-Full invariant-loop-made decreases-loop-made
-shape_of-partners-in-Full c = c.round.auto.1.1.0 ∙ c.loop-made.invariant.0
+shape_of-partners-in-Full c = c.round.auto.partners ∙ c.loop-made.invariant.0
 
 shape_of-marks-in-Full : tie.Need-shape_of-marks-in-Full invariant-loop-made decreases-loop-made
-shape_of-marks-in-Full c = c.round.auto.1.1.1.0 ∙ c.loop-made.invariant.1
+shape_of-marks-in-Full c = c.round.auto.marks ∙ c.loop-made.invariant.1
 
 shape_of-lines-in-Full : tie.Need-shape_of-lines-in-Full invariant-loop-made decreases-loop-made
-shape_of-lines-in-Full c = c.round.auto.1.1.1.1.0 ∙ c.loop-made.invariant.2
+shape_of-lines-in-Full c = c.round.auto.lines ∙ c.loop-made.invariant.2
 
 shape_of-plan-in-Full : tie.Need-shape_of-plan-in-Full invariant-loop-made decreases-loop-made
-shape_of-plan-in-Full c = c.round.auto.1.1.1.1.1.0 ∙ c.loop-made.invariant.3
+shape_of-plan-in-Full c = c.round.auto.plan ∙ c.loop-made.invariant.3
 
 returns-in-Full : tie.Need-returns-in-Full invariant-loop-made decreases-loop-made
 unfolding graph_in
@@ -78,16 +78,16 @@ ended_with-requires : tie.Need-ended_with-requires invariant-loop-made decreases
 ended_with-requires c κs = _
 
 shape_of-partners-then-not-goes_on : tie.Need-shape_of-partners-then-not-goes_on invariant-loop-made decreases-loop-made
-shape_of-partners-then-not-goes_on c = c.round.auto.1.1.0 ∙ c.loop-made.invariant.0
+shape_of-partners-then-not-goes_on c = c.round.auto.partners ∙ c.loop-made.invariant.0
 
 shape_of-marks-then-not-goes_on : tie.Need-shape_of-marks-then-not-goes_on invariant-loop-made decreases-loop-made
-shape_of-marks-then-not-goes_on c = c.round.auto.1.1.1.0 ∙ c.loop-made.invariant.1
+shape_of-marks-then-not-goes_on c = c.round.auto.marks ∙ c.loop-made.invariant.1
 
 shape_of-lines-then-not-goes_on : tie.Need-shape_of-lines-then-not-goes_on invariant-loop-made decreases-loop-made
-shape_of-lines-then-not-goes_on c = c.round.auto.1.1.1.1.0 ∙ c.loop-made.invariant.2
+shape_of-lines-then-not-goes_on c = c.round.auto.lines ∙ c.loop-made.invariant.2
 
 shape_of-plan-then-not-goes_on : tie.Need-shape_of-plan-then-not-goes_on invariant-loop-made decreases-loop-made
-shape_of-plan-then-not-goes_on c = c.round.auto.1.1.1.1.1.0 ∙ c.loop-made.invariant.3
+shape_of-plan-then-not-goes_on c = c.round.auto.plan ∙ c.loop-made.invariant.3
 
 returns-then-not-goes_on : tie.Need-returns-then-not-goes_on invariant-loop-made decreases-loop-made
 unfolding graph_in

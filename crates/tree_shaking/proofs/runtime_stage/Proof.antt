@@ -11,7 +11,7 @@ collect_helpers-requires c κs = (c.requires.0, (c.requires.1.0.held.wide, c.req
 
 collect_depended_runtime_helpers-word-requires : tie.Need-collect_depended_runtime_helpers-word-requires
 unfolding graph_in
-collect_depended_runtime_helpers-word-requires c κs = (c.requires.0, ((c.requires.1.0.held.wide, omega (arith, c.requires.1.1, c.collect_helpers.auto.1.1.1.0)), λ m h. (c.collect_helpers.ensures.0 m h).0))
+collect_depended_runtime_helpers-word-requires c κs = (c.requires.0, ((c.requires.1.0.held.wide, omega (arith, c.requires.1.1, c.collect_helpers.auto.plan)), λ m h. (c.collect_helpers.ensures.0 m h).0))
 
 begin-requires : tie.Need-begin-requires
 begin-requires c κs = (c.requires.0.loaded, c.requires.1.0)
@@ -20,16 +20,16 @@ include_runtime_symbol-requires : tie.Need-include_runtime_symbol-requires
 include_runtime_symbol-requires c κs = (c.requires.0, c.begin.ensures)
 
 shape_of-partners : tie.Need-shape_of-partners
-shape_of-partners c = c.include_runtime_symbol.auto.1.1.0 ∙ c.begin.auto.1.1.0
+shape_of-partners c = c.include_runtime_symbol.auto.partners ∙ c.begin.auto.partners
 
 shape_of-marks : tie.Need-shape_of-marks
-shape_of-marks c = c.include_runtime_symbol.auto.1.1.1.0 ∙ c.begin.auto.1.1.1.0
+shape_of-marks c = c.include_runtime_symbol.auto.marks ∙ c.begin.auto.marks
 
 shape_of-lines : tie.Need-shape_of-lines
-shape_of-lines c = c.include_runtime_symbol.auto.1.1.1.1.0
+shape_of-lines c = c.include_runtime_symbol.auto.lines
 
 shape_of-plan : tie.Need-shape_of-plan
-shape_of-plan c = c.collect_helpers.auto.1.1.1.0
+shape_of-plan c = c.collect_helpers.auto.plan
 
 returns : tie.Need-returns
 unfolding graph_in

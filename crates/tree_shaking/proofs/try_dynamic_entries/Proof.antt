@@ -77,7 +77,7 @@ loop-i-preserved c =
       k.1.1.0 ∙ t.0,
       k.1.1.1.0 ∙ t.1,
       k.1.1.1.1.0 ∙ t.2,
-      c.next_live-i-in-loop-i.auto.1.1.1.0 ∙ k.1.1.1.1.1.0 ∙ t.3,
+      c.next_live-i-in-loop-i.auto.plan ∙ k.1.1.1.1.1.0 ∙ t.3,
       trying_on _ _ _ _ _ _ _ _ (turn-working _ _ _ _ _ _ _ _ _ t.4 h e.2 _ e.1 _ _ _ _ s) _ (turn_planned _ _ _ _ _ _ _ _ _ t.4 h e.2 _ e.1) _ _ c.next_live-i-in-loop-i.ensures (turn_on _ _ _ _ _ _ _ _ _ t.4 h e.2 _ e.1 _ _ _ _ s),
     )
 
@@ -91,7 +91,7 @@ shape_of-lines : tie.Need-shape_of-lines invariant-loop-i decreases-loop-i
 shape_of-lines c = c.loop-i.invariant.2
 
 shape_of-plan : tie.Need-shape_of-plan invariant-loop-i decreases-loop-i
-shape_of-plan c = c.loop-i.invariant.3 ∙ c.next_live-i.auto.1.1.1.0
+shape_of-plan c = c.loop-i.invariant.3 ∙ c.next_live-i.auto.plan
 
 returns : tie.Need-returns invariant-loop-i decreases-loop-i
 unfolding graph_in

@@ -55,7 +55,7 @@ loop-i-smaller : tie.Need-loop-i-smaller invariant-loop-i decreases-loop-i
 loop-i-smaller c = omega (arith, c.loop-i-test.true)
 
 loop-i-preserved : tie.Need-loop-i-preserved invariant-loop-i decreases-loop-i
-loop-i-preserved c = (c.add.auto.1.1.0 ∙ c.loop-i.invariant.0, c.add.auto.1.1.1.0 ∙ c.loop-i.invariant.1, omega (arith, c.loop-i-test.true), declare-step _ _ _ _ _ c.declaring_count-declaring.ensures.0 _ _ _ _ _ _ _ c.loop-i.invariant.3 c.loop-i-test.true _ _ c.owner-owner.ensures.0 c.declaring-statement.ensures.0 _ _ _ (rw c.in-Lines.is at c.add.ensures))
+loop-i-preserved c = (c.add.auto.marks ∙ c.loop-i.invariant.0, c.add.auto.lines ∙ c.loop-i.invariant.1, omega (arith, c.loop-i-test.true), declare-step _ _ _ _ _ c.declaring_count-declaring.ensures.0 _ _ _ _ _ _ _ c.loop-i.invariant.3 c.loop-i-test.true _ _ c.owner-owner.ensures.0 c.declaring-statement.ensures.0 _ _ _ (rw c.in-Lines.is at c.add.ensures))
 
 shape_of-marks : tie.Need-shape_of-marks invariant-loop-i decreases-loop-i
 shape_of-marks c = search rules

@@ -96,7 +96,7 @@ loop-i-smaller : tie.Need-loop-i-smaller invariant-loop-i decreases-loop-i
 loop-i-smaller c = omega (arith, c.loop-i-test.true)
 
 loop-i-preserved : tie.Need-loop-i-preserved invariant-loop-i decreases-loop-i
-loop-i-preserved c = let n = its c.before.before.before.before.before.before.before.before.before.before.before in let w = c.loop-i.invariant in (c.start.auto.1.1.0 ∙ w.0, c.start.auto.1.1.1.0 ∙ w.1, c.start.auto.1.1.1.1.0 ∙ w.2, w.3, omega (arith, c.loop-i-test.true), starts-step _ _ _ _ _ _ _ _ _ _ w.5 n.0 _ n.1 _ _ _ _ (rw c.in-Lines.is at c.start.ensures))
+loop-i-preserved c = let n = its c.before.before.before.before.before.before.before.before.before.before.before in let w = c.loop-i.invariant in (c.start.auto.partners ∙ w.0, c.start.auto.marks ∙ w.1, c.start.auto.lines ∙ w.2, w.3, omega (arith, c.loop-i-test.true), starts-step _ _ _ _ _ _ _ _ _ _ w.5 n.0 _ n.1 _ _ _ _ (rw c.in-Lines.is at c.start.ensures))
 
 shape_of-partners : tie.Need-shape_of-partners invariant-loop-i decreases-loop-i
 shape_of-partners c = search rules

@@ -54,7 +54,7 @@ loop-at-smaller : tie.Need-loop-at-smaller invariant-loop-at decreases-loop-at
 loop-at-smaller c = omega (arith, below c.before.before.before.before.before.before.before.before.before.before.before, held_few c.requires.0.loaded _ _ _ _ c.loop-at.invariant.3.held)
 
 loop-at-preserved : tie.Need-loop-at-preserved invariant-loop-at decreases-loop-at
-loop-at-preserved c = (c.handle.auto.1.1.0 ∙ c.loop-at.invariant.0, c.handle.auto.1.1.1.0 ∙ c.loop-at.invariant.1, c.handle.auto.1.1.1.1.0 ∙ c.loop-at.invariant.2, drain_step _ _ _ _ _ _ _ _ _ _ c.loop-at.invariant.3 (below c.before.before.before.before.before.before.before.before.before.before.before) (held_few c.requires.0.loaded _ _ _ _ c.loop-at.invariant.3.held) _ _ _ _ (rw c.in-Lines.is at c.handle.ensures))
+loop-at-preserved c = (c.handle.auto.partners ∙ c.loop-at.invariant.0, c.handle.auto.marks ∙ c.loop-at.invariant.1, c.handle.auto.lines ∙ c.loop-at.invariant.2, drain_step _ _ _ _ _ _ _ _ _ _ c.loop-at.invariant.3 (below c.before.before.before.before.before.before.before.before.before.before.before) (held_few c.requires.0.loaded _ _ _ _ c.loop-at.invariant.3.held) _ _ _ _ (rw c.in-Lines.is at c.handle.ensures))
 
 shape_of-partners : tie.Need-shape_of-partners invariant-loop-at decreases-loop-at
 shape_of-partners c = search rules

@@ -90,10 +90,10 @@ enum_told-1 : tie.Need-enum_told-1 invariant-loop-at decreases-loop-at
 enum_told-1 c = search rules
 
 shape_of-marks-in-Full : tie.Need-shape_of-marks-in-Full invariant-loop-at decreases-loop-at
-shape_of-marks-in-Full c = c.declare.auto.1.1.0 ∙ c.loop-at.invariant.1
+shape_of-marks-in-Full c = c.declare.auto.marks ∙ c.loop-at.invariant.1
 
 shape_of-lines-in-Full : tie.Need-shape_of-lines-in-Full invariant-loop-at decreases-loop-at
-shape_of-lines-in-Full c = c.declare.auto.1.1.1.0 ∙ c.loop-at.invariant.2
+shape_of-lines-in-Full c = c.declare.auto.lines ∙ c.loop-at.invariant.2
 
 returns-in-Full : tie.Need-returns-in-Full invariant-loop-at decreases-loop-at
 returns-in-Full c = let w = c.loop-at.invariant.0 in let z : c.loop-at.at ≡ 0 → ⊥ = λ q. omega (arith, q, c.loop-at-test.true) in let e = c.in-Full.is in walk_whole _ _ _ _ _ _ c.requires.1.1.1.2 _ _ _ (walk-full _ _ _ _ _ _ _ (table c.before.before.before.before.before.before.before.before.before.before.before.before.before.before.before.before.before.before.before.before.before) (owned c.before.before.before.before.before.before.before.before.before.before.before.before.before.before.before.before.before.before.before.before.before) c.requires.1.1.1.2 _ _ _ _ w z _ (c.first_part.ensures ∙ ap first_part c.fact_at.ensures) _ _ (rw e at c.declare.ensures))
@@ -113,7 +113,7 @@ loop-at-smaller c = let n = its c.before.before.before.before.before.before.befo
 
 loop-at-preserved : tie.Need-loop-at-preserved invariant-loop-at decreases-loop-at
 unfolding graph_in
-loop-at-preserved c = let n = its c.before.before.before.before.before.before.before.before.before.before.before.before.before.before.before in let w = c.loop-at.invariant.0 in let z : c.loop-at.at ≡ 0 → ⊥ = λ q. omega (arith, q, c.loop-at-test.true) in let e = c.in-Lines.is in (walk_step _ _ _ _ _ _ _ (table c.before.before.before.before.before.before.before.before.before.before.before.before.before.before.before.before.before.before.before.before.before.before.before) (owned c.before.before.before.before.before.before.before.before.before.before.before.before.before.before.before.before.before.before.before.before.before.before.before) c.requires.1.1.1.2 _ _ _ _ w z _ (c.first_part.ensures ∙ ap first_part c.fact_at.ensures) _ _ _ _ (rw e at c.declare.ensures) (ap (λ (x : ℕ). get_or c.args.partners.now (x + c.first_part.result) 0) (n.7 ∙ ap (λ (x : ℕ). 3 * x) n.0)), c.declare.auto.1.1.0 ∙ c.loop-at.invariant.1, c.declare.auto.1.1.1.0 ∙ c.loop-at.invariant.2)
+loop-at-preserved c = let n = its c.before.before.before.before.before.before.before.before.before.before.before.before.before.before.before in let w = c.loop-at.invariant.0 in let z : c.loop-at.at ≡ 0 → ⊥ = λ q. omega (arith, q, c.loop-at-test.true) in let e = c.in-Lines.is in (walk_step _ _ _ _ _ _ _ (table c.before.before.before.before.before.before.before.before.before.before.before.before.before.before.before.before.before.before.before.before.before.before.before) (owned c.before.before.before.before.before.before.before.before.before.before.before.before.before.before.before.before.before.before.before.before.before.before.before) c.requires.1.1.1.2 _ _ _ _ w z _ (c.first_part.ensures ∙ ap first_part c.fact_at.ensures) _ _ _ _ (rw e at c.declare.ensures) (ap (λ (x : ℕ). get_or c.args.partners.now (x + c.first_part.result) 0) (n.7 ∙ ap (λ (x : ℕ). 3 * x) n.0)), c.declare.auto.marks ∙ c.loop-at.invariant.1, c.declare.auto.lines ∙ c.loop-at.invariant.2)
 
 shape_of-marks : tie.Need-shape_of-marks invariant-loop-at decreases-loop-at
 shape_of-marks c = c.loop-at.invariant.1
