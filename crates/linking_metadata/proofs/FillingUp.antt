@@ -47,7 +47,7 @@ up_step g m s x y u e = go (ℕ_discrete (owner (symbol_of g s)) m)
 rows_fit : (s none limit : ℕ) (rows : List (List ℕ)) → none ≤ limit → ((k : ℕ) → k < length rows → namespace_module (get_or rows k []) < limit) → namespace_in s none rows ≤ limit
 unfolding namespace_in
 rows_fit s none limit [] h b = h
-rows_fit s none limit (row ∷ rows) h b = rows_fit s _ limit rows (pick (eqb (namespace_symbol row) s)) (λ k l. b (suc k) (omega (arith, l)))
+rows_fit s none limit (row ∷ rows) h b = rows_fit s (elim (eqb (namespace_symbol row) s) [ true ↦ namespace_module row + 1 | false ↦ none ]) limit rows (pick (eqb (namespace_symbol row) s)) (λ k l. b (suc k) (omega (arith, l)))
   where
     first : namespace_module row < limit
     first = b 0 (omega arith)

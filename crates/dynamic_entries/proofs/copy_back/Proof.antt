@@ -20,13 +20,13 @@ room : (c : tie.After-wide invariant-loop-i decreases-loop-i) → c.args.users +
 room c = copy-room _ _ _ _ c.requires _ _ c.loop-i.invariant c.loop-i-test.true
 
 wide : (c : tie.After-wide invariant-loop-i decreases-loop-i) → length c.loop-i.plan * 8 < 2 ^ 63
-wide c = let k = c.loop-i.invariant.fill.long in omega (arith, k, c.well-formed.1.1.0.1)
+wide c = let k = c.loop-i.invariant.fill.long in omega (arith, k, c.well_formed.1.1.0.1)
 
 loop-i-init : tie.Need-loop-i-init invariant-loop-i decreases-loop-i
 loop-i-init c = copies_start _ _ _ _ c.requires
 
 offset_bounds-list-i : tie.Need-offset_bounds-list-i invariant-loop-i decreases-loop-i
-offset_bounds-list-i c = let l = c.loop-i-test.true in record { fits = omega (arith, l, c.requires.0, c.well-formed.0.1) }
+offset_bounds-list-i c = let l = c.loop-i-test.true in record { fits = omega (arith, l, c.requires.0, c.well_formed.0.1) }
 
 bounds-list-i : tie.Need-bounds-list-i invariant-loop-i decreases-loop-i
 bounds-list-i c = let l = c.loop-i-test.true in omega (arith, l, c.requires.0)

@@ -23,7 +23,7 @@ overflow_sub-count : tie.Need-overflow_sub-count
 overflow_sub-count c = users_inside _ _ _ c.requires.1.0.0 _ c.header_of-h.ensures
 
 offset_bounds-plan-users : tie.Need-offset_bounds-plan-users
-offset_bounds-plan-users c = let u = users_long _ _ _ c.requires.1.0.0 in record { fits = omega (arith, u, c.well-formed.1.1.1.1.1.1.1.1.0.1) }
+offset_bounds-plan-users c = let u = users_long _ _ _ c.requires.1.0.0 in record { fits = omega (arith, u, c.well_formed.1.1.1.1.1.1.1.1.0.1) }
 
 slice_bounds-link-count : tie.Need-slice_bounds-link-count
 slice_bounds-link-count c = users_long _ _ _ c.requires.1.0.0

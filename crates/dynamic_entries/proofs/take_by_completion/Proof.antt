@@ -41,22 +41,22 @@ overflow_sub-k : tie.Need-overflow_sub-k invariant-loop-k decreases-loop-k
 overflow_sub-k c = c.loop-k-test.true
 
 offset_bounds-order-k : tie.Need-offset_bounds-order-k invariant-loop-k decreases-loop-k
-offset_bounds-order-k c = let t = (here c).0 in record { fits = omega (arith, t, c.well-formed.1.1.1.0.1) }
+offset_bounds-order-k c = let t = (here c).0 in record { fits = omega (arith, t, c.well_formed.1.1.1.0.1) }
 
 bounds-order-k : tie.Need-bounds-order-k invariant-loop-k decreases-loop-k
 bounds-order-k c = (here c.before).0
 
 overflow_add-at : tie.Need-overflow_add-at invariant-loop-k decreases-loop-k
-overflow_add-at c = let t = (here c.before).2 in record { fits = omega (arith, t, c.well-formed.1.0.1) }
+overflow_add-at c = let t = (here c.before).2 in record { fits = omega (arith, t, c.well_formed.1.0.1) }
 
 offset_bounds-plan-at : tie.Need-offset_bounds-plan-at invariant-loop-k decreases-loop-k
-offset_bounds-plan-at c = let t = (here c.before).2 in record { fits = omega (arith, t, c.well-formed.1.0.1) }
+offset_bounds-plan-at c = let t = (here c.before).2 in record { fits = omega (arith, t, c.well_formed.1.0.1) }
 
 bounds-plan-at : tie.Need-bounds-plan-at invariant-loop-k decreases-loop-k
 bounds-plan-at c = (here c.before.before).2
 
 offset_bounds-plan-users : tie.Need-offset_bounds-plan-users invariant-loop-k decreases-loop-k
-offset_bounds-plan-users c = let u = users_long _ _ _ c.requires.1.0.0 in record { fits = omega (arith, u, c.well-formed.1.0.1) }
+offset_bounds-plan-users c = let u = users_long _ _ _ c.requires.1.0.0 in record { fits = omega (arith, u, c.well_formed.1.0.1) }
 
 slice_bounds-append_module-count : tie.Need-slice_bounds-append_module-count invariant-loop-k decreases-loop-k
 slice_bounds-append_module-count c = users_long _ _ _ c.requires.1.0.0

@@ -41,7 +41,7 @@ loop-i-init : tie.Need-loop-i-init invariant-loop-i decreases-loop-i
 loop-i-init c = begins _ _ _ _ _ c.requires.1 _ c.header_of-h.ensures
 
 offset_bounds-plan-i : tie.Need-offset_bounds-plan-i invariant-loop-i decreases-loop-i
-offset_bounds-plan-i c = let t = (here c).0 in record { fits = omega (arith, t, c.well-formed.1.1.0.1) }
+offset_bounds-plan-i c = let t = (here c).0 in record { fits = omega (arith, t, c.well_formed.1.1.0.1) }
 
 bounds-plan-i : tie.Need-bounds-plan-i invariant-loop-i decreases-loop-i
 bounds-plan-i c = (here c.before).0
@@ -56,16 +56,16 @@ narrow-requires : tie.Need-narrow-requires invariant-loop-i decreases-loop-i
 narrow-requires c κs = let t = (here c.before.before.before.before).1 in let b = c.requires.0.few_entries in omega (arith, t, b)
 
 offset_bounds-list-n : tie.Need-offset_bounds-list-n invariant-loop-i decreases-loop-i
-offset_bounds-list-n c = let t = room c.before in let k = c.loop-i.invariant.fill.long in record { fits = omega (arith, t, k, c.well-formed.1.1.1.1.1.0.1) }
+offset_bounds-list-n c = let t = room c.before in let k = c.loop-i.invariant.fill.long in record { fits = omega (arith, t, k, c.well_formed.1.1.1.1.1.0.1) }
 
 bounds-list-n : tie.Need-bounds-list-n invariant-loop-i decreases-loop-i
 bounds-list-n c = room c.before
 
 overflow_add-n : tie.Need-overflow_add-n invariant-loop-i decreases-loop-i
-overflow_add-n c = let t = room c.before in let k = c.loop-i.invariant.fill.long in record { fits = omega (arith, t, k, c.well-formed.1.1.1.1.1.0.1) }
+overflow_add-n c = let t = room c.before in let k = c.loop-i.invariant.fill.long in record { fits = omega (arith, t, k, c.well_formed.1.1.1.1.1.0.1) }
 
 overflow_add-i : tie.Need-overflow_add-i invariant-loop-i decreases-loop-i
-overflow_add-i c = let t = (here c.before.before.before.before).0 in record { fits = omega (arith, t, c.well-formed.1.1.0.1) }
+overflow_add-i c = let t = (here c.before.before.before.before).0 in record { fits = omega (arith, t, c.well_formed.1.1.0.1) }
 
 loop-i-smaller : tie.Need-loop-i-smaller invariant-loop-i decreases-loop-i
 loop-i-smaller c = let l = c.loop-i-test.true in omega (arith, l)

@@ -19,13 +19,13 @@ here : (c : tie.In-loop-at invariant-loop-at decreases-loop-at) → let l = c.lo
 here c = along-place _ _ c.header_of-h.ensures _ _ _ _ c.requires.1.0.0 c.requires.1.0.1 c.requires.1.1.0 _ _ _ _ _ c.loop-at.invariant c.loop-at-test.true
 
 wide : (c : tie.In-loop-at invariant-loop-at decreases-loop-at) → length c.loop-at.out * 4 < 2 ^ 63
-wide c = let l = c.loop-at.invariant.fill.long in omega (arith, l, c.well-formed.1.1.1.1.1.0.1)
+wide c = let l = c.loop-at.invariant.fill.long in omega (arith, l, c.well_formed.1.1.1.1.1.0.1)
 
 header_of-h-requires : tie.Need-header_of-h-requires invariant-loop-at decreases-loop-at
 header_of-h-requires c κs = c.requires.0
 
 offset_bounds-chain-first : tie.Need-offset_bounds-chain-first invariant-loop-at decreases-loop-at
-offset_bounds-chain-first c = let l = first_fits _ _ c.header_of-h.ensures _ _ _ _ c.requires.1.0.0 c.requires.1.0.1 c.requires.1.1.0 c.args.n c.args.out.now in record { fits = omega (arith, l, c.well-formed.1.1.1.0.1) }
+offset_bounds-chain-first c = let l = first_fits _ _ c.header_of-h.ensures _ _ _ _ c.requires.1.0.0 c.requires.1.0.1 c.requires.1.1.0 c.args.n c.args.out.now in record { fits = omega (arith, l, c.well_formed.1.1.1.0.1) }
 
 bounds-chain-first : tie.Need-bounds-chain-first invariant-loop-at decreases-loop-at
 bounds-chain-first c = first_fits _ _ c.header_of-h.ensures _ _ _ _ c.requires.1.0.0 c.requires.1.0.1 c.requires.1.1.0 c.args.n c.args.out.now
@@ -37,7 +37,7 @@ overflow_sub-at : tie.Need-overflow_sub-at invariant-loop-at decreases-loop-at
 overflow_sub-at c = c.loop-at-test.true
 
 offset_bounds-list-at : tie.Need-offset_bounds-list-at invariant-loop-at decreases-loop-at
-offset_bounds-list-at c = let t = (here c).0 in record { fits = omega (arith, t, c.well-formed.1.0.1) }
+offset_bounds-list-at c = let t = (here c).0 in record { fits = omega (arith, t, c.well_formed.1.0.1) }
 
 bounds-list-at : tie.Need-bounds-list-at invariant-loop-at decreases-loop-at
 bounds-list-at c = (here c.before).0
@@ -55,13 +55,13 @@ overflow_add-k : tie.Need-overflow_add-k invariant-loop-at decreases-loop-at
 overflow_add-k c = let t = (here c.before.before).3 in let w = wide c.before.before in record { fits = omega (arith, t, w) }
 
 overflow_add-at : tie.Need-overflow_add-at invariant-loop-at decreases-loop-at
-overflow_add-at c = let t = (here c.before.before).2 in record { fits = omega (arith, t, c.well-formed.1.1.1.0.1) }
+overflow_add-at c = let t = (here c.before.before).2 in record { fits = omega (arith, t, c.well_formed.1.1.1.0.1) }
 
 overflow_sub-at-in-loop-at : tie.Need-overflow_sub-at-in-loop-at invariant-loop-at decreases-loop-at
 overflow_sub-at-in-loop-at c = let h = c.loop-at-test.true in omega (arith, h)
 
 offset_bounds-chain-modules : tie.Need-offset_bounds-chain-modules invariant-loop-at decreases-loop-at
-offset_bounds-chain-modules c = let t = (here c.before.before).2 in record { fits = omega (arith, t, c.well-formed.1.1.1.0.1) }
+offset_bounds-chain-modules c = let t = (here c.before.before).2 in record { fits = omega (arith, t, c.well_formed.1.1.1.0.1) }
 
 bounds-chain-modules : tie.Need-bounds-chain-modules invariant-loop-at decreases-loop-at
 bounds-chain-modules c = let h = c.loop-at-test.true in let t = (here c.before.before.before).2 in omega (arith, t, h)

@@ -28,7 +28,7 @@ loop-i-init : tie.Need-loop-i-init invariant-loop-i decreases-loop-i
 loop-i-init c = copy_start _ _ _ _ c.requires.1.0.long _ _ c.requires.1.1
 
 offset_bounds-list-i : tie.Need-offset_bounds-list-i invariant-loop-i decreases-loop-i
-offset_bounds-list-i c = let t = here c in record { fits = omega (arith, t.0, c.well-formed.1.1.0.1) }
+offset_bounds-list-i c = let t = here c in record { fits = omega (arith, t.0, c.well_formed.1.1.0.1) }
 
 bounds-list-i : tie.Need-bounds-list-i invariant-loop-i decreases-loop-i
 bounds-list-i c = (here c.before).0
@@ -40,16 +40,16 @@ entry_kind-is_dynamic-requires : tie.Need-entry_kind-is_dynamic-requires invaria
 entry_kind-is_dynamic-requires c κs = (c.requires.0, rw c.wide-e.ensures (here c.before.before).1)
 
 offset_bounds-plan-to : tie.Need-offset_bounds-plan-to invariant-loop-i decreases-loop-i
-offset_bounds-plan-to c = let t = room c in let l = c.loop-i.invariant.fill.long in record { fits = omega (arith, t, l, c.well-formed.1.1.1.1.1.0.1) }
+offset_bounds-plan-to c = let t = room c in let l = c.loop-i.invariant.fill.long in record { fits = omega (arith, t, l, c.well_formed.1.1.1.1.1.0.1) }
 
 bounds-plan-to : tie.Need-bounds-plan-to invariant-loop-i decreases-loop-i
 bounds-plan-to c = room c
 
 overflow_add-to : tie.Need-overflow_add-to invariant-loop-i decreases-loop-i
-overflow_add-to c = let t = room c in let l = c.loop-i.invariant.fill.long in record { fits = omega (arith, t, l, c.well-formed.1.1.1.1.1.0.1) }
+overflow_add-to c = let t = room c in let l = c.loop-i.invariant.fill.long in record { fits = omega (arith, t, l, c.well_formed.1.1.1.1.1.0.1) }
 
 overflow_add-i : tie.Need-overflow_add-i invariant-loop-i decreases-loop-i
-overflow_add-i c = let t = here c.before.before.before.before in record { fits = omega (arith, t.0, c.well-formed.1.1.0.1) }
+overflow_add-i c = let t = here c.before.before.before.before in record { fits = omega (arith, t.0, c.well_formed.1.1.0.1) }
 
 loop-i-smaller : tie.Need-loop-i-smaller invariant-loop-i decreases-loop-i
 loop-i-smaller c = let h = c.loop-i-test.true in omega (arith, h)
@@ -61,9 +61,9 @@ loop-i-preserved c =
     let i = c.loop-i.invariant in
     let h = c.loop-i-test.true in
     ⊎_elim
-    (λ w. rw (w.1, w.2) (copy-this _ _ _ _ c.requires.1.0.long _ _ _ _ _ i h _ x (kind_told _ _ _ _ _ k w.0.taken)))
-    (λ w. rw (w.1, w.2) (copy-other _ _ _ _ c.requires.1.0.long _ _ _ _ _ i h _ x (kind_told _ _ _ _ _ k w.0.left)))
-    c.if-is_dynamic-dynamic.branch
+    (λ w. rw (w.plan-is, w.to-is) (copy-this _ _ _ _ c.requires.1.0.long _ _ _ _ _ i h _ x (kind_told _ _ _ _ _ k w.if-is_dynamic-dynamic.true)))
+    (λ w. rw (w.plan-is, w.to-is) (copy-other _ _ _ _ c.requires.1.0.long _ _ _ _ _ i h _ x (kind_told _ _ _ _ _ k w.if-is_dynamic-dynamic.false)))
+    c.if-is_dynamic-dynamic.branch-raw
 
 shape_of-plan : tie.Need-shape_of-plan invariant-loop-i decreases-loop-i
 shape_of-plan c = c.loop-i.invariant.fill.long

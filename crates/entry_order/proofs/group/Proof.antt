@@ -26,7 +26,7 @@ loop-i-init : tie.Need-loop-i-init invariant-loop-i decreases-loop-i
 loop-i-init c = go_start _ _ _ c.requires.1.0.long _ c.requires.1.2
 
 offset_bounds-list-i : tie.Need-offset_bounds-list-i invariant-loop-i decreases-loop-i
-offset_bounds-list-i c = let t = here c in record { fits = omega (arith, t.0, c.well-formed.1.1.0.1) }
+offset_bounds-list-i c = let t = here c in record { fits = omega (arith, t.0, c.well_formed.1.1.0.1) }
 
 bounds-list-i : tie.Need-bounds-list-i invariant-loop-i decreases-loop-i
 bounds-list-i c = (here c.before).0
@@ -41,7 +41,7 @@ bounds-chain-u : tie.Need-bounds-chain-u invariant-loop-i decreases-loop-i
 bounds-chain-u c = let u = c.entry_module-m.ensures.1 in let k = c.link.auto.chain in omega (arith, u, c.requires.1.1, k)
 
 overflow_add-i : tie.Need-overflow_add-i invariant-loop-i decreases-loop-i
-overflow_add-i c = let t = here c.before.before.before in record { fits = omega (arith, t.0, c.well-formed.1.1.0.1) }
+overflow_add-i c = let t = here c.before.before.before in record { fits = omega (arith, t.0, c.well_formed.1.1.0.1) }
 
 append_module-n-requires : tie.Need-append_module-n-requires invariant-loop-i decreases-loop-i
 append_module-n-requires c κs =
@@ -50,7 +50,7 @@ append_module-n-requires c κs =
     (c.requires.0.long, ((l, c.requires.1.0), (o.1, c.requires.0.few_entries, turn_room _ _ _ c.requires.1.0 _ l _ _ _ _ c.loop-i.invariant c.loop-i-test.true _ o c.if-chain-u.true)))
 
 overflow_add-i-in-loop-i : tie.Need-overflow_add-i-in-loop-i invariant-loop-i decreases-loop-i
-overflow_add-i-in-loop-i c = let t = here c.before.before.before.before in record { fits = omega (arith, t.0, c.well-formed.1.1.0.1) }
+overflow_add-i-in-loop-i c = let t = here c.before.before.before.before in record { fits = omega (arith, t.0, c.well_formed.1.1.0.1) }
 
 loop-i-smaller : tie.Need-loop-i-smaller invariant-loop-i decreases-loop-i
 loop-i-smaller c = let h = c.loop-i-test.true in omega (arith, h)
@@ -62,9 +62,9 @@ loop-i-preserved c =
     let i = c.loop-i.invariant in
     let h = c.loop-i-test.true in
     ⊎_elim
-    (λ w. rw (w.6, w.7) (turn_first _ _ _ c.requires.1.0 _ l _ _ _ _ i h _ o w.0.taken _ _ w.3.ensures))
-    (λ w. rw (w.1, w.2) (turn_later _ _ _ c.requires.1.0 _ l _ _ _ _ i h _ o w.0.left))
-    c.if-chain-u.branch
+    (λ w. rw (w.out-is, w.n-is) (turn_first _ _ _ c.requires.1.0 _ l _ _ _ _ i h _ o w.if-chain-u.true _ _ w.append_module-n.ensures))
+    (λ w. rw (w.out-is, w.n-is) (turn_later _ _ _ c.requires.1.0 _ l _ _ _ _ i h _ o w.if-chain-u.false))
+    c.if-chain-u.branch-raw
 
 shape_of-chain : tie.Need-shape_of-chain invariant-loop-i decreases-loop-i
 shape_of-chain c = c.link.auto.chain

@@ -30,7 +30,7 @@ owner c =
     let long = chain_long _ _ m.ensures _ _ _ _ l.invariant.2 in
     let k = c.clear.auto.chain in
     let u : c.entry_module-owner.result.0 < m.result.modules = rw m.ensures c.entry_module-owner.ensures.1 in
-    (omega (arith, u, long), omega (arith, t, long), omega (arith, l.invariant.0, k, c.well-formed.1.1.1.1.0.1))
+    (omega (arith, u, long), omega (arith, t, long), omega (arith, l.invariant.0, k, c.well_formed.1.1.1.1.0.1))
 
 header_of-h-requires : tie.Need-header_of-h-requires invariant-loop-i decreases-loop-i
 header_of-h-requires c κs = c.requires.0.long
@@ -45,7 +45,7 @@ overflow_sub-i : tie.Need-overflow_sub-i invariant-loop-i decreases-loop-i
 overflow_sub-i c = c.loop-i-test.true
 
 offset_bounds-list-i : tie.Need-offset_bounds-list-i invariant-loop-i decreases-loop-i
-offset_bounds-list-i c = let t = turn c in record { fits = omega (arith, t.1, c.well-formed.1.1.0.1) }
+offset_bounds-list-i c = let t = turn c in record { fits = omega (arith, t.1, c.well_formed.1.1.0.1) }
 
 bounds-list-i : tie.Need-bounds-list-i invariant-loop-i decreases-loop-i
 bounds-list-i c = (turn c.before).1

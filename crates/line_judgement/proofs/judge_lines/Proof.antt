@@ -33,7 +33,7 @@ enum_known-next : tie.Need-enum_known-next invariant-loop-k decreases-loop-k
 enum_known-next c = search rules
 
 overflow_add-k : tie.Need-overflow_add-k invariant-loop-k decreases-loop-k
-overflow_add-k c = omega (arith, c.loop-k-test.true, c.well-formed.1.1.1.1.0.0)
+overflow_add-k c = omega (arith, c.loop-k-test.true, c.well_formed.1.1.1.1.0.0)
 
 loop-k-smaller : tie.Need-loop-k-smaller invariant-loop-k decreases-loop-k
 loop-k-smaller c = omega (arith, c.loop-k-test.true)

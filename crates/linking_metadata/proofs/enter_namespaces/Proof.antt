@@ -43,9 +43,9 @@ turned c =
     let o = c.owner-owner.ensures.0 in
     let y = c.commonjs_namespace_symbol-s.ensures in
     ⊎_elim
-    (λ w. turn_own _ _ _ _ (inside c.before.before.before.before.before) _ _ _ _ y.0 (laid c.before.before.before.before.before) _ (c.requires.1.0.starts 8 (omega arith)) y.1 _ w.2.ensures.0 (sym o ∙ w.0.taken) w.5)
-    (λ w. turn_other _ _ _ _ (inside c.before.before.before.before.before) _ _ _ _ y.0 (λ z. w.0.left (o ∙ z)) w.1)
-    c.if-owner-m.branch
+    (λ w. turn_own _ _ _ _ (inside c.before.before.before.before.before) _ _ _ _ y.0 (laid c.before.before.before.before.before) _ (c.requires.1.0.starts 8 (omega arith)) y.1 _ w.commonjs_namespace_module-n.ensures.0 (sym o ∙ w.if-owner-m.true) w.tables-is)
+    (λ w. turn_other _ _ _ _ (inside c.before.before.before.before.before) _ _ _ _ y.0 (λ z. w.if-owner-m.false (o ∙ z)) w.tables-is)
+    c.if-owner-m.branch-raw
 
 bounds-tables-8 : tie.Need-bounds-tables-8 invariant-loop-k decreases-loop-k
 bounds-tables-8 c = word_inside c.requires.1.0 8 (omega arith)

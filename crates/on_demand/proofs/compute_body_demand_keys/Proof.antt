@@ -55,9 +55,9 @@ turned c =
     let i = c.loop-m.invariant in
     let b = c.has_body.ensures in
     ⊎_elim
-    (λ w. (rw w.5 w.2.ensures.1, λ s l. body_enters _ _ _ s _ (i.2 s l) _ (sym b ∙ w.0.taken) (ap (λ k. get_or (bodies_in k) s 0) w.5 ∙ w.2.ensures.0 s l)))
-    (λ w. (rw w.1 kept_none, λ s l. ap (λ k. get_or (bodies_in k) s 0) w.1 ∙ body_skips _ _ _ s _ (i.2 s l) (sym b ∙ w.0.left)))
-    c.if-has_body.branch
+    (λ w. (rw w.tables-is w.enter_keys.ensures.1, λ s l. body_enters _ _ _ s _ (i.2 s l) _ (sym b ∙ w.if-has_body.true) (ap (λ k. get_or (bodies_in k) s 0) w.tables-is ∙ w.enter_keys.ensures.0 s l)))
+    (λ w. (rw w.tables-is kept_none, λ s l. ap (λ k. get_or (bodies_in k) s 0) w.tables-is ∙ body_skips _ _ _ s _ (i.2 s l) (sym b ∙ w.if-has_body.false)))
+    c.if-has_body.branch-raw
 
 header_of-h-requires : tie.Need-header_of-h-requires invariant-loop-m decreases-loop-m
 header_of-h-requires c κs = c.requires.0.long

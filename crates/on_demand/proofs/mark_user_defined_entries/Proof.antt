@@ -52,9 +52,9 @@ turned c =
     let l : c.loop-e.e < length (graph_in c.args.numbers.now).entries = omega (arith, small c.before.before, entries_long _ _ c.requires.0.of_entries) in
     let k = c.entry_kind.ensures.0 in
     ⊎_elim
-    (λ w. turn_user _ _ l _ _ _ _ (laid c.before.before.before.before.before.before.before.before) c.loop-e.invariant.0 _ w.2.ensures.0 (omega (arith, k, w.0.taken)) w.2.ensures.1 w.4)
-    (λ w. turn_other _ _ l _ _ _ _ (laid c.before.before.before.before.before.before.before.before) c.loop-e.invariant.0 (omega (arith, k, w.0.left)) w.1)
-    c.if-entry_kind-lt2.branch
+    (λ w. turn_user _ _ l _ _ _ _ (laid c.before.before.before.before.before.before.before.before) c.loop-e.invariant.0 _ w.entry_module-m.ensures.0 (omega (arith, k, w.if-entry_kind-lt2.true)) w.entry_module-m.ensures.1 w.tables-is)
+    (λ w. turn_other _ _ l _ _ _ _ (laid c.before.before.before.before.before.before.before.before) c.loop-e.invariant.0 (omega (arith, k, w.if-entry_kind-lt2.false)) w.tables-is)
+    c.if-entry_kind-lt2.branch-raw
 
 header_of-h-requires : tie.Need-header_of-h-requires invariant-loop-e decreases-loop-e
 header_of-h-requires c κs = c.requires.0.long

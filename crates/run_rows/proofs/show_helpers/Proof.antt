@@ -25,7 +25,7 @@ header_of-h-requires c κs = c.requires.0.0
 
 words_at-at-requires : tie.Need-words_at-at-requires invariant-loop-m decreases-loop-m
 unfolding graph_in
-words_at-at-requires c κs = omega (arith, modules_are _ _ c.header_of-h.ensures, entries_are _ _ c.header_of-h.ensures, c.requires.0.1, c.well-formed.1.0.1)
+words_at-at-requires c κs = omega (arith, modules_are _ _ c.header_of-h.ensures, entries_are _ _ c.header_of-h.ensures, c.requires.0.1, c.well_formed.1.0.1)
 
 loop-m-init : tie.Need-loop-m-init invariant-loop-m decreases-loop-m
 loop-m-init c = (omega arith, refl, fill_start _ _)

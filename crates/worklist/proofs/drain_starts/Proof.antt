@@ -90,7 +90,7 @@ enum_known-n : tie.Need-enum_known-n invariant-loop-i decreases-loop-i
 enum_known-n c = search rules
 
 overflow_add-i : tie.Need-overflow_add-i invariant-loop-i decreases-loop-i
-overflow_add-i c = record { fits = omega (arith, c.loop-i-test.true, c.loop-i.invariant.3, c.well-formed.1.1.0) }
+overflow_add-i c = record { fits = omega (arith, c.loop-i-test.true, c.loop-i.invariant.3, c.well_formed.1.1.0) }
 
 loop-i-smaller : tie.Need-loop-i-smaller invariant-loop-i decreases-loop-i
 loop-i-smaller c = omega (arith, c.loop-i-test.true)

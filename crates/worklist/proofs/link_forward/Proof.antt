@@ -45,7 +45,7 @@ its c =
       c.requires.1.0.inside,
       c.requires.1.0.room,
       c.owner-owner.ensures.0,
-      omega (arith, c.well-formed.1.1.1.0),
+      omega (arith, c.well_formed.1.1.1.0),
       c.firsts_at-firsts.ensures,
       c.lasts_at-lasts.ensures,
       c.nexts_at-nexts.ensures,

@@ -6,10 +6,10 @@ use Rattle.vectors.proofs.reading.numbers_read.Statement.{statement}
 use Rattle.vectors.proofs.reading.numbers_read.Tie as tie
 
 abbrev invariant-loop-i : tie.invariant-loop-i
-invariant-loop-i numbers n i₀ t4 i = (i ≤ length numbers) × (length t4 ≡ 1)
+invariant-loop-i numbers n i₀ i = i ≤ length numbers
 
 abbrev decreases-loop-i : tie.decreases-loop-i
-decreases-loop-i numbers n i₀ t4 i = length numbers - i
+decreases-loop-i numbers n i₀ i = length numbers - i
 
 loop-i-init : tie.Need-loop-i-init invariant-loop-i decreases-loop-i
 loop-i-init c = search rules
