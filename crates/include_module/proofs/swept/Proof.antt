@@ -24,7 +24,7 @@ swept_whole-requires : tie.Need-swept_whole-requires
 swept_whole-requires c κs = c.requires
 
 returns : tie.Need-returns
-returns c = swept_all _ _ _ _ c.if-i-eq0.false (⊎_elim (λ w. inl (sym w.1.ensures ∙ w.2.left)) (λ w. inr (sym c.option.ensures ∙ w.left)) c.if-option.branch) c.swept_whole.ensures
+returns c = swept_all _ _ _ _ c.if-i-eq0.false (⊎_elim (λ w. inl (sym w.verdict.ensures ∙ w.if-verdict-ne4.false)) (λ w. inr (sym c.option.ensures ∙ w.if-option.false)) c.if-option.branch-raw) c.swept_whole.ensures
 
 pub swept_spec : {M : Type 1} → statement M
 swept_spec =

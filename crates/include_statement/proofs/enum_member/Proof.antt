@@ -42,7 +42,7 @@ loop-k-smaller : tie.Need-loop-k-smaller invariant-loop-k decreases-loop-k
 loop-k-smaller c = omega (arith, c.loop-k-test.true)
 
 loop-k-preserved : tie.Need-loop-k-preserved invariant-loop-k decreases-loop-k
-loop-k-preserved c = ⊎_elim (λ w. member-other _ _ _ _ c.loop-k.invariant (its c.before.before) _ c.enum_name.ensures _ w.0.taken w.1.ensures w.2.left) (λ w. name-other _ _ _ _ c.loop-k.invariant (its c.before.before) _ c.enum_name.ensures w.left) c.if-enum_name-name.branch
+loop-k-preserved c = ⊎_elim (λ w. member-other _ _ _ _ c.loop-k.invariant (its c.before.before) _ c.enum_name.ensures _ w.if-enum_name-name.true w.enum_member.ensures w.if-enum_member-member.false) (λ w. name-other _ _ _ _ c.loop-k.invariant (its c.before.before) _ c.enum_name.ensures w.if-enum_name-name.false) c.if-enum_name-name.branch-raw
 
 returns : tie.Need-returns invariant-loop-k decreases-loop-k
 returns c = let l : length (enum_members (module_of (graph_in c.args.numbers.now) c.args.m.0)) ≤ c.loop-k.k = omega (arith, c.loop-k-test.false, c.enum_member_count-count.ensures.0) in

@@ -69,7 +69,7 @@ overflow_add-result-2 : tie.Need-overflow_add-result-2
 overflow_add-result-2 c = omega (arith, c.forward_count.ensures.1)
 
 returns : tie.Need-returns
-returns c = let l : get_or c.args.numbers.now c.args.place 0 < 4 = omega (arith, c.requires.1.stands.few, c.requires.1.stands.kind) in plain_places _ _ _ (kind_is c.requires.1) _ c.if-kind-eq1.false c.if-kind-eq2.false l (⊎_elim (λ w. inl (sym w.1.ensures ∙ w.2.left)) (λ w. inr w.left) c.if-kind-eq3.branch) (symbol c.before) c.forward_count.ensures.0
+returns c = let l : get_or c.args.numbers.now c.args.place 0 < 4 = omega (arith, c.requires.1.stands.few, c.requires.1.stands.kind) in plain_places _ _ _ (kind_is c.requires.1) _ c.if-kind-eq1.false c.if-kind-eq2.false l (⊎_elim (λ w. inl (sym w.is_inlined_enum_member_access.ensures ∙ w.if-is_inlined_enum_member_access.false)) (λ w. inr w.if-kind-eq3.false) c.if-kind-eq3.branch-raw) (symbol c.before) c.forward_count.ensures.0
 
 pub reference_candidates_spec : {M : Type 1} → statement M
 reference_candidates_spec =
