@@ -1,3 +1,4 @@
+use borrow.Author.Tests.{eq-eqb, ne_eqb}
 use Rattle.include_statement.proofs.Reasons.{reason_12, reason_4, reason_9, reason_1}
 use mathlib.Core.Path.{◌∙◌, sym}
 use native.Mathlib.Omega.{arith}
