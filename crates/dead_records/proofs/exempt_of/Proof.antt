@@ -82,7 +82,7 @@ loop-k-preserved c =
     let first = c.requires.1.1 c.related_statement-r.result.«module».0 inside in
     let k = c.loop-k.invariant in
     ⊎_elim
-    (λ w. exempting-set _ _ _ _ _ _ k l _ r _ w.3.ensures _ _ _ w.0.taken w.4.taken first w.9.kept.0 w.9.ensures w.12)
+    (λ w. exempting-set _ _ _ _ _ _ k l _ r _ w.3.ensures _ _ _ w.0.taken w.4.taken first w.9.auto.0 w.9.ensures w.12)
     (λ u. ⊎_elim
     (λ w. exempting-unkept _ _ _ _ _ _ k l _ r _ w.3.ensures _ w.4.left w.5)
     (λ w. exempting-unreachable _ _ _ _ _ _ k l _ r _ w.0.left w.1)

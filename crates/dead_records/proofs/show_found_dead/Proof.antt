@@ -57,7 +57,7 @@ loop-e-preserved c =
     let l : c.loop-e.e < (header_in c.args.numbers.now).entries = omega (arith, c.loop-e-test.true, entries_are _ _ h) in
     let dead = c.dead_at-dead.ensures in
     ⊎_elim
-    (λ w. showing-dead _ _ _ _ _ b l _ _ (dead_word _ c.args.plan.now _ h _ l (rw dead at w.0.taken)) w.2.kept.1.1.1.1.0 w.2.ensures w.5)
+    (λ w. showing-dead _ _ _ _ _ b l _ _ (dead_word _ c.args.plan.now _ h _ l (rw dead at w.0.taken)) w.2.auto.1.1.1.1.0 w.2.ensures w.5)
     (λ w. showing-passed _ _ _ _ _ b l _ (live_word _ c.args.plan.now _ h _ l (rw dead at w.0.left)) w.1)
     c.if-plan-dead-eq1.branch
 
