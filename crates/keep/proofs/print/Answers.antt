@@ -1,5 +1,5 @@
 -- What is written is the text up to the next part.
-use Rattle.std.proofs.Common.{rules, arith}
+use Rattle.std.proofs.Common.{arith}
 use Rattle.keep.proofs.Parted.{written_next}
 use Rattle.keep.proofs.print.Goals as goal
 
