@@ -137,6 +137,7 @@ pub data Offered (r : ℕ) (e : Fact) : List Segment → Type 0 where
 
 pub offered_given : {r : ℕ} {e : Fact} (ss : List Segment) → Offered r e ss → Listed r e (given_by ss 0)
 unfolding given_by
+offered_given {r = r} {e = e} [] x' = elim x' [ ]
 offered_given {r} {e} (s ∷ ss) (here q k u is) =
     listed_left (picked s.rule s.candidate 0 (s.count - 0)) (given_by ss 0)
     (rw q (picked_listed r e s.candidate 0 (s.count - 0) k (omega arith) (ap s.candidate (omega arith) ∙ is)))

@@ -168,12 +168,12 @@ module _ (g : Graph) (m : ℕ) where
   pub last_same : (none i : ℕ) (ls : List Line) (l : Line) → forwards_to g m l ≡ false → last_forward g m none i (ls ++ (l ∷ [])) ≡ last_forward g m none i ls
   unfolding last_forward
   last_same none i [] l e = last_there none i l [] e
-  last_same none i (x ∷ xs) l e = last_same _ (i + 1) xs l e
+  last_same none i (x ∷ xs) l e = last_same (elim (forwards_to g m x) [ true ↦ i + 1 | false ↦ none ]) (i + 1) xs l e
 
   pub last_new : (none i : ℕ) (ls : List Line) (l : Line) → forwards_to g m l ≡ true → last_forward g m none i (ls ++ (l ∷ [])) ≡ i + length ls + 1
   unfolding last_forward
   last_new none i [] l e = let z : i + 1 ≡ i + 0 + 1 = omega arith in last_here none i l [] e ∙ z
-  last_new none i (x ∷ xs) l e = let z : i + 1 + length xs + 1 ≡ i + suc (length xs) + 1 = omega arith in last_new _ (i + 1) xs l e ∙ z
+  last_new none i (x ∷ xs) l e = let z : i + 1 + length xs + 1 ≡ i + suc (length xs) + 1 = omega arith in last_new (elim (forwards_to g m x) [ true ↦ i + 1 | false ↦ none ]) (i + 1) xs l e ∙ z
 
   -- no first, no last
   pub last_none : (none i : ℕ) (ls : List Line) → first_forward g m i ls ≡ 0 → last_forward g m none i ls ≡ none
@@ -244,7 +244,7 @@ module _ (g : Graph) (m : ℕ) where
       let z : i + suc k + 1 ≡ i + 1 + k + 1 = omega arith in
       let y : suc k + 1 ≡ suc (k + 1) = omega arith in
       let r : first_forward g m (i + 1 + k + 1) (drop (k + 1) xs) ≡ 0 = rw (z, y) at e in
-      last_is _ (i + 1) k xs (omega (arith, h)) t r ∙ sym z
+      last_is (elim (forwards_to g m x) [ true ↦ i + 1 | false ↦ none ]) (i + 1) k xs (omega (arith, h)) t r ∙ sym z
 
 -- the same by the numbers of all lines, of which those from `base` on count
 pub record OwnLast (g : Graph) (m base : ℕ) (lines : List Line) : Type 0 where

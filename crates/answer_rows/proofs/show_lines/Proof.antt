@@ -37,7 +37,7 @@ loop-k-smaller c = omega (arith, c.loop-k-test.true)
 loop-k-preserved : tie.Need-loop-k-preserved invariant-loop-k decreases-loop-k
 loop-k-preserved c =
     let below : c.loop-k.k < c.args.to = omega (arith, c.loop-k-test.true) in
-    going_step _ _ _ _ _ _ _ _ c.loop-k.invariant _ _ below c.fact_at.ensures (same_lengths _ _ c.show_fact.auto.1.1.1.1) c.show_fact.ensures
+    going_step _ _ _ _ _ _ _ _ c.loop-k.invariant _ _ below c.fact_at.ensures (same_lengths _ _ (c.show_fact.auto.modules_row, (c.show_fact.auto.statements_row, (c.show_fact.auto.used, (c.show_fact.auto.external, (c.show_fact.auto.json, (c.show_fact.auto.reason, tt))))))) c.show_fact.ensures
 
 shape_of-modules_row : tie.Need-shape_of-modules_row invariant-loop-k decreases-loop-k
 shape_of-modules_row c = ap (λ (l : Lengths). l.modules) c.loop-k.invariant.same

@@ -81,7 +81,7 @@ listed-requires : tie.Need-listed-requires
 listed-requires c κs =
     let s = c.requires in
     let r = c.run in
-    (s, ran_fits s c.in-Done.is _ r.ensures r.auto.1.1.1.0 r.auto.1.1.1.1.0 r.auto.1.1.1.1.1.0 r.auto.1.1.1.1.1.1.0 r.auto.1.1.1.1.1.1.1.0 r.auto.1.1.1.1.1.1.1.1.0 r.auto.1.1.1.1.1.1.1.1.1.0 r.auto.1.1.1.1.1.1.1.1.1.1.0)
+    (s, ran_fits s c.in-Done.is _ r.ensures r.auto.modules_row r.auto.statements_row r.auto.used r.auto.external r.auto.json r.auto.reason r.auto.dead r.auto.helpers)
 
 shape_of-out-in-Refused : tie.Need-shape_of-out-in-Refused
 shape_of-out-in-Refused c = search rules

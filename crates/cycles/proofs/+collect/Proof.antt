@@ -83,7 +83,7 @@ collect-requires : (t : ℕ) → lts.Need-collect-c-requires (claims t) (at t) c
 collect-requires t c κs =
     (
       omega (arith, c.requires.0, c.if-fuel-eq0.false),
-      ((c.requires.1.0.0, c.requires.1.0.1, c.loop-u-test.true), room-below (started t c) c.loop-u.invariant.2),
+      ((c.requires.1.0.0, c.requires.1.0.1, c.loop-u-test.true), room-below (started t c.before.before.before) c.loop-u.invariant.2),
     )
 
 add-next-source : (t : ℕ) → lts.Need-overflow_add-u (claims t) (at t) collect.Post invariant-loop-u decreases-loop-u
@@ -99,11 +99,10 @@ loop-again : (t : ℕ) → lts.Need-loop-u-preserved (claims t) (at t) collect.P
 loop-again t c =
     let n = c.next_source-u-in-loop-u.ensures in
     let l = c.loop-u in
-    let k = c.collect-c.auto.1.1.1.1 in
     let h = c.loop-u-test.true in (
       n.inside,
       n.found,
-      go_step l.invariant.2 _ _ _ _ _ (sources_turn _ _ _ _ _ h (l.invariant.1 h) n) k.0 k.1.0 c.collect-c.ensures,
+      go_step l.invariant.2 _ _ _ _ _ (sources_turn _ _ _ _ _ h (l.invariant.1 h) n) c.collect-c.auto.seen c.collect-c.auto.group c.collect-c.ensures,
     )
 
 mul-group : (t : ℕ) → lts.Need-offset_bounds-group-c (claims t) (at t) collect.Post invariant-loop-u decreases-loop-u
@@ -129,8 +128,8 @@ pub +collect_spec : {M : Type 1} → statement M
 +collect_spec = close μ λ t. lts.spec (claims t)
     (at t)
     collect.Post
-    invariant-loop
-    decreases-loop
+    invariant-loop-u
+    decreases-loop-u
     (returns t)
     (test-requires t)
     (same_length t)

@@ -110,7 +110,7 @@ complete-requires : (t : ℕ) → lts.Need-complete-c-requires (claims t) (at t)
 complete-requires t c κs =
     let p = c.requires.1.0 in (
       omega (arith, c.requires.0, c.if-fuel-eq0.false),
-      ((p.0, rw c.wide-u.ensures (p.0.succ_below _ _ p.1 (omega (arith, c.loop-k-test.true)))), room-below (started t c) c.loop-k.invariant.1),
+      ((p.0, rw c.wide-u.ensures (p.0.succ_below _ _ p.1 (omega (arith, c.loop-k-test.true)))), room-below (started t c.before.before.before.before.before) c.loop-k.invariant.1),
     )
 
 add-k : (t : ℕ) → lts.Need-overflow_add-k-in-loop-k (claims t) (at t) complete.Post invariant-loop-k decreases-loop-k
@@ -122,10 +122,9 @@ loop-less t c = omega (arith, c.loop-k-test.true)
 loop-again : (t : ℕ) → lts.Need-loop-k-preserved (claims t) (at t) complete.Post invariant-loop-k decreases-loop-k
 loop-again t c =
     let l = c.loop-k in
-    let k = c.complete-c.auto.1.1.1.1.1.1 in
     let h = column t c.before.before.before.before.before.before.before.before.before in (
       omega (arith, h),
-      go_step l.invariant.1 _ _ _ _ _ (succs_turn _ _ _ _ _ _ c.loop-k-test.true c.wide-u.ensures) k.0 k.1.0 c.complete-c.ensures,
+      go_step l.invariant.1 _ _ _ _ _ (succs_turn _ _ _ _ _ _ c.loop-k-test.true c.wide-u.ensures) c.complete-c.auto.seen c.complete-c.auto.order c.complete-c.ensures,
     )
 
 mul-order : (t : ℕ) → lts.Need-offset_bounds-order-c (claims t) (at t) complete.Post invariant-loop-k decreases-loop-k
@@ -151,8 +150,8 @@ pub +complete_spec : {M : Type 1} → statement M
 +complete_spec = close μ λ t. lts.spec (claims t)
     (at t)
     complete.Post
-    invariant-loop
-    decreases-loop
+    invariant-loop-k
+    decreases-loop-k
     (returns t)
     (test-requires t)
     (same_length t)

@@ -38,9 +38,9 @@ loop-i-smaller c = omega (arith, c.loop-i-test.true)
 loop-i-preserved : tie.Need-loop-i-preserved invariant-loop-i decreases-loop-i
 loop-i-preserved c =
     let h = c.loop-i-test.true in
-    let k = c.complete-c.auto.1.1.1.1.1.1 in (
+    (
       omega (arith, h),
-      go_step c.loop-i.invariant.1 _ _ _ _ _ (nodes_turn _ _ c.requires.1.1.1 _ h) k.0 k.1.0 c.complete-c.ensures,
+      go_step c.loop-i.invariant.1 _ _ _ _ _ (nodes_turn _ _ c.requires.1.1.1 _ h) c.complete-c.auto.seen c.complete-c.auto.order c.complete-c.ensures,
     )
 
 shape_of-seen : tie.Need-shape_of-seen invariant-loop-i decreases-loop-i

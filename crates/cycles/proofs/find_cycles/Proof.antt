@@ -25,7 +25,7 @@ mark_cycles-requires c κs =
     let p = c.requires in
     let s = p.0 in
     let a = c.complete_all-count in
-    let k = a.auto.1.1.1.1.1.1.1.0 in (
+    let k = a.auto.order in (
       (s.few, s.edges_long),
       (
         (s.few, (λ j. zeros_unset 128 j), s.few),

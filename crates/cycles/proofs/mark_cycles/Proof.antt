@@ -45,7 +45,7 @@ mark_group-requires c κs =
     let below = preds_below c.args.modules c.args.edges.now in
     let few = group_few _ _ below _ _ w.ensures in
     let root = p.1.1.0.2 (c.loop-k.k - 1) (omega (arith, l.0, c.loop-k-test.true)) in
-    let k = w.auto.1.1.1.1.1.0 in
+    let k = w.auto.group in
     let e = l.3.others.same_length in (
       (omega (arith, few, p.0.0), omega (arith, few, k, l.2, p.1.0.2), group_below _ _ below _ _ w.ensures root),
       (omega (arith, e, p.1.1.1.0), omega (arith, e, p.1.1.1.1)),
@@ -59,8 +59,8 @@ loop-k-preserved-then-size-gt1 c =
     let l = c.loop-k.invariant in
     let w = c.collect-size in (
       omega (arith, l.0),
-      w.auto.1.1.1.1.0 ∙ l.1,
-      w.auto.1.1.1.1.1.0 ∙ l.2,
+      w.auto.seen ∙ l.1,
+      w.auto.group ∙ l.2,
       mark-all _ _ _ _ _ l.3 c.loop-k-test.true _ w.ensures c.if-size-gt1.true _ c.mark_group.ensures,
     )
 
@@ -72,8 +72,8 @@ loop-k-preserved c =
     let l = c.loop-k.invariant in
     let w = c.collect-size in (
       omega (arith, l.0),
-      w.auto.1.1.1.1.0 ∙ l.1,
-      w.auto.1.1.1.1.1.0 ∙ l.2,
+      w.auto.seen ∙ l.1,
+      w.auto.group ∙ l.2,
       mark-none _ _ _ _ _ l.3 c.loop-k-test.true _ w.ensures c.if-size-gt1.false,
     )
 

@@ -30,13 +30,13 @@ flag-requires c κs = omega arith
 show_dead_at_end-requires : tie.Need-show_dead_at_end-requires
 show_dead_at_end-requires c κs =
     let firsts = c.fill_first_records in
-    (c.requires.0, (c.requires.1.0, (omega (arith, firsts.auto.1.1.0, c.requires.1.1.0), firsts.ensures, omega (arith, c.clear.auto.row, c.requires.1.1.1, bytes_hold (record_count (graph_in c.args.numbers.now))))))
+    (c.requires.0, (c.requires.1.0, (omega (arith, firsts.auto.firsts, c.requires.1.1.0), firsts.ensures, omega (arith, c.clear.auto.row, c.requires.1.1.1, bytes_hold (record_count (graph_in c.args.numbers.now))))))
 
 show_found_dead-requires : tie.Need-show_found_dead-requires
 unfolding graph_in
 show_found_dead-requires c κs =
     let firsts = c.fill_first_records in
-    (c.requires.0, ((c.requires.1.0.long, omega (arith, c.clear.auto.row, c.requires.1.1.1, bytes_hold (record_count (graph_in c.args.numbers.now)))), (omega (arith, firsts.auto.1.1.0, c.requires.1.1.0), firsts.ensures)))
+    (c.requires.0, ((c.requires.1.0.long, omega (arith, c.clear.auto.row, c.requires.1.1.1, bytes_hold (record_count (graph_in c.args.numbers.now)))), (omega (arith, firsts.auto.firsts, c.requires.1.1.0), firsts.ensures)))
 
 shape_of-scratch-then-flag : tie.Need-shape_of-scratch-then-flag
 shape_of-scratch-then-flag c = c.show_dead_at_end.auto.scratch ∙ c.fill_first_records.auto.firsts

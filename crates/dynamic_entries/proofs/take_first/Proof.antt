@@ -78,9 +78,9 @@ loop-i-preserved c =
     let e = rw c.cycled_at-at.ensures at c.goes_first.ensures in
     let h = c.header_of-h.ensures in
     ⊎_elim
-    (λ w. rw (w.2, w.3) (turn-here _ _ _ _ _ c.requires.1 _ h _ _ _ i l _ o _ e w.0.taken _ w.1.ensures))
-    (λ w. rw (w.1, w.2) (turn-not _ _ _ _ _ c.requires.1 _ h _ _ _ i l _ o _ e w.0.left))
-    c.if-goes_first.branch
+    (λ w. rw (w.list-is, w.n-is) (turn-here _ _ _ _ _ c.requires.1 _ h _ _ _ i l _ o _ e w.if-goes_first.true _ w.narrow.ensures))
+    (λ w. rw (w.list-is, w.n-is) (turn-not _ _ _ _ _ c.requires.1 _ h _ _ _ i l _ o _ e w.if-goes_first.false))
+    c.if-goes_first.branch-raw
 
 shape_of-list : tie.Need-shape_of-list invariant-loop-i decreases-loop-i
 shape_of-list c = c.loop-i.invariant.fill.long

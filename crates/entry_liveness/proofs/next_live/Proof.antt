@@ -100,7 +100,7 @@ unfolding module_of_entry
 lets_live-requires c κs = let r = at_place c.before.before.before.before.before.before.before.before.before.before.before in (c.requires.0, ((rw (sym c.header_of-h.ensures) r.entry, rw (sym c.related_count-related.ensures) c.loop-k-test.true, c.requires.1.2), unused_is _ _ _ _ _ c.flag-unused.ensures c.flags.ensures c.entry_module-m.ensures.0))
 
 overflow_add-k : tie.Need-overflow_add-k invariant-loop-k decreases-loop-k invariant-entries decreases-entries
-overflow_add-k c = record { fits = omega (arith, c.loop-k-test.true, c.related_count-related.type-inv) }
+overflow_add-k c = record { fits = omega (arith, c.loop-k-test.true, c.related_count-related.type_inv) }
 
 loop-k-smaller : tie.Need-loop-k-smaller invariant-loop-k decreases-loop-k invariant-entries decreases-entries
 loop-k-smaller c = omega (arith, c.loop-k-test.true)
@@ -134,9 +134,9 @@ entries-preserved c =
     let cycled = c.cycled_at-cycled.ensures in
     let dead = c.dead_at-dead.ensures in
     ⊎_elim
-    (λ w. step-dead _ _ _ _ _ _ _ p _ h k _ m.0 m.1 (rw live at w.0.taken) (rw cycled at w.2.left) (search_end _ _ _ _ _ w.6.inv.1 _ w.5.ensures w.7.left) _ (rw dead at w.8))
-    (λ w. rw w.1 (step-live _ _ _ _ _ _ _ p _ h k _ m.0 m.1 (rw live at w.0.left)))
-    c.if-plan-live-ne1.branch
+    (λ w. step-dead _ _ _ _ _ _ _ p _ h k _ m.0 m.1 (rw live at w.if-plan-live-ne1.true) (rw cycled at w.if-plan-cycled-eq1.false) (search_end _ _ _ _ _ w.loop-k.invariant.1 _ w.related_count-related.ensures w.loop-k-test.false) _ (rw dead at w.plan-is))
+    (λ w. rw w.plan-is (step-live _ _ _ _ _ _ _ p _ h k _ m.0 m.1 (rw live at w.if-plan-live-ne1.false)))
+    c.if-plan-live-ne1.branch-raw
 
 shape_of-plan-after-entries : tie.Need-shape_of-plan-after-entries invariant-loop-k decreases-loop-k invariant-entries decreases-entries
 shape_of-plan-after-entries c = c.entries.invariant.written.same_length

@@ -60,7 +60,7 @@ loop-i-smaller : tie.Need-loop-i-smaller invariant-loop-i decreases-loop-i
 loop-i-smaller c = omega (arith, c.loop-i-test.true)
 
 loop-i-preserved : tie.Need-loop-i-preserved invariant-loop-i decreases-loop-i
-loop-i-preserved c = let w = c.loop-i.invariant in let k = c.start_one.auto in (k.1.1.0 ∙ w.0, k.1.1.1.0 ∙ w.1, k.1.1.1.1.0 ∙ w.2, omega (arith, c.loop-i-test.true), declaring-step _ _ _ c.declaring_count-declaring.ensures.0 _ _ _ _ _ _ _ _ w.4 c.loop-i-test.true _ _ c.owner-owner.ensures.0 c.declaring.ensures.0 _ _ _ _ (rw c.in-Lines.is at c.start_one.ensures))
+loop-i-preserved c = let w = c.loop-i.invariant in (c.start_one.auto.partners ∙ w.0, c.start_one.auto.marks ∙ w.1, c.start_one.auto.lines ∙ w.2, omega (arith, c.loop-i-test.true), declaring-step _ _ _ c.declaring_count-declaring.ensures.0 _ _ _ _ _ _ _ _ w.4 c.loop-i-test.true _ _ c.owner-owner.ensures.0 c.declaring.ensures.0 _ _ _ _ (rw c.in-Lines.is at c.start_one.ensures))
 
 shape_of-partners : tie.Need-shape_of-partners invariant-loop-i decreases-loop-i
 shape_of-partners c = search rules

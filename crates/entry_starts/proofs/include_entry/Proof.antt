@@ -63,7 +63,7 @@ loop-k-smaller : tie.Need-loop-k-smaller invariant-loop-k decreases-loop-k
 loop-k-smaller c = omega (arith, c.loop-k-test.true)
 
 loop-k-preserved : tie.Need-loop-k-preserved invariant-loop-k decreases-loop-k
-loop-k-preserved c = let w = c.loop-k.invariant in let k = c.include_reference.auto in (k.1.1.0 ∙ w.0, k.1.1.1.0 ∙ w.1, k.1.1.1.1.0 ∙ w.2, omega (arith, c.loop-k-test.true), referring-step _ _ _ c.entry_reference_count-references.ensures.0 _ _ _ _ _ _ _ _ w.4 c.loop-k-test.true _ c.entry_reference-s.ensures.0 _ _ _ _ (rw c.in-Lines.is at c.include_reference.ensures))
+loop-k-preserved c = let w = c.loop-k.invariant in (c.include_reference.auto.partners ∙ w.0, c.include_reference.auto.marks ∙ w.1, c.include_reference.auto.lines ∙ w.2, omega (arith, c.loop-k-test.true), referring-step _ _ _ c.entry_reference_count-references.ensures.0 _ _ _ _ _ _ _ _ w.4 c.loop-k-test.true _ c.entry_reference-s.ensures.0 _ _ _ _ (rw c.in-Lines.is at c.include_reference.ensures))
 
 start_one-requires : tie.Need-start_one-requires invariant-loop-k decreases-loop-k
 unfolding graph_in

@@ -18,7 +18,7 @@ effect c = c.flag.ensures ∙ ap (λ k. flag k c.bits-bits.result) c.effect_bit.
 
 -- what was not kept for its effect
 out : (c : tie.Joined-flag) → ((on_demand (graph_in c.args.numbers.now) (last_verdicts (graph_in c.args.numbers.now)) c.args.m.0 ≡ true) × (gated (graph_in c.args.numbers.now) c.args.m.0 c.args.i.0 ≡ true)) ⊎ (flag (effect_bit (graph_in c.args.numbers.now) c.args.m.0) c.bits-bits.result ≡ false)
-out c = ⊎_elim (λ w. inl (sym w.is_on_demand.ensures ∙ not-false _ w.if-not-is_on_demand.false, sym w.is_gated_side_effect_stmt.ensures ∙ not-false _ w.if-not-is_gated_side_effect_stmt.false)) (λ w. inr (sym (effect c.before) ∙ w.if-flag.false)) c.if-flag.branch-raw
+out c = ⊎_elim (λ w. inl (sym w.is_on_demand.ensures ∙ w.if-not-is_on_demand.false, sym w.is_gated_side_effect_stmt.ensures ∙ w.if-not-is_gated_side_effect_stmt.false)) (λ w. inr (sym (effect c.before) ∙ w.if-flag.false)) c.if-flag.branch-raw
 
 bits-bits-requires : tie.Need-bits-bits-requires
 bits-bits-requires c κs = (c.requires.0.loaded, c.requires.1)

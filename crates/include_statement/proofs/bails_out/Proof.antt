@@ -12,7 +12,7 @@ use Rattle.include_statement.proofs.bails_out.Tie as tie
 
 -- no bare import of a module without effects
 past : (c : tie.Joined-flag) → (has_effects (last_verdicts (graph_in c.args.numbers.now)) c.args.t.0 ≡ true) ⊎ (flag 1 c.import_record_bits.result ≡ false)
-past c = ⊎_elim (λ w. inl (sym w.has_effects.ensures ∙ not-false _ w.if-not-has_effects.false)) (λ w. inr (sym c.flag.ensures ∙ w.if-flag.false)) c.if-flag.branch-raw
+past c = ⊎_elim (λ w. inl (sym w.has_effects.ensures ∙ w.if-not-has_effects.false)) (λ w. inr (sym c.flag.ensures ∙ w.if-flag.false)) c.if-flag.branch-raw
 
 is_normal-requires : tie.Need-is_normal-requires
 is_normal-requires c κs = (c.requires.0.loaded, c.requires.1.1)

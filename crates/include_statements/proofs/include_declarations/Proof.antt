@@ -59,7 +59,7 @@ loop-c-smaller : tie.Need-loop-c-smaller invariant-loop-c decreases-loop-c
 loop-c-smaller c = turn_less _ _ c.loop-c-test.true
 
 loop-c-preserved : tie.Need-loop-c-preserved invariant-loop-c decreases-loop-c
-loop-c-preserved c = let v = c.loop-c.invariant in let a = c.give in (a.auto.1.1.0 ∙ v.0, a.auto.1.1.1.0 ∙ v.1, segment-step _ _ _ _ _ _ _ _ _ _ _ v.2 c.declaration_candidates-count.ensures c.loop-c-test.true _ c.declaration_candidate-candidate.ensures.0 _ _ _ _ c.in-Lines.is a.ensures)
+loop-c-preserved c = let v = c.loop-c.invariant in let a = c.give in (a.auto.marks ∙ v.0, a.auto.lines ∙ v.1, segment-step _ _ _ _ _ _ _ _ _ _ _ v.2 c.declaration_candidates-count.ensures c.loop-c-test.true _ c.declaration_candidate-candidate.ensures.0 _ _ _ _ c.in-Lines.is a.ensures)
 
 shape_of-marks : tie.Need-shape_of-marks invariant-loop-c decreases-loop-c
 shape_of-marks c = c.loop-c.invariant.0

@@ -63,7 +63,7 @@ loop-r-smaller : tie.Need-loop-r-smaller invariant-loop-r decreases-loop-r
 loop-r-smaller c = turn_less _ _ c.loop-r-test.true
 
 loop-r-preserved : tie.Need-loop-r-preserved invariant-loop-r decreases-loop-r
-loop-r-preserved c = let v = c.loop-r.invariant in let a = c.include_reference in (a.auto.1.1.0 ∙ v.0, a.auto.1.1.1.0 ∙ v.1, stand_next _ _ _ _ _ _ c.reference_count-count.ensures.0 c.loop-r-test.true v.2 _ c.reference_width-place.ensures, references-next _ _ _ _ _ _ _ _ _ _ _ _ c.reference_count-count.ensures.0 v.3 c.loop-r-test.true _ _ _ _ c.in-Lines.is a.ensures)
+loop-r-preserved c = let v = c.loop-r.invariant in let a = c.include_reference in (a.auto.marks ∙ v.0, a.auto.lines ∙ v.1, stand_next _ _ _ _ _ _ c.reference_count-count.ensures.0 c.loop-r-test.true v.2 _ c.reference_width-place.ensures, references-next _ _ _ _ _ _ _ _ _ _ _ _ c.reference_count-count.ensures.0 v.3 c.loop-r-test.true _ _ _ _ c.in-Lines.is a.ensures)
 
 shape_of-marks : tie.Need-shape_of-marks invariant-loop-r decreases-loop-r
 shape_of-marks c = c.loop-r.invariant.0

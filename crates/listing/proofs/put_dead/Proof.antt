@@ -51,7 +51,7 @@ loop-m-preserved c =
     let p = c.put_dead_of-end in
     let i = c.loop-m.invariant in
     let n = c.import_record_count-size.ensures in (
-      go_more i.0 c.loop-m-test.true p.auto.1.1.1.1.1.1.0 (emits_as (dead_are _ _ _ _ _ i.2 n.0) p.ensures.0),
+      go_more i.0 c.loop-m-test.true p.auto.out (emits_as (dead_are _ _ _ _ _ i.2 n.0) p.ensures.0),
       omega (arith, i.1, p.ensures.1),
       omega (arith, i.2, records_next _ _ _ n.0),
       omega (arith, i.3, n.1),

@@ -32,7 +32,7 @@ loop-k-preserved : tie.Need-loop-k-preserved invariant-loop-k decreases-loop-k
 loop-k-preserved c =
     let p = c.put_entry-end in
     let i = c.loop-k.invariant in
-    (go_more i.0 c.loop-k-test.true p.auto.1.1.1.1.1.1.0 p.ensures.0, omega (arith, i.1, p.ensures.1))
+    (go_more i.0 c.loop-k-test.true p.auto.out p.ensures.0, omega (arith, i.1, p.ensures.1))
 
 shape_of-out : tie.Need-shape_of-out invariant-loop-k decreases-loop-k
 shape_of-out c = c.loop-k.invariant.0.long

@@ -32,7 +32,7 @@ loop-s-preserved : tie.Need-loop-s-preserved invariant-loop-s decreases-loop-s
 loop-s-preserved c =
     let p = c.put_json_symbol-end in
     let i = c.loop-s.invariant in
-    (go_more i.0 c.loop-s-test.true p.auto.1.1.1.1.1.1.1.0 p.ensures.0, omega (arith, i.1, p.ensures.1))
+    (go_more i.0 c.loop-s-test.true p.auto.out p.ensures.0, omega (arith, i.1, p.ensures.1))
 
 shape_of-out : tie.Need-shape_of-out invariant-loop-s decreases-loop-s
 shape_of-out c = c.loop-s.invariant.0.long

@@ -32,7 +32,7 @@ loop-m-preserved : tie.Need-loop-m-preserved invariant-loop-m decreases-loop-m
 loop-m-preserved c =
     let p = c.put_module-end in
     let i = c.loop-m.invariant in
-    (go_more i.0 c.loop-m-test.true p.auto.1.1.1.1.1.1.1.1.1.0 p.ensures.0, omega (arith, i.1, p.ensures.1))
+    (go_more i.0 c.loop-m-test.true p.auto.out p.ensures.0, omega (arith, i.1, p.ensures.1))
 
 shape_of-out : tie.Need-shape_of-out invariant-loop-m decreases-loop-m
 shape_of-out c = c.loop-m.invariant.0.long

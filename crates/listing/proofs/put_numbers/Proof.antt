@@ -36,7 +36,7 @@ loop-i-preserved : tie.Need-loop-i-preserved invariant-loop-i decreases-loop-i
 loop-i-preserved c =
     let p = c.put_number-end in
     let l = c.loop-i in
-    (go_more l.invariant.0 c.loop-i-test.true p.auto.1.1.1.0 p.ensures.0, omega (arith, l.invariant.1, p.ensures.1))
+    (go_more l.invariant.0 c.loop-i-test.true p.auto.out p.ensures.0, omega (arith, l.invariant.1, p.ensures.1))
 
 put_byte-requires : tie.Need-put_byte-requires invariant-loop-i decreases-loop-i
 put_byte-requires c κs = search rules

@@ -38,7 +38,7 @@ loop-i-preserved : tie.Need-loop-i-preserved invariant-loop-i decreases-loop-i
 loop-i-preserved c =
     let p = c.put_line_if-end in
     let i = c.loop-i.invariant in
-    (go_more i.0 c.loop-i-test.true p.auto.1.1.1.1.1.0 (emits_as (pair_is _ _ _ _ _ _ c.test.ensures) p.ensures.0), omega (arith, i.1, p.ensures.1))
+    (go_more i.0 c.loop-i-test.true p.auto.out (emits_as (pair_is _ _ _ _ _ _ c.test.ensures) p.ensures.0), omega (arith, i.1, p.ensures.1))
 
 shape_of-out : tie.Need-shape_of-out invariant-loop-i decreases-loop-i
 shape_of-out c = c.loop-i.invariant.0.long

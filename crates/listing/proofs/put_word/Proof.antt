@@ -32,7 +32,7 @@ loop-i-preserved : tie.Need-loop-i-preserved invariant-loop-i decreases-loop-i
 loop-i-preserved c =
     let p = c.put_byte-end in
     let l = c.loop-i in
-    (go_more l.invariant.0 c.loop-i-test.true p.auto.1.1.1.0 p.ensures, omega (arith, l.invariant.1, p.ensures.counts))
+    (go_more l.invariant.0 c.loop-i-test.true p.auto.out p.ensures, omega (arith, l.invariant.1, p.ensures.counts))
 
 shape_of-out : tie.Need-shape_of-out invariant-loop-i decreases-loop-i
 shape_of-out c = c.loop-i.invariant.0.long

@@ -42,9 +42,9 @@ loop-k-preserved c =
     let m = c.loop-k.invariant in
     let l : c.loop-k.k < c.args.count = omega (arith, c.loop-k-test.true) in
     ⊎_elim
-    (λ w. marking-set _ _ _ _ _ _ m l _ c.fact_at-fact.ensures _ _ _ _ c.stays.ensures w.0.taken w.2.ensures.0 w.3.kept.0 w.3.ensures w.6)
-    (λ w. marking-passed _ _ _ _ _ _ m l _ c.fact_at-fact.ensures _ _ c.stays.ensures w.0.left w.1)
-    c.if-stays.branch
+    (λ w. marking-set _ _ _ _ _ _ m l _ c.fact_at-fact.ensures _ _ _ _ c.stays.ensures w.if-stays.true w.mark_of.ensures.0 w.set.auto.row w.set.ensures w.marks-is)
+    (λ w. marking-passed _ _ _ _ _ _ m l _ c.fact_at-fact.ensures _ _ c.stays.ensures w.if-stays.false w.marks-is)
+    c.if-stays.branch-raw
 
 shape_of-marks : tie.Need-shape_of-marks invariant-loop-k decreases-loop-k
 shape_of-marks c = search rules

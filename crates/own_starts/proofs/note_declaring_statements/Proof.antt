@@ -39,7 +39,7 @@ loop-i-smaller : tie.Need-loop-i-smaller invariant-loop-i decreases-loop-i
 loop-i-smaller c = omega (arith, c.loop-i-test.true)
 
 loop-i-preserved : tie.Need-loop-i-preserved invariant-loop-i decreases-loop-i
-loop-i-preserved c = let w = c.loop-i.invariant in let t = c.note-total in (t.auto.1.1.0 ∙ w.0, t.auto.1.1.1.0 ∙ w.1, omega (arith, c.loop-i-test.true), along_step _ _ _ _ _ _ _ _ _ _ _ (declared-next _ _ _ c.declaring_count-declaring.ensures.0 _ c.loop-i-test.true _ _ c.owner-owner.ensures.0 c.declaring.ensures.0) w.3 _ _ _ t.ensures)
+loop-i-preserved c = let w = c.loop-i.invariant in let t = c.note-total in (t.auto.seen ∙ w.0, t.auto.out ∙ w.1, omega (arith, c.loop-i-test.true), along_step _ _ _ _ _ _ _ _ _ _ _ (declared-next _ _ _ c.declaring_count-declaring.ensures.0 _ c.loop-i-test.true _ _ c.owner-owner.ensures.0 c.declaring.ensures.0) w.3 _ _ _ t.ensures)
 
 shape_of-seen : tie.Need-shape_of-seen invariant-loop-i decreases-loop-i
 shape_of-seen c = search rules

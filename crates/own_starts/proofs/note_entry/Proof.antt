@@ -42,7 +42,7 @@ loop-k-smaller : tie.Need-loop-k-smaller invariant-loop-k decreases-loop-k
 loop-k-smaller c = omega (arith, c.loop-k-test.true)
 
 loop-k-preserved : tie.Need-loop-k-preserved invariant-loop-k decreases-loop-k
-loop-k-preserved c = let w = c.loop-k.invariant in let t = c.note_reference-total in (t.auto.1.1.0 ∙ w.0, t.auto.1.1.1.0 ∙ w.1, omega (arith, c.loop-k-test.true), along_step _ _ _ _ _ _ _ _ _ _ _ (referred_next _ _ _ c.entry_reference_count-references.ensures.0 _ c.loop-k-test.true _ c.entry_reference-s.ensures.0) w.3 _ _ _ t.ensures)
+loop-k-preserved c = let w = c.loop-k.invariant in let t = c.note_reference-total in (t.auto.seen ∙ w.0, t.auto.out ∙ w.1, omega (arith, c.loop-k-test.true), along_step _ _ _ _ _ _ _ _ _ _ _ (referred_next _ _ _ c.entry_reference_count-references.ensures.0 _ c.loop-k-test.true _ c.entry_reference-s.ensures.0) w.3 _ _ _ t.ensures)
 
 note-requires : tie.Need-note-requires invariant-loop-k decreases-loop-k
 unfolding graph_in

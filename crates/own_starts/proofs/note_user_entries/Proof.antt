@@ -49,7 +49,7 @@ loop-i-preserved c =
     let w = c.loop-i.invariant in
     let l = c.loop-i-test.true in
     let t = c.note_user_entry-total in
-    (t.auto.1.1.0 ∙ w.0, t.auto.1.1.1.0 ∙ w.1, omega (arith, l), along_step _ _ _ _ _ _ _ _ _ _ _ (users_next _ _ _ c.requires.1.1 _ l _ c.entry_module-m.ensures.0) w.3 _ _ _ t.ensures)
+    (t.auto.seen ∙ w.0, t.auto.out ∙ w.1, omega (arith, l), along_step _ _ _ _ _ _ _ _ _ _ _ (users_next _ _ _ c.requires.1.1 _ l _ c.entry_module-m.ensures.0) w.3 _ _ _ t.ensures)
 
 shape_of-seen : tie.Need-shape_of-seen invariant-loop-i decreases-loop-i
 shape_of-seen c = search rules

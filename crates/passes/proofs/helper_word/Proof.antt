@@ -56,7 +56,7 @@ loop-k-smaller : tie.Need-loop-k-smaller invariant-loop-k decreases-loop-k
 loop-k-smaller c = omega (arith, c.loop-k-test.true)
 
 loop-k-preserved : tie.Need-loop-k-preserved invariant-loop-k decreases-loop-k
-loop-k-preserved c = let v = c.loop-k.invariant in let taken = c.loop-k-test.true in let few = few_bits taken (ap (λ (x : Header). x.helpers) c.header_of-h.ensures) (helpers_few c.requires.0.loaded) in let says = c.needs_helper.ensures in (v.0, omega (arith, taken), ⊎_elim (λ w. word_set _ _ _ few v.2 w.1 (sym says ∙ w.0.taken)) (λ w. word_kept _ _ _ few v.2 w.1 (sym says ∙ w.0.left)) c.if-needs_helper.branch)
+loop-k-preserved c = let v = c.loop-k.invariant in let taken = c.loop-k-test.true in let few = few_bits taken (ap (λ (x : Header). x.helpers) c.header_of-h.ensures) (helpers_few c.requires.0.loaded) in let says = c.needs_helper.ensures in (v.0, omega (arith, taken), ⊎_elim (λ w. word_set _ _ _ few v.2 w.word-is (sym says ∙ w.if-needs_helper.true)) (λ w. word_kept _ _ _ few v.2 w.word-is (sym says ∙ w.if-needs_helper.false)) c.if-needs_helper.branch-raw)
 
 returns : tie.Need-returns invariant-loop-k decreases-loop-k
 unfolding helper_word graph_in

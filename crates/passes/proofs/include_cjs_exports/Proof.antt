@@ -65,7 +65,7 @@ loop-k-smaller : tie.Need-loop-k-smaller invariant-loop-k decreases-loop-k
 loop-k-smaller c = omega (arith, c.loop-k-test.true)
 
 loop-k-preserved : tie.Need-loop-k-preserved invariant-loop-k decreases-loop-k
-loop-k-preserved c = let v = c.loop-k.invariant in let size = c.resolved_export_count-exports.ensures.0 in let inside = c.loop-k-test.true in let is = c.resolved_export_from_commonjs.ensures in ⊎_elim (λ w. (ap length w.15 ∙ w.5.kept.1.1.0 ∙ v.0, ap length w.16 ∙ w.5.kept.1.1.1.0 ∙ v.1, ap length w.17 ∙ w.5.kept.1.1.1.1.0 ∙ v.2, omega (arith, inside), along_same _ _ _ _ _ _ _ _ (exporting-step _ _ _ _ size _ _ _ _ _ _ _ v.4 inside _ is w.0.taken _ w.1.ensures.0 _ _ _ _ (rw w.13.given.1 at w.5.ensures)) w.15 w.16 w.17 w.18)) (λ w. (ap length w.1 ∙ v.0, ap length w.2 ∙ v.1, ap length w.3 ∙ v.2, omega (arith, inside), along_same _ _ _ _ _ _ _ _ (exporting-other _ _ _ _ size _ _ _ _ _ _ _ v.4 inside _ is w.0.left) w.1 w.2 w.3 w.4)) c.if-resolved_export_from_commonjs-eq1.branch
+loop-k-preserved c = let v = c.loop-k.invariant in let size = c.resolved_export_count-exports.ensures.0 in let inside = c.loop-k-test.true in let is = c.resolved_export_from_commonjs.ensures in ⊎_elim (λ w. (ap length w.partners-is ∙ w.start_one.auto.partners ∙ v.0, ap length w.marks-is ∙ w.start_one.auto.marks ∙ v.1, ap length w.lines-is ∙ w.start_one.auto.lines ∙ v.2, omega (arith, inside), along_same _ _ _ _ _ _ _ _ (exporting-step _ _ _ _ size _ _ _ _ _ _ _ v.4 inside _ is w.if-resolved_export_from_commonjs-eq1.true _ w.resolved_export_symbol-s.ensures.0 _ _ _ _ (rw w.in-Lines.is at w.start_one.ensures)) w.partners-is w.marks-is w.lines-is w.total-is)) (λ w. (ap length w.partners-is ∙ v.0, ap length w.marks-is ∙ v.1, ap length w.lines-is ∙ v.2, omega (arith, inside), along_same _ _ _ _ _ _ _ _ (exporting-other _ _ _ _ size _ _ _ _ _ _ _ v.4 inside _ is w.if-resolved_export_from_commonjs-eq1.false) w.partners-is w.marks-is w.lines-is w.total-is)) c.if-resolved_export_from_commonjs-eq1.branch-raw
 
 shape_of-partners : tie.Need-shape_of-partners invariant-loop-k decreases-loop-k
 shape_of-partners c = search rules

@@ -57,7 +57,7 @@ loop-m-smaller : tie.Need-loop-m-smaller invariant-loop-m decreases-loop-m
 loop-m-smaller c = omega (arith, c.loop-m-test.true)
 
 loop-m-preserved : tie.Need-loop-m-preserved invariant-loop-m decreases-loop-m
-loop-m-preserved c = let q = ap (λ (x : Header). x.modules) c.header_of-h.ensures in let v = c.loop-m.invariant in let taken = c.loop-m-test.true in let l = word_place taken q in let is = word_is c.args.plan.now _ _ c.loop-m.m v.1 (c.requires.1.1 _ l) in let say = c.flag.ensures in (v.0, v.1, omega (arith, taken), ⊎_elim (λ w. uniting-lost _ _ _ _ _ v.3 l _ is _ say (sym (w.1.ensures ∙ module_marked _ _ _) ∙ w.2.left)) (λ w. uniting-without _ _ _ _ _ v.3 l _ is _ say w.left) c.if-flag.branch)
+loop-m-preserved c = let q = ap (λ (x : Header). x.modules) c.header_of-h.ensures in let v = c.loop-m.invariant in let taken = c.loop-m-test.true in let l = word_place taken q in let is = word_is c.args.plan.now _ _ c.loop-m.m v.1 (c.requires.1.1 _ l) in let say = c.flag.ensures in (v.0, v.1, omega (arith, taken), ⊎_elim (λ w. uniting-lost _ _ _ _ _ v.3 l _ is _ say (sym (w.test.ensures ∙ module_marked _ _ _) ∙ w.if-test.false)) (λ w. uniting-without _ _ _ _ _ v.3 l _ is _ say w.if-flag.false) c.if-flag.branch-raw)
 
 returns : tie.Need-returns invariant-loop-m decreases-loop-m
 returns c = uniting-over _ _ _ _ _ c.loop-m.invariant.3 (omega (arith, c.loop-m-test.false, ap (λ (x : Header). x.modules) c.header_of-h.ensures))

@@ -48,7 +48,7 @@ loop-k-smaller : tie.Need-loop-k-smaller invariant-loop-k decreases-loop-k
 loop-k-smaller c = omega (arith, c.loop-k-test.true)
 
 loop-k-preserved : tie.Need-loop-k-preserved invariant-loop-k decreases-loop-k
-loop-k-preserved c = let size = c.helper_count-rows.ensures.0 in let left = c.loop-k.invariant.1 in let inside = c.loop-k-test.true in let is = c.helper.ensures.0 in (omega arith, ⊎_elim (λ w. needing-not _ _ _ _ _ size _ left inside _ is w.0.taken _ w.2.ensures.0 _ w.3.ensures (sym c.requires.1.1 ∙ w.1.left) w.4.left) (λ w. needing-other _ _ _ _ _ size _ left inside _ is w.left) c.if-helper.branch)
+loop-k-preserved c = let size = c.helper_count-rows.ensures.0 in let left = c.loop-k.invariant.1 in let inside = c.loop-k-test.true in let is = c.helper.ensures.0 in (omega arith, ⊎_elim (λ w. needing-not _ _ _ _ _ size _ left inside _ is w.if-helper.true _ w.helper_statement-i.ensures.0 _ w.is_marked.ensures (sym c.requires.1.1 ∙ w.if-all.false) w.if-is_marked.false) (λ w. needing-other _ _ _ _ _ size _ left inside _ is w.if-helper.false) c.if-helper.branch-raw)
 
 returns : tie.Need-returns invariant-loop-k decreases-loop-k
 returns c = needing-over _ _ _ _ _ c.helper_count-rows.ensures.0 _ c.loop-k.invariant.1 c.loop-k-test.false

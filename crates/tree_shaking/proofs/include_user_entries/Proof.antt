@@ -62,7 +62,7 @@ loop-i-smaller c = omega (arith, c.loop-i-test.true)
 
 loop-i-preserved : tie.Need-loop-i-preserved invariant-loop-i decreases-loop-i
 unfolding module_of_entry
-loop-i-preserved c = let w = c.loop-i.invariant in let k = c.include_user_entry.auto in (k.1.1.0 ∙ w.0, k.1.1.1.0 ∙ w.1, k.1.1.1.1.0 ∙ w.2, omega (arith, c.loop-i-test.true), users-step _ _ _ c.requires.1.1 _ _ _ _ _ w.4 c.loop-i-test.true _ c.entry_module-m.ensures.0 _ _ _ _ (rw c.in-Lines.is at c.include_user_entry.ensures))
+loop-i-preserved c = let w = c.loop-i.invariant in (c.include_user_entry.auto.partners ∙ w.0, c.include_user_entry.auto.marks ∙ w.1, c.include_user_entry.auto.lines ∙ w.2, omega (arith, c.loop-i-test.true), users-step _ _ _ c.requires.1.1 _ _ _ _ _ w.4 c.loop-i-test.true _ c.entry_module-m.ensures.0 _ _ _ _ (rw c.in-Lines.is at c.include_user_entry.ensures))
 
 shape_of-partners : tie.Need-shape_of-partners invariant-loop-i decreases-loop-i
 shape_of-partners c = c.loop-i.invariant.0

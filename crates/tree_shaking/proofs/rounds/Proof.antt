@@ -100,11 +100,11 @@ loop-made-preserved : tie.Need-loop-made-preserved invariant-loop-made decreases
 unfolding graph_in
 loop-made-preserved c =
     let t = c.loop-made.invariant in
-    let k = c.round.auto in (
-      k.1.1.0 ∙ t.0,
-      k.1.1.1.0 ∙ t.1,
-      k.1.1.1.1.0 ∙ t.2,
-      k.1.1.1.1.1.0 ∙ t.3,
+    (
+      c.round.auto.partners ∙ t.0,
+      c.round.auto.marks ∙ t.1,
+      c.round.auto.lines ∙ t.2,
+      c.round.auto.plan ∙ t.3,
       turn_next _ _ _ _ _ _ _ _ _ _ t.4 (at-round c.before.before.before.before.before.before.before.before.before.before.before.before.before.before.before.before.before) _ _ _ _ _ (rw c.in-Lines.is at c.round.ensures) _ c.live_before-live.ensures _ c.goes_on.ensures (c.if-not-goes_on.false),
     )
 

@@ -72,12 +72,11 @@ loop-i-preserved c =
     let t = c.loop-i.invariant in
     let h = at_entry c.before.before.before.before.before.before.before.before.before.before.before.before.before.before.before.before.before.before in
     let e = c.include_live_entry.ensures in
-    let k = c.include_live_entry.auto in
     let s = rw c.in-Lines.is at e.0 in (
-      k.1.1.0 ∙ t.0,
-      k.1.1.1.0 ∙ t.1,
-      k.1.1.1.1.0 ∙ t.2,
-      c.next_live-i-in-loop-i.auto.plan ∙ k.1.1.1.1.1.0 ∙ t.3,
+      c.include_live_entry.auto.partners ∙ t.0,
+      c.include_live_entry.auto.marks ∙ t.1,
+      c.include_live_entry.auto.lines ∙ t.2,
+      c.next_live-i-in-loop-i.auto.plan ∙ c.include_live_entry.auto.plan ∙ t.3,
       trying_on _ _ _ _ _ _ _ _ (turn-working _ _ _ _ _ _ _ _ _ t.4 h e.2 _ e.1 _ _ _ _ s) _ (turn_planned _ _ _ _ _ _ _ _ _ t.4 h e.2 _ e.1) _ _ c.next_live-i-in-loop-i.ensures (turn_on _ _ _ _ _ _ _ _ _ t.4 h e.2 _ e.1 _ _ _ _ s),
     )
 

@@ -35,7 +35,7 @@ returns-then-line-eq0 c = join-alone _ _ _ _ _ _ _ _ c.requires.1.1.0 _ c.in-For
 
 -- the name of the module's line
 named : (c : tie.Joined-line-stage) → c.if-line-stage.name ≡ name_of c.args.stage.base (get_or c.args.partners.now c.owner-owner.result.0 0)
-named c = ⊎_elim (λ w. w.1 ∙ sym (name_old _ _ w.0.taken)) (λ w. w.1 ∙ sym (name_own _ _ w.0.left)) c.if-line-stage.branch
+named c = ⊎_elim (λ w. w.name-is ∙ sym (name_old _ _ w.if-line-stage.true)) (λ w. w.name-is ∙ sym (name_own _ _ w.if-line-stage.false)) c.if-line-stage.branch-raw
 
 overflow_add-k : tie.Need-overflow_add-k
 overflow_add-k c = record { fits = omega (arith, c.requires.1.1.1.2, held_few c.requires.0.loaded _ _ _ _ c.requires.1.0, c.requires.1.0.base_few, marks_few c.requires.0.loaded) }

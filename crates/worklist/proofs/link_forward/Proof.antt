@@ -53,7 +53,7 @@ its c =
 
 -- the table where the branches meet is as long as it was
 as_long : (c : tie.Joined-last-eq0) → length c.if-last-eq0.partners ≡ length c.args.partners.now
-as_long c = ⊎_elim (λ w. set_long c.args.partners.now (c.firsts_at-firsts.result + c.owner-owner.result.0) (c.args.k + 1) w.2) (λ w. set_long c.args.partners.now (c.nexts_at-nexts.result + w.2.result) (c.args.k + 1) w.3) c.if-last-eq0.branch
+as_long c = ⊎_elim (λ w. set_long c.args.partners.now (c.firsts_at-firsts.result + c.owner-owner.result.0) (c.args.k + 1) w.partners-is) (λ w. set_long c.args.partners.now (c.nexts_at-nexts.result + w.first_part-before.result) (c.args.k + 1) w.partners-is) c.if-last-eq0.branch-raw
 
 -- what was the last forward's symbol
 before : (c : tie.After-first_part-before) → c.first_part-before.result < (graph_in c.args.numbers.now).header.symbols
@@ -150,9 +150,9 @@ returns c = let n = its c.before.before.before.before.before in
     let nexts = c.nexts_at-nexts.ensures in
     let o : c.owner-owner.result.0 < (graph_in c.args.numbers.now).header.modules = omega (arith, n.0, n.1) in
     rw (lasts, nexts) (⊎_elim
-    (λ w. written-first _ _ _ _ _ _ c.requires.1.0 _ c.requires.1.1 _ refl _ n.8 o _ n.0 _ (rw lasts at w.0.taken) (rw firsts at w.2))
-    (λ w. written_behind _ _ _ _ _ _ c.requires.1.0 _ c.requires.1.1 _ refl _ n.8 o _ n.0 _ (rw lasts at w.0.left) _ (rw lasts at (w.2.ensures ∙ ap first_part w.1.ensures)) (rw nexts at w.3))
-    c.if-last-eq0.branch)
+    (λ w. written-first _ _ _ _ _ _ c.requires.1.0 _ c.requires.1.1 _ refl _ n.8 o _ n.0 _ (rw lasts at w.if-last-eq0.true) (rw firsts at w.partners-is))
+    (λ w. written_behind _ _ _ _ _ _ c.requires.1.0 _ c.requires.1.1 _ refl _ n.8 o _ n.0 _ (rw lasts at w.if-last-eq0.false) _ (rw lasts at (w.first_part-before.ensures ∙ ap first_part w.fact_at.ensures)) (rw nexts at w.partners-is))
+    c.if-last-eq0.branch-raw)
 
 pub link_forward_spec : {M : Type 1} → statement M
 link_forward_spec =
