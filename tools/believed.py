@@ -18,7 +18,7 @@ import sys
 from functools import cache
 from pathlib import Path
 
-BOUNDARY = "host/src/lib.rt"
+BOUNDARY = "host_c/src/lib.rt"
 THEOREMS = [
     "closed_choices/specs/*.antt",
     "other_options/specs/*.antt",
@@ -44,9 +44,10 @@ BEGIN, END = "<!-- believed: begin -->", "<!-- believed: end -->"
 
 ROOT = Path(__file__).resolve().parent.parent
 CRATES = ROOT / "crates"
-ORDER = re.findall(r"^(\w+):", (ROOT / "crates.txt").read_text(), re.M)
+ORDER = re.findall(r"^(\w+)(?: staticlib)?:", (ROOT / "crates.txt").read_text(), re.M)
 
 USE = re.compile(r"^(?:ghost )?use\s+([^;{}]*)\.\{([^}]*)\}", re.M)
+PASSED_ON = re.compile(r"^pub use Rattle\.(\w+)\.specs(?:\.(\w+))?(?: as (\w+))?$", re.M)
 HEAD = re.compile(r"(?:pub |unfoldable |abbrev )*(?:(record|data) )?(\S+)(?: |$)(:?)")
 
 # What can be believed is a triple: crate, spec file and definition; or crate, None and a type that is declared in the code.
@@ -58,24 +59,43 @@ def words(text):
 
 
 def spellings(name):
-    """A name, and for an operator such as _≡_ also the words by which it is used."""
-    parts = name.split("_") if "_" in name else []
+    """A name, and for an operator such as ◌≡◌ also the words by which it is used."""
+    parts = name.split("◌") if "◌" in name else []
     return [n.strip("«»") for n in [name, *parts] if n]
+
+
+@cache
+def passed_on(crate):
+    """The crates that a crate passes on to those above, by the names that these use: of each the crate that it comes from, and its name there."""
+    lib = CRATES / crate / "specs" / "Lib.antt"
+    found = PASSED_ON.findall(lib.read_text()) if lib.is_file() else []
+    return {here or inner: (below, inner) for below, inner, here in found}
+
+
+def at_home(crate, inside):
+    """The crate in which a path ends, and what is left of the path."""
+    while inside and inside[0] in passed_on(crate):
+        crate, inner = passed_on(crate)[inside[0]]
+        inside = [*filter(None, [inner]), *inside[1:]]
+    return crate, inside
 
 
 def imports(text):
     """The names that a file brings in from crates, and what each stands for."""
     names = {}
     for path, listed in USE.findall(text):
-        if not path.startswith("Rattle·"):
+        origin, crate, *rest = path.split(".")
+        if origin != "Rattle" or crate not in ORDER:
             continue
-        crate, specs, *inside = path.removeprefix("Rattle·").split(".")
-        if specs != "specs":
+        if rest[0] != "specs":
             sys.exit(f"not understood: use {path}")
+        crate, inside = at_home(crate, rest[1:])
         for one in " ".join(listed.split()).split(","):
             name, _, here = one.strip().partition(" as ")
-            file = None if inside[0] == "declared" else "specs/" + "/".join(inside) + ".antt"
-            target = crate.removesuffix("·specs"), file, name.strip("«»") if file else inside[1]
+            if inside[0] == "declared":
+                target = crate, None, [w for w in inside if w != "TheVariants"][-1]
+            else:
+                target = crate, "specs/" + "/".join(inside) + ".antt", name.strip("«»")
             names.update((s, target) for s in spellings(here or name))
     return names
 
@@ -88,7 +108,7 @@ class Spec:
         self.definitions, constructors = {}, {}
         name, kind, module = None, None, ""
         for line in USE.sub("", text).splitlines():
-            if not line.strip() or line.startswith(("pub mod ", "unfolding ", "infix")):
+            if not line.strip() or line.startswith(("pub mod ", "pub use ", "unfolding ", "infix")):
                 continue
             if module and line.startswith("  "):
                 line = line[2:]
@@ -119,6 +139,15 @@ def code(crate):
     return re.sub(r"//.*", "", "\n".join(p.read_text() for p in sorted((CRATES / crate / "src").glob("**/*.rt"))))
 
 
+def used_types(text):
+    """The types that a code brings in from crates, by name."""
+    types = {}
+    for crate, path, listed in re.findall(r"^use (\w+)((?:::\w+)*)::(\w+|\{[^{}]*\});", text, re.M):
+        home, _ = at_home(crate, path.split("::")[1:])
+        types.update((n, (home, None, n)) for n in re.findall(r"\b[A-Z]\w*", listed) if crate in ORDER)
+    return types
+
+
 def cited(crate, file, name):
     """What a definition cites, or a type of the code: there the types of its fields."""
     if file:
@@ -127,7 +156,7 @@ def cited(crate, file, name):
     body = re.search(rf"\b(struct|enum) {name}\b.*?[;}}]$", code(crate), re.M | re.S)
     if not body:
         sys.exit(f"{crate}: no type {name} in the code")
-    types = {n: (c, None, n) for c, n in re.findall(r"^use (\w+)::([A-Z]\w*);", code(crate), re.M)}
+    types = used_types(code(crate))
     types.update((n, (crate, None, n)) for n in re.findall(r"\b(?:struct|enum) (\w+)", code(crate)))
     return [types[w] for w in re.findall(r"\w+", body[0]) if w in types]
 
@@ -136,7 +165,7 @@ def starts():
     """What the contracts at the boundary cite, and the definitions of the files that state theorems."""
     text = re.sub(r"//.*", "", (CRATES / BOUNDARY).read_text())
     names = imports(text)
-    contracts = re.findall(r"\b(?:requires|ensures)\s*\{(.*?⌝)\s*\}", text, re.S)
+    contracts = re.findall(r"^ *(?:requires|ensures)\b[^{}]*\{(.*)\}$", text, re.M)
     if not contracts or len(contracts) != len(re.findall(r"\b(?:requires|ensures)\b", text)):
         sys.exit(f"{BOUNDARY}: its contracts are not understood")
     found = [names[w] for contract in contracts for w in words(contract) if w in names]

@@ -29,7 +29,7 @@ GROUPS = [
     ("Answers and the Rust", 0, 20, 680, "theorems", "rust_returns rust_listing host_answers"),
     ("The Rust as definitions", 1, 20, 220, "theorems", "rust_values rust_effects rust_engine rust_order rust_run"),
     ("Judged records", 1, 260, 200, "theorems", "rule_relation judged_records judged_starts"),
-    ("C boundary", 1, 500, 160, "outside", "answers host"),
+    ("C boundary", 1, 500, 160, "outside", "answers host host_c"),
     ("Smallest choice", 2, 20, 200, "theorems", "closed_choices other_options run_choices settled_runs"),
     ("A run's own starts", 2, 260, 300, "code", "own_starts run_starts"),
     ("Program", 2, 600, 160, "outside", "listing answer_text keep"),
@@ -191,7 +191,7 @@ def uses_of_groups(text):
         for crate in crates.split():
             if group_of.setdefault(crate, title) != title:
                 raise Fault(f"crate {crate} is in two groups")
-    listed = dict(re.findall(r"^(\w+):(.*)$", text, re.M))
+    listed = dict(re.findall(r"^(\w+)(?: staticlib)?:(.*)$", text, re.M))
     if listed.keys() != group_of.keys():
         lost, unknown = sorted(listed.keys() - group_of.keys()), sorted(group_of.keys() - listed.keys())
         raise Fault(f"crates in no group: {lost}; crates that crates.txt does not have: {unknown}")

@@ -8,7 +8,7 @@
 
 The definitions are the texts in `crates/rust_*/specs`, with what they use of other specs. Relations are not read: `proofs/Executed.antt`
 of `rust_run` has them as functions with a bound, and it is proved that what these give the relations have. Each graph of
-`oracle/answers.txt` is decoded by `graphIn`, and `rustListing` of what `executed` gives has to be the listing that the Rust gave. On
+`oracle/answers.txt` is decoded by `graph_in`, and `rust_listing` of what `executed` gives has to be the listing that the Rust gave. On
 the graph `circle` the Rust does not return, and `executed` must not end. The outcomes that the prover finds for two graphs
 (`Printed.antt`) have to be those that are found here.
 
@@ -112,18 +112,18 @@ class Definitions:
         self.library = Library(root)
         self.translation = Translation(self.library, watched)
         find = self.find
-        self.graph_in = find("graph/specs/Check.antt", "graphIn")
+        self.graph_in = find("graph/specs/Check.antt", "graph_in")
         self.circle = find("rust_returns/specs/Example.antt", "circle")
         self.executed = find(EXECUTED, "executed")
-        self.entry_graph_made = find(EXECUTED, "entryGraphMade")
-        self.depth_first = find(EXECUTED, "depthFirst")
-        self.sorted_by = find(EXECUTED, "sortedBy")
+        self.entry_graph_made = find(EXECUTED, "entry_graph_made")
+        self.depth_first = find(EXECUTED, "depth_first")
+        self.sorted_by = find(EXECUTED, "sorted_by")
         self.neighbors = find(ORDER, "neighbors")
         self.unentered = find(ORDER, "unentered")
-        self.cycled = find(ORDER, "cycledDynamicEntries")
-        self.sorted_entries = find("dynamic_entries/specs/Sorted.antt", "sortedEntries")
-        self.on_cycle = find("dynamic_entries/specs/Sorted.antt", "onCycle")
-        self.rust_listing = find("rust_listing/specs/Listing.antt", "rustListing")
+        self.cycled = find(ORDER, "cycled_dynamic_entries")
+        self.sorted_entries = find("dynamic_entries/specs/Sorted.antt", "sorted_entries")
+        self.on_cycle = find("dynamic_entries/specs/Sorted.antt", "on_cycle")
+        self.rust_listing = find("rust_listing/specs/Listing.antt", "rust_listing")
         self.ended = self.library.unit(f"crates/{EXECUTED}").find("ended")
 
     def find(self, path, name):
@@ -183,8 +183,8 @@ class Definitions:
 
     def check_proved(self, name, bound):
         """The prover's outcome of a graph is the one that is found here."""
-        g = self.graph_in(self.find(PRINTED, f"{name}Numbers")())
-        proved, found = self.find(PRINTED, f"{name}Outcome")(), self.value(self.executed(g, bound))
+        g = self.graph_in(self.find(PRINTED, f"{name}_numbers")())
+        proved, found = self.find(PRINTED, f"{name}_outcome")(), self.value(self.executed(g, bound))
         if plain(proved, g) != plain(found, g):
             raise Different(f"the outcome {plain(found, g)}\nwhere {plain(proved, g)} is proved")
 

@@ -41,29 +41,29 @@ def numbered(name, arity, number, family=frozenset()):
     return Constructor(name, arity, make, f"{{}}[0] == {number!r}", parts, family, number)
 
 
-BOOL, NAT, LIST = frozenset({"true", "false"}), frozenset({"zero", "suc"}), frozenset({"[]", "_∷_"})
+BOOL, NAT, LIST = frozenset({"true", "false"}), frozenset({"zero", "suc"}), frozenset({"[]", "◌∷◌"})
 NAMES = {
     "Prim.Native.Nat": {
         "zero": Constructor("zero", 0, "0", "not {}", (), NAT),
         "suc": Constructor("suc", 1, "({} + 1)", "{}", ("({} - 1)",), NAT),
-        "_+_": Primitive(2, "({} + {})"),
-        "_*_": Primitive(2, "({} * {})"),
-        "_-_": Primitive(2, "less({}, {})"),
-        "_/_": Primitive(2, "quotient({}, {})"),
-        "_%_": Primitive(2, "remainder({}, {})"),
-        "_^_": Primitive(2, "({} ** {})"),
+        "◌+◌": Primitive(2, "({} + {})"),
+        "◌*◌": Primitive(2, "({} * {})"),
+        "◌-◌": Primitive(2, "less({}, {})"),
+        "◌/◌": Primitive(2, "quotient({}, {})"),
+        "◌%◌": Primitive(2, "remainder({}, {})"),
+        "◌^◌": Primitive(2, "({} ** {})"),
     },
     "mathlib.Core.Bool": {
         "true": Constructor("true", 0, "True", "{}", (), BOOL),
         "false": Constructor("false", 0, "False", "not {}", (), BOOL),
         "not": Primitive(1, "(not {})"),
-        "_&&_": Primitive(2, "({} and {})"),
-        "_||_": Primitive(2, "({} or {})"),
+        "◌&&◌": Primitive(2, "({} and {})"),
+        "◌||◌": Primitive(2, "({} or {})"),
     },
     "mathlib.Core.List": {
         "[]": Constructor("[]", 0, "()", "not {}", (), LIST),
-        "_∷_": Constructor("_∷_", 2, "({}, {})", "{}", ("{}[0]", "{}[1]"), LIST),
-        "_++_": Primitive(2, "joined({}, {})"),
+        "◌∷◌": Constructor("◌∷◌", 2, "({}, {})", "{}", ("{}[0]", "{}[1]"), LIST),
+        "◌++◌": Primitive(2, "joined({}, {})"),
         "map": Primitive(2, "mapped({}, {})"),
     },
     "lib.Dec": {
@@ -73,24 +73,39 @@ NAMES = {
     },
     "lib.ListN": {
         "length": Primitive(1, "length({})"),
-        "getD": Primitive(3, "element({}, {}, {})"),
+        "get_or": Primitive(3, "element({}, {}, {})"),
         "take": Primitive(2, "taken({}, {})"),
         "drop": Primitive(2, "dropped({}, {})"),
         "replicate": Primitive(2, "repeated({}, {})"),
     },
+    "Rattle.core.specs.Bool": {
+        "◌==◌": Primitive(2, "({} == {})"),
+        "nat_eq": Primitive(2, "({} == {})"),
+        "nat_lt": Primitive(2, "({} < {})"),
+        "nat_le": Primitive(2, "({} <= {})"),
+    },
+    "Rattle.core.specs.List": {
+        "slice_index": Primitive(2, "element({}, {}, 0)"),
+        "slice_index_or": Primitive(3, "element({}, {}, {})"),
+    },
+}
+# These pass the same names on.
+NAMES["Rattle.std.specs.Prelude"] = NAMES["Rattle.std.proofs.Common"] = {
+    name: found for names in list(NAMES.values()) for name, found in names.items()
 }
 # the levels and sides that the libraries declare
 FIXITIES = {
-    "_+_": (65, "infixl"),
-    "_-_": (65, "infixl"),
-    "_*_": (70, "infixl"),
-    "_/_": (70, "infixl"),
-    "_%_": (70, "infixl"),
-    "_^_": (75, "infixr"),
-    "_&&_": (35, "infixl"),
-    "_||_": (30, "infixl"),
-    "_∷_": (67, "infixr"),
-    "_++_": (65, "infixl"),
+    "◌+◌": (65, "infixl"),
+    "◌-◌": (65, "infixl"),
+    "◌*◌": (70, "infixl"),
+    "◌/◌": (70, "infixl"),
+    "◌%◌": (70, "infixl"),
+    "◌^◌": (75, "infixr"),
+    "◌&&◌": (35, "infixl"),
+    "◌||◌": (30, "infixl"),
+    "◌==◌": (40, "infix"),
+    "◌∷◌": (67, "infixr"),
+    "◌++◌": (65, "infixl"),
 }
 
 

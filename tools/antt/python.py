@@ -16,7 +16,7 @@ from antt.reader import Apply, Definition, Elim, Expression, Lambda, Let, Number
 from antt.reader import heads_in, items_of, outside, shown, variables_in
 
 ATOM = re.compile(r"\w+$")
-LAZY = {"_&&_": "if {}:", "_||_": "if not {}:"}  # where the right side is needed
+LAZY = {"◌&&◌": "if {}:", "◌||◌": "if not {}:"}  # where the right side is needed
 PLAIN = {"ℕ", "List ℕ", "Graph"}
 RETURN = "return {}"
 

@@ -14,6 +14,7 @@ SKIPPED = r"\s+|--[^\n]*|\{-.*?-\}"
 TOKEN = re.compile(rf'(?P<skip>{SKIPPED})|(?P<token>«[^»]*»|"(?:[^"\\]|\\.)*"|\.{NAME}|[(){{}}.;,@]|{NAME})', re.S)
 NUMERAL = re.compile(r"(0[xob][0-9a-f_]+|0|[1-9][0-9_]*)$")
 MARKS = {"unfoldable", "abbrev", "pub", "axiom"}
+PASSED_ON = re.compile(r"^pub use Rattle\.(\w+)\.specs(?:\.(\w+))?(?: as (\w+))?$", re.M)
 OPENS, CLOSES = {"(", "{"}, {")", "}"}
 ENDS = {")", "}", "[", "]", "|", "↦", ";", ",", ".", ":", "=", "in", "where", "as"}  # of an application
 
@@ -485,7 +486,7 @@ class Unit:
 
     def operator(self, text):
         """Level, side and name of an infix operator, or None."""
-        name = f"_{text}_"
+        name = f"◌{text}◌"
         level = self.fixities.get(name)
         if name in self.used:
             path, original = self.used[name]
@@ -511,7 +512,7 @@ class Library:
     """The files that were read, by path."""
 
     def __init__(self, root):
-        self.root, self.units, self.count = Path(root), {}, 0
+        self.root, self.units, self.passed, self.count = Path(root), {}, {}, 0
 
     def number(self):
         """A number for each constructor."""
@@ -526,16 +527,38 @@ class Library:
             self.units[path] = Unit(self, path)
         return self.units[path]
 
+    def passed_on(self, crate):
+        """The crates that a crate passes on to those above, by the names that these use: of each the crate that it comes from, and its name there."""
+        if crate not in self.passed:
+            lib = self.root / f"crates/{crate}/specs/Lib.antt"
+            found = PASSED_ON.findall(lib.read_text()) if lib.is_file() else []
+            self.passed[crate] = {here or inner: (below, inner) for below, inner, here in found}
+        return self.passed[crate]
+
+    def at_home(self, path):
+        """A path by the crate in which it ends, as Rattle.rows.specs.Walk for Rattle.graph.specs.rows_crate.Walk."""
+        origin, *rest = path.split(".")
+        if origin != "Rattle" or len(rest) < 3 or not (self.root / "crates" / rest[0]).is_dir():
+            return path
+        crate, part, *inside = rest
+        while inside and inside[0] in self.passed_on(crate):
+            crate, inner = self.passed_on(crate)[inside[0]]
+            inside = [*filter(None, [inner]), *inside[1:]]
+        return ".".join([origin, crate, part, *inside])
+
     def unit_of(self, path):
-        """The file of a path such as Rattle·rows.specs.Walk, or None."""
-        match = re.match(r"Rattle·(\w+)(?:·\w+)?\.(specs|proofs)\.(\w+)", path)
-        return self.unit(f"crates/{match[1]}/{match[2]}/{match[3]}.antt") if match and match[3] != "declared" else None
+        """The file of a path such as Rattle.rows.specs.Walk, or None."""
+        match = re.match(r"Rattle\.(\w+)\.(specs|proofs)\.(\w+)", self.at_home(path))
+        if not match or match[3] == "declared" or not (self.root / "crates" / match[1]).is_dir():
+            return None
+        return self.unit(f"crates/{match[1]}/{match[2]}/{match[3]}.antt")
 
     def named(self, path, name):
         """What the name of a file, of a type in it, of a Rattle enum or of a library stands for; None for a type."""
+        path = self.at_home(path)
         if (home := self.unit_of(path)) is not None:
-            kind = path.split(".")[3:]
+            kind = path.split(".")[4:]
             return home.data[kind[0]][name] if kind else home.find(name)
-        if path.endswith(".the-variants"):
+        if path.endswith(".TheVariants"):
             return numbered(name, None, f"{path}.{name}")
         return NAMES.get(path, {}).get(name)

@@ -8,11 +8,12 @@ from antt.reader import Library
 
 FIRST = """\
 -- operators, lists, records
-use Prim.Native.Nat.{ℕ, zero, suc, _+_, _-_, _*_, _/_, _%_, _^_}
-use mathlib.Core.Bool.{Bool, true, false, _&&_, _||_, not}
-use mathlib.Core.List.{List, [], _∷_, _++_, map}
+use Prim.Native.Nat.{ℕ, zero, suc, ◌+◌, ◌-◌, ◌*◌, ◌/◌, ◌%◌, ◌^◌}
+use mathlib.Core.Bool.{Bool, true, false, ◌&&◌, ◌||◌, not}
+use mathlib.Core.List.{List, [], ◌∷◌, ◌++◌, map}
 use lib.Dec.{eqb, ltb, leb}
-use lib.ListN.{getD, length, take, drop, replicate}
+use lib.ListN.{get_or, length, take, drop, replicate}
+use Rattle.std.specs.Prelude.{◌==◌, nat_eq, nat_lt, nat_le, slice_index, slice_index_or}
 
 pub data Shape : Type 0 where
   dot : Shape
@@ -22,8 +23,8 @@ pub record Box : Type 0 where
   pub left : ℕ
   pub inner : List ℕ
 
-infixl 20 _▷_
-abbrev pub _▷_ : ℕ → (ℕ → ℕ) → ℕ
+infixl 20 ◌▷◌
+abbrev pub ◌▷◌ : ℕ → (ℕ → ℕ) → ℕ
 n ▷ f = f n
 
 unfoldable pub sums : ℕ → ℕ → ℕ
@@ -32,8 +33,8 @@ sums a b = a + b * 2 ^ 3 - 1 / 2 % 7
 unfoldable pub minus : ℕ → ℕ
 minus n = 3 - n + 1 - 10 % 4
 
-unfoldable pub by-zero : ℕ → List ℕ
-by-zero n = n / 0 ∷ n % 0 ∷ n ^ 0 ∷ []
+unfoldable pub by_zero : ℕ → List ℕ
+by_zero n = n / 0 ∷ n % 0 ∷ n ^ 0 ∷ []
 
 unfoldable pub lists : ℕ → List ℕ
 lists n = n ∷ 2 ∷ [] ++ 3 ∷ [] ++ take 1 (drop 1 (replicate n 7))
@@ -60,7 +61,7 @@ unfoldable pub boxed : ℕ → List ℕ → Box
 boxed n xs = record { left = n; inner = n ∷ xs; }
 
 unfoldable pub second : Box → ℕ
-second b = getD (b .inner) 1 b.left + length (boxed 1 [] .inner)
+second b = get_or b.inner 1 b.left + length (boxed 1 []).inner
 
 unfoldable pub seconds : List ℕ
 seconds = second (boxed 4 (9 ∷ [])) ∷ second (boxed 4 []) ∷ []
@@ -70,13 +71,19 @@ through n = n ▷ (λ x. x + 1) ▷ sums 1 ▷ λ x. let (a, b) = (x, 2) in let 
 
 unfoldable pub safe : ℕ → Bool
 safe n = ltb n 3 && not (leb n 1) || eqb n 9
+
+unfoldable pub same : ℕ → Bool
+same n = n + 1 == 3 && nat_lt n 3 || nat_eq n 5 && nat_le 5 n
+
+unfoldable pub indexed : List ℕ → List ℕ
+indexed xs = slice_index xs 1 ∷ slice_index_or xs 2 9 ∷ []
 """
 SECOND = """\
-use Prim.Native.Nat.{ℕ, zero, suc, _+_, _*_}
-use mathlib.Core.Bool.{Bool, true, false}
-use mathlib.Core.List.{List, [], _∷_, map}
-use Rattle·first.specs.First.{Shape, dot, line as stroke, size, _▷_}
-use Rattle·second·specs.specs.declared.Way.the-variants.{North, Up}
+use Rattle.std.specs.Prelude.{ℕ, zero, suc, ◌+◌, ◌*◌, Bool, true, false, List, [], ◌∷◌, map}
+use Rattle.first.specs.First.{Shape, dot}
+use Rattle.fourth.specs.first_crate.First.{line as stroke, size, ◌▷◌}
+use Rattle.second.specs.declared.Way.TheVariants.{North}
+use Rattle.fourth.specs.second_crate.declared.Way.TheVariants.{Up}
 
 -- a variable may have the name of a function; a constructor may stand with some of its parts
 unfoldable pub shadows : (ℕ → ℕ) → List ℕ → List ℕ
@@ -130,11 +137,16 @@ chosen n = choose (below n) (size dot) (turned n)
 unfoldable pub below : ℕ → Bool
 below = elim [ zero ↦ true | suc n ↦ false ]
 """
+# Crates that pass others on
+LIBS = [
+    ("third", "pub use Rattle.first.specs as first_crate\n"),
+    ("fourth", "pub mod Own\npub use Rattle.second.specs as second_crate\npub use Rattle.third.specs.first_crate\n"),
+]
 VALUES = [
     ("sums", (1, 2), 17),
     ("minus", (1,), 1),
     ("minus", (5,), 0),
-    ("by-zero", (6,), [0, 6, 1]),
+    ("by_zero", (6,), [0, 6, 1]),
     ("lists", (4,), [4, 2, 3, 7]),
     ("lists", (1,), [1, 2, 3]),
     ("half", (7,), 3),
@@ -145,6 +157,11 @@ VALUES = [
     ("safe", (2,), True),
     ("safe", (3,), False),
     ("safe", (9,), True),
+    ("same", (2,), True),
+    ("same", (1,), False),
+    ("same", (5,), True),
+    ("indexed", ([4, 5],), [5, 9]),
+    ("indexed", ([4],), [0, 9]),
     ("strokes", ([1, 2],), [2, 4]),
     ("count", ([5, 6, 7], 10), 13),
     ("added", ([1, 2, 3],), [103, 102, 101]),
@@ -197,8 +214,9 @@ def given(value):
 
 
 def library_of(folder, more=""):
-    """The two files, in a folder."""
-    for crate, name, text in [("first", "First", FIRST + more), ("second", "Second", SECOND)]:
+    """The files, in a folder."""
+    libs = [(crate, "Lib", text) for crate, text in LIBS]
+    for crate, name, text in [("first", "First", FIRST + more), ("second", "Second", SECOND), *libs]:
         file = Path(folder) / f"crates/{crate}/specs/{name}.antt"
         file.parent.mkdir(parents=True, exist_ok=True)
         file.write_text(text)

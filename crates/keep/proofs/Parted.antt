@@ -1,16 +1,12 @@
 -- What a row shows of the text for two buffers is a part of the text for the file that they hold.
-use Prim.Native.Nat.{ℕ, ◌+◌, ◌-◌, ◌<◌, ◌≤◌}
-use mathlib.Core.Path.{◌≡◌, refl, ap, ◌∙◌, sym}
-use mathlib.Core.List.{List, [], ◌∷◌, ◌++◌, append-nil}
-use native.Mathlib.Omega.{arith}
+use Rattle.std.proofs.Common.{ℕ, ◌+◌, ◌-◌, ◌<◌, ◌≤◌, ◌≡◌, arith, List, [], ◌∷◌, ◌++◌, length, take, drop, Option, refl, ap, ◌∙◌, sym, subst, take_all, take_at, take-add, length-take-le, length-append, length-drop, drop_of_length-le, append-nil, take-append-drop}
 use borrow.Author.Tests.{lt-ltb}
-use lib.ListN.{length, take, drop, length-append, length-drop, drop_of_length-le}
-use lib.Seq.{take_all, take_at, length-take-le}
+use Rattle.std.proofs.KnownBytes.{Appends-trans}
+use Rattle.std.specs.Io.KnownBytes.{Appends}
 use Rattle.listing.specs.Text.{window, shown_in}
 use Rattle.answer_text.specs.Program.{file_text, program_text}
 use Rattle.keep.specs.Input.{IsFile}
 use Rattle.keep.specs.Output.{PartOf}
-use Rattle.keep.specs.declared.Part.{Part}
 use Rattle.keep.specs.declared.Part.TheVariants.{Next, Last}
 
 -- the text for both buffers is that for the file
@@ -51,9 +47,15 @@ module _ (front behind lent out : List ℕ) (skip size : ℕ) (s : IsFile front 
         ∙ ap (λ v. take (length out) (drop skip v)) (file_text_lem front behind s),
   )
 
--- the number of a part
-pub last_fits : {r : Part} (text : List ℕ) (skip : ℕ) (out : List ℕ) (n : ℕ) → r ≡ Last n → PartOf text skip out r → n ≤ length out
-last_fits text skip out n e p = (rw (e) at p).0
+-- the text that was written before, and a part of it
+pub written_next : (a b c : Option (List ℕ)) (text : List ℕ) (skip : ℕ) (out : List ℕ) (next : ℕ) → PartOf text skip out (Next next) → Appends a b (take skip text) → Appends b c out
+    → Appends a c (take next text)
+written_next a b c text skip out next p before written =
+    let joined : take skip text ++ out ≡ take next text = ap (λ l. take skip text ++ l) p.2 ∙ sym (take-add skip (length out) text) ∙ ap (λ n. take n text) (sym p.0) in
+    subst (Appends a c) joined (Appends-trans a b c _ _ before written)
 
-pub next_behind : {r : Part} (text : List ℕ) (skip : ℕ) (out : List ℕ) (n : ℕ) → r ≡ Next n → PartOf text skip out r → (n ≡ skip + length out) × (n < length text)
-next_behind text skip out n e p = let q = rw (e) at p in (q.0, q.1)
+pub written_last : (a b c : Option (List ℕ)) (text : List ℕ) (skip : ℕ) (out : List ℕ) (n : ℕ) → PartOf text skip out (Last n) → Appends a b (take skip text) → Appends b c (take n out)
+    → Appends a c text
+written_last a b c text skip out n p before written =
+    let joined : take skip text ++ take n out ≡ text = ap (λ l. take skip text ++ l) p.1 ∙ take-append-drop skip text in
+    subst (Appends a c) joined (Appends-trans a b c _ _ before written)

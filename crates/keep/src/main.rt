@@ -1,30 +1,20 @@
 // The program `keep`: reads a graph file from standard input and prints what its run keeps, or the refusal (docs/OPERATIONS.md, Program keep).
-// No contract can say what C's `read` and `write` move. What a contract can say stands in functions that `main` and `print` call: how much of the
-// buffers counts as read, and what is handed to `write` each time.
+// No contract can say what the system's standard input gives, nor what its standard output takes. So all but `main` stands in functions over any
+// reader and any writer: for one whose bytes are known, `answer` says that what is written for a file is its text.
 #![tactic(auto)]
-ghost use Rattle.std.specs.Prelude.{length, ◌++◌};
+
+ghost use Rattle.std.specs.Prelude.{length, take, drop, ◌++◌, ◌≡◌, IfOk, OnOk, IfSome};
+ghost use Rattle.std.specs.Io.KnownBytes.{Appends};
 ghost use Rattle.answer_text.specs.Program.{file_text};
-ghost use Rattle.keep.specs.Input.{FilledUpTo, ReadInto, IsFile};
+ghost use Rattle.keep.specs.Input.{FilledUpTo, FilledFrom, ReadInto, IsFile};
 ghost use Rattle.keep.specs.Output.{PartOf};
 
-use libc::{STDIN_FILENO, STDOUT_FILENO};
+use std::io::{Read, Write};
+use std::process::ExitCode;
+use std::{fmt, io};
 
 // A text is printed by parts of so many bytes. If it is longer it is formed again for each further part.
 const WINDOW: usize = 8192;
-
-#[derive(Clone, Copy)]
-pub enum Filled {
-    // So many bytes were read, until the buffer was full or the input ended.
-    Bytes(usize),
-    Failed,
-}
-
-#[derive(Clone, Copy)]
-pub enum Input {
-    // So many bytes were read into the first buffer, and so many into the second.
-    Read(usize, usize),
-    Unread,
-}
 
 #[derive(Clone, Copy)]
 pub enum Part {
@@ -34,40 +24,55 @@ pub enum Part {
     Last(usize),
 }
 
-// Reads standard input until the buffer is full or the input ends. A read that fails is no end of the input.
-fn fill(buffer: &mut [u8]) -> Filled
-    ensures { FilledUpTo (length buffer.new) result }
+// Why there is no answer, or not all of it was printed.
+#[derive(Clone, Copy, Debug)]
+pub enum Failure {
+    Input(io::Error),
+    Output(io::Error),
+}
+
+impl fmt::Display for Failure {
+    fn fmt<W: fmt::Write>(&self, f: &mut fmt::Formatter<W>) -> fmt::Result {
+        match self {
+            Failure::Input(e) => write!(f, "standard input: {e}"),
+            Failure::Output(e) => write!(f, "standard output: {e}"),
+        }
+    }
+}
+
+// Reads until the buffer is full or the input ends, and says how many bytes were read. A read that fails is no end of the input.
+fn fill<R: Read>(reader: &mut R, buffer: &mut [u8]) -> io::Result<usize>
+    ensures room { FilledUpTo (length buffer.new) result }
+    ensures bytes { FilledFrom (R.remaining reader.old) (R.remaining reader.new) buffer.new result }
 {
     let mut done: usize = 0;
     while done < buffer.len() {
-        let answer = libc::read(STDIN_FILENO, &mut buffer[done..]);
-        if answer < 0 {
-            return Filled::Failed;
-        }
-        let count = io::count(answer, &buffer[done..]);
+        let count = reader.read(&mut buffer[done..])?;
         if count == 0 {
-            return Filled::Bytes(done);
+            return Ok(done);
         }
         done += count;
     }
-    Filled::Bytes(done)
+    Ok(done)
 }
 
-// Reads standard input into two buffers. The second one is read into only if the first is full: otherwise the input has ended, and at a terminal
-// another read would wait until it is ended a second time.
-fn read_file(front: &mut [u8], behind: &mut [u8]) -> Input
-    ensures { ReadInto front.new behind.new result }
+// Reads into two buffers, and says how many bytes were read into each. The second one is read into only if the first is full: otherwise the input
+// has ended, and at a terminal another read would wait until it is ended a second time.
+fn read_file<R: Read>(
+    reader: &mut R,
+    front: &mut [u8],
+    behind: &mut [u8],
+) -> io::Result<(usize, usize)>
+    ensures room { ReadInto front.new behind.new result }
+    ensures first { IfOk result (λ (got, more). IfSome (R.remaining reader.old) (λ file. take got front.new ≡ take (length front.new) file)) }
+    ensures rest { IfOk result (λ (got, more). IfSome (R.remaining reader.old) (λ file. take more behind.new ≡ take (length behind.new) (drop (length front.new) file))) }
 {
-    let Filled::Bytes(got) = fill(front) else {
-        return Input::Unread;
-    };
+    let got = fill(reader, front)?;
     if got < front.len() {
-        return Input::Read(got, 0);
+        return Ok((got, 0));
     }
-    let Filled::Bytes(more) = fill(behind) else {
-        return Input::Unread;
-    };
-    Input::Read(got, more)
+    let more = fill(reader, behind)?;
+    Ok((got, more))
 }
 
 // Puts what follows the first `skip` bytes of the text for a file into `out`, as much as it holds.
@@ -86,35 +91,46 @@ fn form_part(front: &[u8], behind: &[u8], skip: usize, out: &mut [u8]) -> Part
     Part::Next(skip + out.len())
 }
 
-// Prints the text for a file, and says whether all of it was written.
-fn print(front: &[u8], behind: &[u8]) -> bool
+// Writes the text for a file, part by part.
+fn print<W: Write>(writer: &mut W, front: &[u8], behind: &[u8]) -> io::Result<()>
     requires { IsFile front.now behind.now }
+    ensures { OnOk result (Appends (W.contents writer.old) (W.contents writer.new) (file_text (front.now ++ behind.now))) }
 {
     let mut skip: usize = 0;
     loop {
         let mut out = [0u8; WINDOW];
         match form_part(front, behind, skip, &mut out) {
-            Part::Last(count) => return io::write_all(STDOUT_FILENO, &out[..count]),
+            Part::Last(count) => return writer.write_all(&out[..count]),
             Part::Next(next) => {
-                if !io::write_all(STDOUT_FILENO, &out) {
-                    return false;
-                }
+                writer.write_all(&out)?;
                 skip = next;
             }
         }
     }
 }
 
-// A program cannot set its exit code. A failure is told on standard error, and nothing is printed after it; the command ./keep ends with 2 then.
-fn main() {
+// Reads a file, and writes its text.
+pub fn answer<R: Read, W: Write>(reader: &mut R, writer: &mut W) -> Result<(), Failure>
+    ensures { OnOk result (IfSome (R.remaining reader.old) (λ file. Appends (W.contents writer.old) (W.contents writer.new) (file_text file))) }
+{
     let mut front = [0u8; 8192];
     let mut behind = [0u8; 1];
-    match read_file(&mut front, &mut behind) {
-        Input::Unread => os::fail(b"keep: standard input"),
-        Input::Read(got, more) => {
-            if !print(&front[..got], &behind[..more]) {
-                os::fail(b"keep: standard output");
-            }
+    match read_file(reader, &mut front, &mut behind) {
+        Err(e) => Err(Failure::Input(e)),
+        Ok((got, more)) => match print(writer, &front[..got], &behind[..more]) {
+            Err(e) => Err(Failure::Output(e)),
+            Ok(()) => Ok(()),
+        },
+    }
+}
+
+// A failure is told on standard error, and nothing is printed after it.
+fn main(rt: HostRuntime) -> ExitCode {
+    match answer(&mut rt.stdin(), &mut rt.stdout()) {
+        Ok(()) => ExitCode::SUCCESS,
+        Err(failure) => {
+            let _ = eprintln!(rt; "keep: {failure}");
+            ExitCode::from(2)
         }
     }
 }

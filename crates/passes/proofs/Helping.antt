@@ -1,7 +1,7 @@
 -- Which helpers a module needs, and which all kept modules need.
 use Prim.Native.Nat.{ℕ, ◌+◌, ◌-◌, ◌<◌, ◌≤◌}
 use mathlib.Core.Path.{◌≡◌, refl, ap, ◌∙◌, sym}
-use mathlib.Core.Bool.{Bool, true, false, not, ◌||◌, ◌&&◌, and_false, or-true}
+use mathlib.Core.Bool.{Bool, true, false, not, ◌||◌, ◌&&◌, and-false, or-true}
 use mathlib.Core.List.{List, []}
 use native.Mathlib.Omega.{arith}
 use borrow.Author.Tests.{eq-eqb, ne_eqb}
@@ -115,7 +115,7 @@ module _ (g : Graph) (kept : Fact → Bool) (h n : ℕ) where
       unfolding module_needs
       uniting-without e =
           let y = bit-says ∙ e in
-          let z : module_needs g kept h k ≡ false = rw (y, module_needs) (and_false (kept (module_fact k))) in
+          let z : module_needs g kept h k ≡ false = rw (y, module_needs) (and-false (kept (module_fact k))) in
           sym (some_tabulate_next (module_needs g kept h) (λ m. m) n k l z) ∙ left
 
       pub uniting-lost : kept (module_fact k) ≡ false → some (module_needs g kept h) (tabulate (λ m. m) (k + 1) (n - (k + 1))) ≡ whole

@@ -1,6 +1,6 @@
 -- The Rust's helper words and their union are the project's, where context and facts agree on modules and statements.
 use Rattle.std.proofs.Common.{◌≡◌, ℕ, zero, suc, ◌+◌, ◌%◌, ◌^◌, ◌<◌, Bool, true, false, not, ◌&&◌, ◌||◌, eqb, List, [], ◌∷◌, length, get_or, sym, refl, ap, ◌∙◌, arith, eq-eqb}
-use mathlib.Core.Bool.{and_false, or-true, false≢true}
+use mathlib.Core.Bool.{and-false, or-true, false≢true}
 use native.Mathlib.Nat.{zero-div}
 use Rattle.determine_side_effects.specs.rows_crate.Walk.{no_item}
 use Rattle.determine_side_effects.specs.graph_format_crate.Format.{module_rules, statement_limit}
@@ -154,7 +154,7 @@ module _ (numbers : List ℕ) (ok : answer_of (check_of numbers) ≡ Accepted) (
       go true n = rw n refl
       go false n =
           let z : flag h (helper_word g kept m) ≡ false = ap (flag h) (sym (needs_none g kept m _ refl (external_none (accepted_tabled numbers ok).holds m l n))) ∙ no_bit h in
-          rw (n, z) (sym (and_false (kept (module_fact m))))
+          rw (n, z) (sym (and-false (kept (module_fact m))))
 
   pub union_same : collect_depended_runtime_helpers g c (depended_runtime_helper g c) ≡ helper_union g kept
   unfolding collect_depended_runtime_helpers helper_union

@@ -2,29 +2,29 @@
 use crate::shape::Row;
 use crate::{shape, text};
 use graph::Checked;
+use std::io;
 
 // Checks the numbers, and prints the rest of a line.
-fn checked(numbers: &[u32]) {
+fn checked(rt: &impl Print, numbers: &[u32]) -> io::Result<()> {
     match graph::check(numbers) {
-        Checked::Accepted => text::word(b" accepted\n"),
-        Checked::Refused(n, p) => text::refused(n, p),
+        Checked::Accepted => text::word(rt, " accepted\n"),
+        Checked::Refused(n, p) => text::refused(rt, n, p),
     }
 }
 
 // Checks the first numbers of the row.
-pub fn first_checked(row: &[u32], count: usize) {
+pub fn first_checked(rt: &impl Print, row: &[u32], count: usize) -> io::Result<()> {
     if count <= row.len() {
-        checked(&row[..count]);
+        checked(rt, &row[..count])?;
     }
+    Ok(())
 }
 
 // Writes each byte as a number.
 fn bytes(row: &mut Row, from: usize, digits: &[u8]) -> usize {
     let mut at = from;
-    let mut i: usize = 0;
-    while i < digits.len() {
-        at = shape::put(row, at, wide(digits[i]));
-        i += 1;
+    for digit in digits {
+        at = shape::put(row, at, wide(*digit));
     }
     at
 }
@@ -47,10 +47,10 @@ fn printed_case(row: &mut Row) -> usize {
 }
 
 // The printed case, and no numbers at all.
-pub fn printed(row: &mut Row) {
+pub fn printed(rt: &impl Print, row: &mut Row) -> io::Result<()> {
     let end = printed_case(row);
-    text::word(b"check printed");
-    first_checked(row, end);
-    text::word(b"check empty");
-    first_checked(row, 0);
+    text::word(rt, "check printed")?;
+    first_checked(rt, row, end)?;
+    text::word(rt, "check empty")?;
+    first_checked(rt, row, 0)
 }

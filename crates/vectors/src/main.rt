@@ -1,18 +1,21 @@
 // Vectors from outside, replayed: a line for each, its name and then the answer.
 #![tactic(auto)]
+
 mod checking;
 mod limits;
 mod reading;
 mod shape;
 mod text;
 
-fn main() {
-    reading::published();
-    reading::boundaries();
-    reading::more();
+use std::io;
+
+fn main(rt: HostRuntime) -> io::Result<()> {
+    reading::published(&rt)?;
+    reading::boundaries(&rt)?;
+    reading::more(&rt)?;
     let mut row = [0u32; shape::ROOM];
-    checking::printed(&mut row);
-    limits::counts(&mut row);
-    limits::module_lists(&mut row);
-    limits::other_lists(&mut row);
+    checking::printed(&rt, &mut row)?;
+    limits::counts(&rt, &mut row)?;
+    limits::module_lists(&rt, &mut row)?;
+    limits::other_lists(&rt, &mut row)
 }

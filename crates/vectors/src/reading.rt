@@ -1,66 +1,63 @@
 // Vectors of read.
 use crate::text;
 use leb128::Answer;
+use std::io;
 
 // Prints the first `n` numbers.
-fn numbers_read(numbers: &[u32], n: usize) {
-    let mut i: usize = 0;
-    while i < numbers.len() {
-        if i < n {
-            text::number(graph::rows_crate::wide(numbers[i]) as u64);
-        }
-        i += 1;
+fn numbers_read(rt: &impl Print, numbers: &[u32], n: usize) -> io::Result<()> {
+    for x in numbers.iter().take(n) {
+        text::number(rt, u64::from(*x))?;
     }
-    text::word(b"\n");
+    text::word(rt, "\n")
 }
 
 // Reads a file into the numbers lent, and prints the line.
-fn read_into(file: &[u8], numbers: &mut [u32]) {
-    text::word(b"read");
+fn read_into(rt: &impl Print, file: &[u8], numbers: &mut [u32]) -> io::Result<()> {
+    text::word(rt, "read")?;
     match leb128::read(file, numbers) {
-        Answer::Numbers(n) => numbers_read(numbers, n),
-        Answer::Refused(n, p) => text::refused(n, p),
+        Answer::Numbers(n) => numbers_read(rt, numbers, n),
+        Answer::Refused(n, p) => text::refused(rt, n, p),
     }
 }
 
 // Reads a file with room for eight numbers.
-fn vector(file: &[u8]) {
+fn vector(rt: &impl Print, file: &[u8]) -> io::Result<()> {
     let mut numbers = [0u32; 8];
-    read_into(file, &mut numbers);
+    read_into(rt, file, &mut numbers)
 }
 
 // Reads a file with room for one number.
-fn vector_for_one(file: &[u8]) {
+fn vector_for_one(rt: &impl Print, file: &[u8]) -> io::Result<()> {
     let mut numbers = [0u32; 1];
-    read_into(file, &mut numbers);
+    read_into(rt, file, &mut numbers)
 }
 
 // The unsigned examples of DWARF 5, 7.6: alone, and as one file.
-pub fn published() {
-    vector(b"\x02");
-    vector(b"\x7f");
-    vector(b"\x80\x01");
-    vector(b"\x81\x01");
-    vector(b"\xb9\x64");
-    vector(b"\x02\x7f\x80\x01\x81\x01\xb9\x64");
+pub fn published(rt: &impl Print) -> io::Result<()> {
+    vector(rt, b"\x02")?;
+    vector(rt, b"\x7f")?;
+    vector(rt, b"\x80\x01")?;
+    vector(rt, b"\x81\x01")?;
+    vector(rt, b"\xb9\x64")?;
+    vector(rt, b"\x02\x7f\x80\x01\x81\x01\xb9\x64")
 }
 
 // The ends of the range, the shortest form, the fifth group.
-pub fn boundaries() {
-    vector(b"\x00");
-    vector(b"\x80\x00");
-    vector(b"\xff\xff\xff\xff\x0f");
-    vector(b"\xff\xff\xff\xff\x10");
-    vector(b"\x80\x80\x80\x80\x10");
-    vector(b"\x80\x80\x80\x80\x80\x01");
+pub fn boundaries(rt: &impl Print) -> io::Result<()> {
+    vector(rt, b"\x00")?;
+    vector(rt, b"\x80\x00")?;
+    vector(rt, b"\xff\xff\xff\xff\x0f")?;
+    vector(rt, b"\xff\xff\xff\xff\x10")?;
+    vector(rt, b"\x80\x80\x80\x80\x10")?;
+    vector(rt, b"\x80\x80\x80\x80\x80\x01")
 }
 
 // Where a file ends, which number is at fault, and room.
-pub fn more() {
-    vector(b"\x80");
-    vector(b"\x02\x80\x00");
-    vector(b"\x80\x01\x81\x00");
-    vector_for_one(b"\x02\x7f");
-    vector_for_one(b"\x02");
-    vector(b"");
+pub fn more(rt: &impl Print) -> io::Result<()> {
+    vector(rt, b"\x80")?;
+    vector(rt, b"\x02\x80\x00")?;
+    vector(rt, b"\x80\x01\x81\x00")?;
+    vector_for_one(rt, b"\x02\x7f")?;
+    vector_for_one(rt, b"\x02")?;
+    vector(rt, b"")
 }

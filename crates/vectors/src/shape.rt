@@ -60,10 +60,8 @@ pub fn put(row: &mut Row, at: usize, x: u32) -> usize {
 
 fn zeros(row: &mut Row, from: usize, count: u32) -> usize {
     let mut at = from;
-    let mut i: u32 = 0;
-    while i < count {
+    for _ in 0..count {
         at = put(row, at, 0);
-        i += 1;
     }
     at
 }
@@ -89,11 +87,9 @@ fn first(list: u32, k: u32) -> u32 {
 
 fn elements(row: &mut Row, from: usize, list: u32, count: u32) -> usize {
     let mut at = from;
-    let mut k: u32 = 0;
-    while k < count {
+    for k in 0..count {
         at = put(row, at, first(list, k));
         at = zeros(row, at, width(list));
-        k += 1;
     }
     at
 }
@@ -118,10 +114,8 @@ fn list(row: &mut Row, at: usize, list: u32, s: Shape) -> usize {
 // The lists from `low` on, below `high`.
 fn lists(row: &mut Row, from: usize, low: u32, high: u32, s: Shape) -> usize {
     let mut at = from;
-    let mut i = low;
-    while i < high {
+    for i in low..high {
         at = list(row, at, i, s);
-        i += 1;
     }
     at
 }
@@ -159,10 +153,8 @@ fn next(m: u32) -> u32 {
 
 fn modules(row: &mut Row, from: usize, s: Shape) -> usize {
     let mut at = from;
-    let mut m: u32 = 0;
-    while m < s.modules {
+    for m in 0..s.modules {
         at = module(row, at, m, s);
-        m += 1;
     }
     at
 }
@@ -183,10 +175,8 @@ fn symbol(row: &mut Row, from: usize, x: u32, s: Shape) -> usize {
 
 fn symbols(row: &mut Row, from: usize, s: Shape) -> usize {
     let mut at = from;
-    let mut x: u32 = 0;
-    while x < s.symbols {
+    for x in 0..s.symbols {
         at = symbol(row, at, x, s);
-        x += 1;
     }
     at
 }
@@ -204,23 +194,19 @@ fn references(row: &mut Row, from: usize, s: Shape) -> usize {
 
 fn statements(row: &mut Row, from: usize, s: Shape) -> usize {
     let mut at = from;
-    let mut i: u32 = 0;
-    while i < s.statements {
+    for _ in 0..s.statements {
         at = put(row, at, 0);
         at = list(row, at, 13, s);
         at = references(row, at, s);
-        i += 1;
     }
     at
 }
 
 fn entries(row: &mut Row, from: usize, s: Shape) -> usize {
     let mut at = from;
-    let mut i: u32 = 0;
-    while i < s.entries {
+    for _ in 0..s.entries {
         at = zeros(row, at, 2);
         at = list(row, at, 16, s);
-        i += 1;
     }
     at
 }

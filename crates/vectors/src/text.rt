@@ -1,20 +1,16 @@
 // What the lines are made of.
-use libc::STDOUT_FILENO;
+use std::io;
 
-pub fn word(bytes: &[u8]) {
-    io::write_all(STDOUT_FILENO, bytes);
+pub fn word(rt: &impl Print, text: &str) -> io::Result<()> {
+    rt.print(text)
 }
 
 // A space and a number.
-pub fn number(x: u64) {
-    word(b" ");
-    io::print_decimal(STDOUT_FILENO, x);
+pub fn number(rt: &impl Print, x: u64) -> io::Result<()> {
+    print!(rt; " {x}")
 }
 
 // The rest of a line: a refusal's number and its place.
-pub fn refused(n: u32, p: usize) {
-    word(b" refused");
-    number(n as u64);
-    number(p as u64);
-    word(b"\n");
+pub fn refused(rt: &impl Print, n: u32, p: usize) -> io::Result<()> {
+    println!(rt; " refused {n} {p}")
 }

@@ -46,9 +46,9 @@ loop-e-preserved c =
     let l : c.loop-e.e < (header_in c.args.numbers.now).entries = omega (arith, c.loop-e-test.true, entries_are _ _ c.header_of-h.ensures) in
     let d = c.is_live.ensures in
     ⊎_elim
-    (λ w. clearing-live _ _ _ _ _ _ b l _ d _ _ w.0.taken w.2.auto.1.1.1.1.1.0 w.2.ensures w.5)
-    (λ w. clearing-passed _ _ _ _ _ _ b l _ d _ w.0.left w.1)
-    c.if-is_live.branch
+    (λ w. clearing-live _ _ _ _ _ _ b l _ d _ _ w.if-is_live.true w.exempt_of.auto.bits w.exempt_of.ensures w.bits-is)
+    (λ w. clearing-passed _ _ _ _ _ _ b l _ d _ w.if-is_live.false w.bits-is)
+    c.if-is_live.branch-raw
 
 shape_of-bits : tie.Need-shape_of-bits invariant-loop-e decreases-loop-e
 shape_of-bits c = c.loop-e.invariant.same_length

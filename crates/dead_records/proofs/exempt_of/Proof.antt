@@ -82,12 +82,12 @@ loop-k-preserved c =
     let first = c.requires.1.1 c.related_statement-r.result.«module».0 inside in
     let k = c.loop-k.invariant in
     ⊎_elim
-    (λ w. exempting-set _ _ _ _ _ _ k l _ r _ w.3.ensures _ _ _ w.0.taken w.4.taken first w.9.auto.0 w.9.ensures w.12)
+    (λ w. exempting-set _ _ _ _ _ _ k l _ r _ w.is_kept.ensures _ _ _ w.if-r-eq0.true w.if-is_kept.true first w.unset.auto.row w.unset.ensures w.bits-is)
     (λ u. ⊎_elim
-    (λ w. exempting-unkept _ _ _ _ _ _ k l _ r _ w.3.ensures _ w.4.left w.5)
-    (λ w. exempting-unreachable _ _ _ _ _ _ k l _ r _ w.0.left w.1)
+    (λ w. exempting-unkept _ _ _ _ _ _ k l _ r _ w.is_kept.ensures _ w.if-is_kept.false w.bits-is)
+    (λ w. exempting-unreachable _ _ _ _ _ _ k l _ r _ w.if-r-eq0.false w.bits-is)
     u)
-    c.if-r-eq0.branch
+    c.if-r-eq0.branch-raw
 
 shape_of-bits : tie.Need-shape_of-bits invariant-loop-k decreases-loop-k
 shape_of-bits c = c.loop-k.invariant.same_length

@@ -89,23 +89,23 @@ loop-k-preserved c =
     let l : c.loop-k.k < c.args.to = omega (arith, c.loop-k-test.true) in
     ⊎_elim
     (λ w.
-    let g = good_statement _ _ _ _ w.1.given.1 good in
+    let g = good_statement _ _ _ _ w.in-Statement.is good in
     let p = statement_place c.requires.0 _ _ g.0 g.1 in
-    noting-set _ _ _ _ _ _ _ k l _ _ _ _ (sym w.1.given.1 ∙ is) w.3.ensures.0 (modules_read _ _ c.header_of-h.ensures) (omega (arith, p.0, w.3.ensures.0)) (omega (arith, p.1, w.3.ensures.0)) c.requires.1.1.0 w.5)
+    noting-set _ _ _ _ _ _ _ k l _ _ _ _ (sym w.in-Statement.is ∙ is) w.mark_of-at.ensures.0 (modules_read _ _ c.header_of-h.ensures) (omega (arith, p.0, w.mark_of-at.ensures.0)) (omega (arith, p.1, w.mark_of-at.ensures.0)) c.requires.1.1.0 w.scratch-is)
     (λ u. ⊎_elim
-    (λ w. noting-passed _ _ _ _ _ _ _ k l _ _ is (elsewhere_module _ _ good _ w.1.given.1) w.2)
+    (λ w. noting-passed _ _ _ _ _ _ _ k l _ _ is (elsewhere_module _ _ good _ w.in-Module.is) w.scratch-is)
     (λ u. ⊎_elim
-    (λ w. noting-passed _ _ _ _ _ _ _ k l _ _ is (elsewhere_use _ _ good _ _ w.1.given.1) w.2)
+    (λ w. noting-passed _ _ _ _ _ _ _ k l _ _ is (elsewhere_use _ _ good _ _ w.in-Use.is) w.scratch-is)
     (λ u. ⊎_elim
-    (λ w. noting-passed _ _ _ _ _ _ _ k l _ _ is (elsewhere_checked _ _ good _ _ w.1.given.1) w.2)
+    (λ w. noting-passed _ _ _ _ _ _ _ k l _ _ is (elsewhere_checked _ _ good _ _ w.in-CheckedUse.is) w.scratch-is)
     (λ u. ⊎_elim
-    (λ w. noting-passed _ _ _ _ _ _ _ k l _ _ is (elsewhere_forward _ _ good _ w.1.given.1) w.2)
-    (λ w. noting-passed _ _ _ _ _ _ _ k l _ _ is (elsewhere_bailout _ _ good _ w.1.given.1) w.2)
+    (λ w. noting-passed _ _ _ _ _ _ _ k l _ _ is (elsewhere_forward _ _ good _ w.in-Forward.is) w.scratch-is)
+    (λ w. noting-passed _ _ _ _ _ _ _ k l _ _ is (elsewhere_bailout _ _ good _ w.in-Bailout.is) w.scratch-is)
     u)
     u)
     u)
     u)
-    c.match-fact_at.branch
+    c.match-fact_at.branch-raw
 
 shape_of-scratch : tie.Need-shape_of-scratch invariant-loop-k decreases-loop-k
 shape_of-scratch c = c.loop-k.invariant.same_length

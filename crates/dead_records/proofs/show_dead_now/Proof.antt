@@ -51,9 +51,9 @@ loop-e-preserved c =
     let l : c.loop-e.e < (header_in c.args.numbers.now).entries = omega (arith, c.loop-e-test.true, entries_are _ _ c.header_of-h.ensures) in
     let d = c.is_dead_now.ensures in
     ⊎_elim
-    (λ w. showing-dead _ _ _ _ _ b l _ _ (sym d ∙ w.0.taken) w.2.auto.1.1.1.1.0 w.2.ensures w.5)
-    (λ w. showing-passed _ _ _ _ _ b l _ (sym d ∙ w.0.left) w.1)
-    c.if-is_dead_now.branch
+    (λ w. showing-dead _ _ _ _ _ b l _ _ (sym d ∙ w.if-is_dead_now.true) w.show_dead_of.auto.bits w.show_dead_of.ensures w.bits-is)
+    (λ w. showing-passed _ _ _ _ _ b l _ (sym d ∙ w.if-is_dead_now.false) w.bits-is)
+    c.if-is_dead_now.branch-raw
 
 shape_of-bits : tie.Need-shape_of-bits invariant-loop-e decreases-loop-e
 shape_of-bits c = c.loop-e.invariant.same_length

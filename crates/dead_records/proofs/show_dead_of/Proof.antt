@@ -74,12 +74,12 @@ loop-k-preserved c =
     let l : c.loop-k.k < length (related (entry_of (graph_in c.args.numbers.now) c.args.e.0)) = omega (arith, c.loop-k-test.true, c.related_count-related.ensures) in
     let first = c.requires.1.1.1 c.related_statement-r.result.«module».0 inside in
     ⊎_elim
-    (λ w. marking-set _ _ _ _ _ _ k l _ r _ _ _ _ w.0.taken w.1.ensures w.2.taken first w.8.auto.0 w.8.ensures w.11)
+    (λ w. marking-set _ _ _ _ _ _ k l _ r _ _ _ _ w.if-r-eq0.true w.is_pure.ensures w.if-is_pure.true first w.set.auto.row w.set.ensures w.bits-is)
     (λ u. ⊎_elim
-    (λ w. marking-impure _ _ _ _ _ _ k l _ r _ _ w.1.ensures w.2.left w.3)
-    (λ w. marking-unreachable _ _ _ _ _ _ k l _ r _ w.0.left w.1)
+    (λ w. marking-impure _ _ _ _ _ _ k l _ r _ _ w.is_pure.ensures w.if-is_pure.false w.bits-is)
+    (λ w. marking-unreachable _ _ _ _ _ _ k l _ r _ w.if-r-eq0.false w.bits-is)
     u)
-    c.if-r-eq0.branch
+    c.if-r-eq0.branch-raw
 
 shape_of-bits : tie.Need-shape_of-bits invariant-loop-k decreases-loop-k
 shape_of-bits c = c.loop-k.invariant.same_length

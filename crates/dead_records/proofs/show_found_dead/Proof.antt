@@ -57,9 +57,9 @@ loop-e-preserved c =
     let l : c.loop-e.e < (header_in c.args.numbers.now).entries = omega (arith, c.loop-e-test.true, entries_are _ _ h) in
     let dead = c.dead_at-dead.ensures in
     ⊎_elim
-    (λ w. showing-dead _ _ _ _ _ b l _ _ (dead_word _ c.args.plan.now _ h _ l (rw dead at w.0.taken)) w.2.auto.1.1.1.1.0 w.2.ensures w.5)
-    (λ w. showing-passed _ _ _ _ _ b l _ (live_word _ c.args.plan.now _ h _ l (rw dead at w.0.left)) w.1)
-    c.if-plan-dead-eq1.branch
+    (λ w. showing-dead _ _ _ _ _ b l _ _ (dead_word _ c.args.plan.now _ h _ l (rw dead at w.if-plan-dead-eq1.true)) w.show_dead_of.auto.bits w.show_dead_of.ensures w.bits-is)
+    (λ w. showing-passed _ _ _ _ _ b l _ (live_word _ c.args.plan.now _ h _ l (rw dead at w.if-plan-dead-eq1.false)) w.bits-is)
+    c.if-plan-dead-eq1.branch-raw
 
 shape_of-bits : tie.Need-shape_of-bits invariant-loop-e decreases-loop-e
 shape_of-bits c = c.loop-e.invariant.same_length

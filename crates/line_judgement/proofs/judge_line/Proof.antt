@@ -15,7 +15,7 @@ fact_at-fact-requires : tie.Need-fact_at-fact-requires
 fact_at-fact-requires c κs = search rules
 
 is_marked-requires : tie.Need-is_marked-requires
-is_marked-requires c κs = (c.requires.0.loaded, (line_good _ _ _ (form_is _ _ _ _ c.is_in_form.ensures c.if-not-is_in_form.false) _ c.fact_at-fact.ensures, c.requires.1.0.1.wide))
+is_marked-requires c κs = (c.requires.0.loaded, (line_good _ _ _ (form_is _ _ _ _ c.is_in_form.ensures c.if-not-is_in_form.false-raw) _ c.fact_at-fact.ensures, c.requires.1.0.1.wide))
 
 shape_of-marks-then-is_marked : tie.Need-shape_of-marks-then-is_marked
 shape_of-marks-then-is_marked c = search rules
@@ -24,7 +24,7 @@ returns-then-is_marked : tie.Need-returns-then-is_marked
 returns-then-is_marked c = bad-old _ _ _ _ _ _ c.is_in_form.ensures (c.if-not-is_in_form.false) c.requires.1.0.1 _ c.fact_at-fact.ensures _ c.is_marked.ensures c.if-is_marked.true
 
 justify-requires : tie.Need-justify-requires
-justify-requires c κs = (c.requires.0, (c.requires.1.0.0, (c.requires.1.1.0, c.requires.1.1.1, form_is _ _ _ _ c.is_in_form.ensures c.if-not-is_in_form.false, c.requires.1.1.2)))
+justify-requires c κs = (c.requires.0, (c.requires.1.0.0, (c.requires.1.1.0, c.requires.1.1.1, form_is _ _ _ _ c.is_in_form.ensures c.if-not-is_in_form.false-raw, c.requires.1.1.2)))
 
 enum_told-1 : tie.Need-enum_told-1
 enum_told-1 c = search rules
@@ -33,7 +33,7 @@ enum_known-next : tie.Need-enum_known-next
 enum_known-next c = search rules
 
 mark-requires : tie.Need-mark-requires
-mark-requires c κs = (c.requires.0.loaded, (line_good _ _ _ (form_is _ _ _ _ c.is_in_form.ensures c.if-not-is_in_form.false) _ c.fact_at-fact.ensures, c.requires.1.0.1.wide))
+mark-requires c κs = (c.requires.0.loaded, (line_good _ _ _ (form_is _ _ _ _ c.is_in_form.ensures c.if-not-is_in_form.false-raw) _ c.fact_at-fact.ensures, c.requires.1.0.1.wide))
 
 shape_of-marks-in-Bad : tie.Need-shape_of-marks-in-Bad
 shape_of-marks-in-Bad c = search rules

@@ -14,13 +14,13 @@ overflow_add-result : tie.Need-overflow_add-result
 overflow_add-result c = search rules
 
 shape_of-out : tie.Need-shape_of-out
-shape_of-out c = ⊎_elim (λ w. ap length w.2 ∙ simp length-set) (λ v. ⊎_elim (λ w. ap length w.2) (λ w. ap length w.1) v) c.if-at-skip.branch
+shape_of-out c = ⊎_elim (λ w. ap length w.out-is ∙ simp length-set) (λ v. ⊎_elim (λ w. ap length w.out-is) (λ w. ap length w.out-is) v) c.if-at-skip.branch-raw
 
 returns : tie.Need-returns
 returns c =
-    ⊎_elim (λ w. rw w.2 (byte_put _ _ _ _ (omega (arith, w.0.taken)) (omega (arith, w.1.taken))))
-    (λ v. ⊎_elim (λ w. rw w.2 (byte_over _ _ _ _ (omega (arith, w.0.taken)) (omega (arith, w.1.left)))) (λ w. rw w.1 (byte_passed _ _ _ _ (omega (arith, w.0.left)))) v)
-    c.if-at-skip.branch
+    ⊎_elim (λ w. rw w.out-is (byte_put _ _ _ _ (omega (arith, w.if-at-skip.true)) (omega (arith, w.if-at-skip-2.true))))
+    (λ v. ⊎_elim (λ w. rw w.out-is (byte_over _ _ _ _ (omega (arith, w.if-at-skip.true)) (omega (arith, w.if-at-skip-2.false)))) (λ w. rw w.out-is (byte_passed _ _ _ _ (omega (arith, w.if-at-skip.false)))) v)
+    c.if-at-skip.branch-raw
 
 pub put_byte_spec : {M : Type 1} → statement M
 put_byte_spec =

@@ -60,7 +60,7 @@ loop-k-smaller : tie.Need-loop-k-smaller invariant-loop-k decreases-loop-k
 loop-k-smaller c = omega (arith, c.loop-k-test.true)
 
 loop-k-preserved : tie.Need-loop-k-preserved invariant-loop-k decreases-loop-k
-loop-k-preserved c = let v = c.loop-k.invariant in let taken = c.loop-k-test.true in let is = c.fact_at-fact.ensures in let kind = c.kind_of.ensures in ⊎_elim (λ w. (ap length w.partners-is ∙ w.include_cjs_exports.auto.partners ∙ v.0, ap length w.marks-is ∙ w.include_cjs_exports.auto.marks ∙ v.1, ap length w.lines-is ∙ w.include_cjs_exports.auto.lines ∙ v.2, omega (arith, taken), gathering_same _ _ _ _ _ _ _ _ _ (gathering-step _ _ _ _ _ _ _ _ _ _ v.4 (omega (arith, taken)) _ is (sym kind ∙ w.if-kind_of-eq6.true) _ w.first_part.ensures _ _ _ _ (rw w.slice_known-then-kind_of-eq6-3-1.given.1 at w.include_cjs_exports.ensures)) w.partners-is w.marks-is w.lines-is w.total-is)) (λ w. (ap length w.partners-is ∙ v.0, ap length w.marks-is ∙ v.1, ap length w.lines-is ∙ v.2, omega (arith, taken), gathering_same _ _ _ _ _ _ _ _ _ (gathering-other _ _ _ _ _ _ _ _ _ _ v.4 (omega (arith, taken)) _ is (λ e. w.if-kind_of-eq6.false (kind ∙ e))) w.partners-is w.marks-is w.lines-is w.total-is)) c.if-kind_of-eq6.branch-raw
+loop-k-preserved c = let v = c.loop-k.invariant in let taken = c.loop-k-test.true in let is = c.fact_at-fact.ensures in let kind = c.kind_of.ensures in ⊎_elim (λ w. (ap length w.partners-is ∙ w.include_cjs_exports.auto.partners ∙ v.0, ap length w.marks-is ∙ w.include_cjs_exports.auto.marks ∙ v.1, ap length w.lines-is ∙ w.include_cjs_exports.auto.lines ∙ v.2, omega (arith, taken), gathering_same _ _ _ _ _ _ _ _ _ (gathering-step _ _ _ _ _ _ _ _ _ _ v.4 (omega (arith, taken)) _ is (sym kind ∙ w.if-kind_of-eq6.true) _ w.first_part.ensures _ _ _ _ (rw w.in-Lines.is at w.include_cjs_exports.ensures)) w.partners-is w.marks-is w.lines-is w.total-is)) (λ w. (ap length w.partners-is ∙ v.0, ap length w.marks-is ∙ v.1, ap length w.lines-is ∙ v.2, omega (arith, taken), gathering_same _ _ _ _ _ _ _ _ _ (gathering-other _ _ _ _ _ _ _ _ _ _ v.4 (omega (arith, taken)) _ is (λ e. w.if-kind_of-eq6.false (kind ∙ e))) w.partners-is w.marks-is w.lines-is w.total-is)) c.if-kind_of-eq6.branch-raw
 
 shape_of-partners : tie.Need-shape_of-partners invariant-loop-k decreases-loop-k
 shape_of-partners c = search rules

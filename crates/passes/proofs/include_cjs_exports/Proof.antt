@@ -65,7 +65,7 @@ loop-k-smaller : tie.Need-loop-k-smaller invariant-loop-k decreases-loop-k
 loop-k-smaller c = omega (arith, c.loop-k-test.true)
 
 loop-k-preserved : tie.Need-loop-k-preserved invariant-loop-k decreases-loop-k
-loop-k-preserved c = let v = c.loop-k.invariant in let size = c.resolved_export_count-exports.ensures.0 in let inside = c.loop-k-test.true in let is = c.resolved_export_from_commonjs.ensures in ⊎_elim (λ w. (ap length w.partners-is ∙ w.start_one.auto.partners ∙ v.0, ap length w.marks-is ∙ w.start_one.auto.marks ∙ v.1, ap length w.lines-is ∙ w.start_one.auto.lines ∙ v.2, omega (arith, inside), along_same _ _ _ _ _ _ _ _ (exporting-step _ _ _ _ size _ _ _ _ _ _ _ v.4 inside _ is w.if-resolved_export_from_commonjs-eq1.true _ w.resolved_export_symbol-s.ensures.0 _ _ _ _ (rw w.slice_known-then-resolved_export_from_commonjs-eq1-3-1.given.1 at w.start_one.ensures)) w.partners-is w.marks-is w.lines-is w.total-is)) (λ w. (ap length w.partners-is ∙ v.0, ap length w.marks-is ∙ v.1, ap length w.lines-is ∙ v.2, omega (arith, inside), along_same _ _ _ _ _ _ _ _ (exporting-other _ _ _ _ size _ _ _ _ _ _ _ v.4 inside _ is w.if-resolved_export_from_commonjs-eq1.false) w.partners-is w.marks-is w.lines-is w.total-is)) c.if-resolved_export_from_commonjs-eq1.branch-raw
+loop-k-preserved c = let v = c.loop-k.invariant in let size = c.resolved_export_count-exports.ensures.0 in let inside = c.loop-k-test.true in let is = c.resolved_export_from_commonjs.ensures in ⊎_elim (λ w. (ap length w.partners-is ∙ w.start_one.auto.partners ∙ v.0, ap length w.marks-is ∙ w.start_one.auto.marks ∙ v.1, ap length w.lines-is ∙ w.start_one.auto.lines ∙ v.2, omega (arith, inside), along_same _ _ _ _ _ _ _ _ (exporting-step _ _ _ _ size _ _ _ _ _ _ _ v.4 inside _ is w.if-resolved_export_from_commonjs-eq1.true _ w.resolved_export_symbol-s.ensures.0 _ _ _ _ (rw w.in-Lines.is at w.start_one.ensures)) w.partners-is w.marks-is w.lines-is w.total-is)) (λ w. (ap length w.partners-is ∙ v.0, ap length w.marks-is ∙ v.1, ap length w.lines-is ∙ v.2, omega (arith, inside), along_same _ _ _ _ _ _ _ _ (exporting-other _ _ _ _ size _ _ _ _ _ _ _ v.4 inside _ is w.if-resolved_export_from_commonjs-eq1.false) w.partners-is w.marks-is w.lines-is w.total-is)) c.if-resolved_export_from_commonjs-eq1.branch-raw
 
 shape_of-partners : tie.Need-shape_of-partners invariant-loop-k decreases-loop-k
 shape_of-partners c = search rules

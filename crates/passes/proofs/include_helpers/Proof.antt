@@ -64,7 +64,7 @@ loop-k-smaller : tie.Need-loop-k-smaller invariant-loop-k decreases-loop-k
 loop-k-smaller c = omega (arith, c.loop-k-test.true)
 
 loop-k-preserved : tie.Need-loop-k-preserved invariant-loop-k decreases-loop-k
-loop-k-preserved c = let v = c.loop-k.invariant in let q = ap (λ (x : Header). x.helpers) c.header_of-h.ensures in let taken = c.loop-k-test.true in let is = c.flag.ensures in ⊎_elim (λ w. (ap length w.partners-is ∙ w.start_one.auto.partners ∙ v.0, ap length w.marks-is ∙ w.start_one.auto.marks ∙ v.1, ap length w.lines-is ∙ w.start_one.auto.lines ∙ v.2, v.3, omega (arith, taken), along_same _ _ _ _ _ _ _ _ (using-step _ _ _ _ _ _ _ _ _ _ _ v.5 (omega (arith, taken, q)) _ is w.if-flag.true _ w.helper_symbol-s.ensures.0 _ _ _ _ (rw w.slice_known-then-flag-3-1.given.1 at w.start_one.ensures)) w.partners-is w.marks-is w.lines-is w.total-is)) (λ w. (ap length w.partners-is ∙ v.0, ap length w.marks-is ∙ v.1, ap length w.lines-is ∙ v.2, v.3, omega (arith, taken), along_same _ _ _ _ _ _ _ _ (using-other _ _ _ _ _ _ _ _ _ _ _ v.5 (omega (arith, taken, q)) _ is w.if-flag.false) w.partners-is w.marks-is w.lines-is w.total-is)) c.if-flag.branch-raw
+loop-k-preserved c = let v = c.loop-k.invariant in let q = ap (λ (x : Header). x.helpers) c.header_of-h.ensures in let taken = c.loop-k-test.true in let is = c.flag.ensures in ⊎_elim (λ w. (ap length w.partners-is ∙ w.start_one.auto.partners ∙ v.0, ap length w.marks-is ∙ w.start_one.auto.marks ∙ v.1, ap length w.lines-is ∙ w.start_one.auto.lines ∙ v.2, v.3, omega (arith, taken), along_same _ _ _ _ _ _ _ _ (using-step _ _ _ _ _ _ _ _ _ _ _ v.5 (omega (arith, taken, q)) _ is w.if-flag.true _ w.helper_symbol-s.ensures.0 _ _ _ _ (rw w.in-Lines.is at w.start_one.ensures)) w.partners-is w.marks-is w.lines-is w.total-is)) (λ w. (ap length w.partners-is ∙ v.0, ap length w.marks-is ∙ v.1, ap length w.lines-is ∙ v.2, v.3, omega (arith, taken), along_same _ _ _ _ _ _ _ _ (using-other _ _ _ _ _ _ _ _ _ _ _ v.5 (omega (arith, taken, q)) _ is w.if-flag.false) w.partners-is w.marks-is w.lines-is w.total-is)) c.if-flag.branch-raw
 
 shape_of-partners : tie.Need-shape_of-partners invariant-loop-k decreases-loop-k
 shape_of-partners c = search rules

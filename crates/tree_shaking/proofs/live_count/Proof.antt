@@ -55,7 +55,7 @@ loop-m-preserved c =
     let h = c.header_of-h.ensures in
     let a = c.live_at-first.ensures in
     let u = rw h at c.loop-m-test.true in
-    ⊎_elim (λ w. rw w.1 (count_here _ _ _ _ u (rw (a, h) at w.0.taken) i)) (λ w. rw w.1 (count_not _ _ _ _ u (rw (a, h) at w.0.left) i)) c.if-plan-first-eq1.branch
+    ⊎_elim (λ w. rw w.live-is (count_here _ _ _ _ u (rw (a, h) at w.if-plan-first-eq1.true) i)) (λ w. rw w.live-is (count_not _ _ _ _ u (rw (a, h) at w.if-plan-first-eq1.false) i)) c.if-plan-first-eq1.branch-raw
 
 returns : tie.Need-returns invariant-loop-m decreases-loop-m
 unfolding graph_in
