@@ -43,7 +43,7 @@ loop-k-smaller : tie.Need-loop-k-smaller invariant-loop-k decreases-loop-k
 loop-k-smaller c = omega (arith, c.loop-k-test.true)
 
 loop-k-preserved : tie.Need-loop-k-preserved invariant-loop-k decreases-loop-k
-loop-k-preserved c = let v = c.loop-k.invariant in let size = c.resolved_export_count-exports.ensures.0 in let inside = c.loop-k-test.true in let is = c.resolved_export_from_commonjs.ensures in ⊎_elim (λ w. (ap length w.9 ∙ w.4.auto.1.1.0 ∙ v.0, ap length w.10 ∙ w.4.auto.1.1.1.0 ∙ v.1, omega (arith, inside), along_same _ _ _ _ _ _ _ _ _ (along_step _ _ _ _ _ _ _ _ _ _ _ (exports-here _ _ size _ inside _ is w.0.taken _ w.1.ensures.0) v.3 _ _ _ w.4.ensures) w.9 w.10 w.11)) (λ w. (ap length w.1 ∙ v.0, ap length w.2 ∙ v.1, omega (arith, inside), along_same _ _ _ _ _ _ _ _ _ (along_as _ _ _ _ _ _ _ _ _ _ (exports-other _ _ size _ inside _ is w.0.left) v.3) w.1 w.2 w.3)) c.if-resolved_export_from_commonjs-eq1.branch
+loop-k-preserved c = let v = c.loop-k.invariant in let size = c.resolved_export_count-exports.ensures.0 in let inside = c.loop-k-test.true in let is = c.resolved_export_from_commonjs.ensures in ⊎_elim (λ w. (ap length w.seen-is ∙ w.note-total.auto.seen ∙ v.0, ap length w.out-is ∙ w.note-total.auto.out ∙ v.1, omega (arith, inside), along_same _ _ _ _ _ _ _ _ _ (along_step _ _ _ _ _ _ _ _ _ _ _ (exports-here _ _ size _ inside _ is w.if-resolved_export_from_commonjs-eq1.true _ w.resolved_export_symbol-s.ensures.0) v.3 _ _ _ w.note-total.ensures) w.seen-is w.out-is w.total-is)) (λ w. (ap length w.seen-is ∙ v.0, ap length w.out-is ∙ v.1, omega (arith, inside), along_same _ _ _ _ _ _ _ _ _ (along_as _ _ _ _ _ _ _ _ _ _ (exports-other _ _ size _ inside _ is w.if-resolved_export_from_commonjs-eq1.false) v.3) w.seen-is w.out-is w.total-is)) c.if-resolved_export_from_commonjs-eq1.branch-raw
 
 shape_of-seen : tie.Need-shape_of-seen invariant-loop-k decreases-loop-k
 shape_of-seen c = search rules

@@ -47,7 +47,7 @@ loop-m-smaller : tie.Need-loop-m-smaller invariant-loop-m decreases-loop-m
 loop-m-smaller c = omega (arith, c.loop-m-test.true)
 
 loop-m-preserved : tie.Need-loop-m-preserved invariant-loop-m decreases-loop-m
-loop-m-preserved c = let v = c.loop-m.invariant in let inside = c.loop-m-test.true in let live = c.live_at-live.ensures in let is = c.header_of-h.ensures in ⊎_elim (λ w. (ap length w.8 ∙ w.3.auto.1.1.0 ∙ v.0, ap length w.9 ∙ w.3.auto.1.1.1.0 ∙ v.1, omega (arith, inside), along_same _ _ _ _ _ _ _ _ _ (along_step _ _ _ _ _ _ _ _ _ _ _ (lives-here _ _ _ _ is _ inside (rw live at w.0.taken)) v.3 _ _ _ w.3.ensures) w.8 w.9 w.10)) (λ w. (ap length w.1 ∙ v.0, ap length w.2 ∙ v.1, omega (arith, inside), along_same _ _ _ _ _ _ _ _ _ (along_as _ _ _ _ _ _ _ _ _ _ (lives-other _ _ _ _ is _ inside (rw live at w.0.left)) v.3) w.1 w.2 w.3)) c.if-plan-live-eq1.branch
+loop-m-preserved c = let v = c.loop-m.invariant in let inside = c.loop-m-test.true in let live = c.live_at-live.ensures in let is = c.header_of-h.ensures in ⊎_elim (λ w. (ap length w.seen-is ∙ w.note_entry-total.auto.seen ∙ v.0, ap length w.out-is ∙ w.note_entry-total.auto.out ∙ v.1, omega (arith, inside), along_same _ _ _ _ _ _ _ _ _ (along_step _ _ _ _ _ _ _ _ _ _ _ (lives-here _ _ _ _ is _ inside (rw live at w.if-plan-live-eq1.true)) v.3 _ _ _ w.note_entry-total.ensures) w.seen-is w.out-is w.total-is)) (λ w. (ap length w.seen-is ∙ v.0, ap length w.out-is ∙ v.1, omega (arith, inside), along_same _ _ _ _ _ _ _ _ _ (along_as _ _ _ _ _ _ _ _ _ _ (lives-other _ _ _ _ is _ inside (rw live at w.if-plan-live-eq1.false)) v.3) w.seen-is w.out-is w.total-is)) c.if-plan-live-eq1.branch-raw
 
 shape_of-seen : tie.Need-shape_of-seen invariant-loop-m decreases-loop-m
 shape_of-seen c = search rules

@@ -61,9 +61,9 @@ loop-i-preserved c =
     let k = c.loop-i.invariant in
     let l : c.loop-i.i < (graph_in c.args.numbers.now).header.entries = omega (arith, c.loop-i-test.true, entries_are _ _ c.header_of-h.ensures) in
     ⊎_elim
-    (λ w. keeping-more _ _ _ _ c.requires.1 _ _ _ k l _ c.is_final.ensures _ _ w.0.taken w.2 w.3)
-    (λ w. keeping-passed _ _ _ _ c.requires.1 _ _ _ k l _ c.is_final.ensures _ _ w.0.left w.1 w.2)
-    c.if-is_final.branch
+    (λ w. keeping-more _ _ _ _ c.requires.1 _ _ _ k l _ c.is_final.ensures _ _ w.if-is_final.true w.plan-is w.n-is)
+    (λ w. keeping-passed _ _ _ _ c.requires.1 _ _ _ k l _ c.is_final.ensures _ _ w.if-is_final.false w.plan-is w.n-is)
+    c.if-is_final.branch-raw
 
 shape_of-plan : tie.Need-shape_of-plan invariant-loop-i decreases-loop-i
 shape_of-plan c = c.loop-i.invariant.same_length
