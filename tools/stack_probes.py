@@ -4,11 +4,12 @@
     tools/stack_probes.py FILE
     tools/stack_probes.py --self-test
 
-A frame of more than a page is touched page by page before it is used. LLVM does so with a loop that takes register r11:
+A frame of more than 0xc00 bytes is touched at each 0xc00, which is less than a page, before it is used. LLVM does so with a loop that
+takes register r11:
 
-    mov    %rsp,%r11                (or both at once: lea -0x46000(%rsp),%r11)
-    sub    $0x46000,%r11
-    sub    $0x1000,%rsp
+    mov    %rsp,%r11                (or both at once: lea -0x45c00(%rsp),%r11)
+    sub    $0x45c00,%r11
+    sub    $0xc00,%rsp
     movq   $0x0,(%rsp)
     cmp    %r11,%rsp
     jne    to the sub of %rsp
@@ -16,24 +17,32 @@ A frame of more than a page is touched page by page before it is used. LLVM does
 At a function's entry r11 is free. Once the loop had been moved behind the first tests of a function, where r11 held a value,
 and the function gave wrong answers (docs/DECISIONS.md, "Frames of their own"). So the loop may stand behind nothing but the
 instructions of a prologue. The steps of a smaller frame are written out, without a loop and without a register; they have to
-stand there too. Whatever else lowers the stack in a loop, touches it a page below, lowers it by more than a page at once or by a
-register, or gives back more than a page that no probe was seen for, is a probe of another form and fails: another compiler's
+stand there too. Whatever else lowers the stack in a loop, touches it a step below, lowers it by more than a step at once or by a
+register, or gives back more than a step that no probe was seen for, is a probe of another form and fails: another compiler's
 probes must be looked at before they are trusted.
+
+One other form is known, in `main`, with which the toolchain begins each program: room for the message that the processor is too old is
+taken behind tests. That loop is made before registers are given out, so it takes none that holds a value.
 """
 import re
 import subprocess
 import sys
 
-PAGE = 0x1000
+STEP_BYTES = 0xC00
 FUNCTION = re.compile(r"^[0-9a-f]+ <(.+)>:$")
 INSTRUCTION = re.compile(r"^ *([0-9a-f]+):\t([^#<]+)")
 
-LOOP = r"sub \$0x1000,%rsp;(mov|or)q \$0x0,\(%rsp\);cmp %r11,%rsp;jne \w+"
+LOOP = r"sub \$0xc00,%rsp;(mov|or)q \$0x0,\(%rsp\);cmp %r11,%rsp;jne \w+"
 SETUPS = {1: r"lea -0x\w+\(%rsp\),%r11", 2: r"mov %rsp,%r11;sub \$0x\w+,%r11"}  # by the number of their instructions
-STEP = r"sub \$0x1000,%rsp;(mov|or)q \$0x0,\(%rsp\)"
+STEP = r"sub \$0xc00,%rsp;(mov|or)q \$0x0,\(%rsp\)"
 TOUCH = r"(mov|or|xor|and|add|test|cmp)[bwlq]? .*\w*\(%rsp\).*"
 PROLOGUE = rf"(({STEP}|endbr64|nop|push %\w+|mov %rsp,%rbp|(sub|and) \$\w+,%rsp);)*"
 LEAVES = r"j\w+ .*|call.*|ret.*"
+# What stands before, in and behind the loop in a program's `main`: instructions with a register and two jumps.
+IN_MAIN = (
+    r"mov %rsp,(?P<by>%r\w+);sub \$0x\w+,(?P=by);cmp %rsp,(?P=by);jge (?P<out>\w+);"
+    r"xorq \$0x0,\(%rsp\);sub \$0xc00,%rsp;cmp %rsp,(?P=by);jl (?P<again>\w+);mov (?P=by),%rsp"
+)
 
 
 def functions(text):
@@ -80,10 +89,18 @@ def judge(name, code):
     def at_entry(i):
         return not name.endswith(".cold") and re.fullmatch(PROLOGUE, "".join(w + ";" for w in words[:i]))
 
+    def in_main(first, last):
+        """Whether this loop is the one of a program's `main`."""
+        form = re.fullmatch(IN_MAIN, joined(max(first - 4, 0), last + 2)) if name == "main" else None
+        return form and [int(form[it], 16) for it in ("again", "out")] == [code[first][0], code[last + 1][0]]
+
     def fault(i, what):
         faults.append(f"{name}, at {code[i][0]:x}: {what} ({words[i]})")
 
     for first, last in loops(code):
+        if in_main(first, last):
+            in_loop.update(range(first, last + 2))
+            continue
         in_loop.update(range(first, last + 1))
         setup = next((first - n for n, s in SETUPS.items() if first >= n and re.fullmatch(s, joined(first - n, first))), None)
         if setup is None or not re.fullmatch(LOOP, joined(first, last + 1)):
@@ -94,14 +111,14 @@ def judge(name, code):
             fault(setup, "a stack probe behind the function's entry")
     for i, w in enumerate(words):
         by = 0 if i in in_loop else lowered(w)
-        if by is None or by > PAGE:
-            fault(i, "a probe of another form, or none: the stack lowered by more than a page or by a register")
-        elif by == PAGE and re.fullmatch(STEP, joined(i, i + 2)) and at_entry(i):
+        if by is None or by > STEP_BYTES:
+            fault(i, "a probe of another form, or none: the stack lowered by more than a step or by a register")
+        elif by == STEP_BYTES and re.fullmatch(STEP, joined(i, i + 2)) and at_entry(i):
             steps += 1
-        elif by == PAGE and re.fullmatch(TOUCH, joined(i + 1, i + 2)):
+        elif by == STEP_BYTES and re.fullmatch(TOUCH, joined(i + 1, i + 2)):
             fault(i, "a probe of another form, or behind the function's entry")
-        elif by < -PAGE and not good + steps and not faults:
-            fault(i, "a probe of another form, or none: more than a page given back")
+        elif by < -STEP_BYTES and not good + steps and not faults:
+            fault(i, "a probe of another form, or none: more than a step given back")
     return good, steps, faults
 
 
@@ -129,20 +146,20 @@ LOOP_AT_ENTRY = """
    4:\tpush   %rbp
    5:\tpush   %rbx
    6:\tmov    %rsp,%r11
-   9:\tsub    $0x46000,%r11
-  10:\tsub    $0x1000,%rsp
+   9:\tsub    $0x45c00,%r11
+  10:\tsub    $0xc00,%rsp
   17:\tmovq   $0x0,(%rsp)
   1f:\tcmp    %r11,%rsp
   22:\tjne    10 <large+0x10>
-  24:\tsub    $0x70,%rsp
+  24:\tsub    $0x470,%rsp
   28:\tret
 """
 OTHERS_AT_ENTRY = """
 0000000000000030 <crate::large<T>>:
   30:\tpush   %rbp
   31:\tmov    %rsp,%rbp
-  34:\tlea    -0x46000(%rsp),%r11
-  3c:\tsub    $0x1000,%rsp
+  34:\tlea    -0x45c00(%rsp),%r11
+  3c:\tsub    $0xc00,%rsp
   43:\tmovq   $0x0,(%rsp)
   4b:\tcmp    %r11,%rsp
   4e:\tjne    3c <crate::large<T>+0xc>
@@ -150,12 +167,12 @@ OTHERS_AT_ENTRY = """
   54:\tret
 0000000000000060 <middle>:
   60:\tpush   %rbx
-  61:\tsub    $0x1000,%rsp
+  61:\tsub    $0xc00,%rsp
   68:\tmovq   $0x0,(%rsp)
-  70:\tsub    $0x1000,%rsp
+  70:\tsub    $0xc00,%rsp
   77:\tmovq   $0x0,(%rsp)
-  7f:\tsub    $0xc70,%rsp
-  86:\tadd    $0x2c70,%rsp
+  7f:\tsub    $0xb70,%rsp
+  86:\tadd    $0x2370,%rsp
   8d:\tret
 0000000000000090 <small>:
   90:\ttest   %rdi,%rdi
@@ -165,9 +182,32 @@ OTHERS_AT_ENTRY = """
   9d:\tjmp    90 <small>
   9e:\tret
 """
+MAIN = """
+00000000000000a0 <main>:
+  a0:\tpush   %rbp
+  a1:\tmov    %rsp,%rbp
+  a4:\ttest   $0x982201,%ebx
+  aa:\tjne    b6 <main+0x16>
+  ac:\tlea    -0x8(%rbp),%rsp
+  b0:\tpop    %rbp
+  b1:\tjmp    30 <keep::main+start>
+  b6:\tmov    %rsp,%rsi
+  b9:\tsub    $0x90,%rsi
+  c0:\tcmp    %rsp,%rsi
+  c3:\tjge    d6 <main+0x36>
+  c5:\txorq   $0x0,(%rsp)
+  ca:\tsub    $0xc00,%rsp
+  d1:\tcmp    %rsp,%rsi
+  d4:\tjl     c5 <main+0x25>
+  d6:\tmov    %rsi,%rsp
+  d9:\tlea    -0x8(%rbp),%rsp
+  dd:\tpop    %rbp
+  de:\tret
+"""
 SELF_TESTS = [
     (0, "2 stack probes, all at a function's entry", LOOP_AT_ENTRY + OTHERS_AT_ENTRY),
     (0, "0 stack probes", OTHERS_AT_ENTRY[OTHERS_AT_ENTRY.index("0000000000000090") :]),
+    (0, "1 stack probes, all at a function's entry", LOOP_AT_ENTRY + MAIN),
     (1, "no function found", ""),
     (1, "no function found", "\nhost.o:     file format elf64-x86-64\n"),
     # behind a test and a jump
@@ -177,16 +217,22 @@ SELF_TESTS = [
     (1, "middle, at 61: a probe of another form", OTHERS_AT_ENTRY.replace("60:\tpush   %rbx", "60:\ttest   %rdi,%rdi")),
     # a part of a function that has been moved away begins without an entry
     (1, "large.cold, at 6: a stack probe behind", LOOP_AT_ENTRY.replace("<large>", "<large.cold>")),
-    # another beginning, register, touch or end, a step that is no page
-    (1, "large, at 10: a probe of another form", LOOP_AT_ENTRY.replace("sub    $0x46000,%r11", "mov    %rdi,%r11")),
+    # another beginning, register, touch or end, another step
+    (1, "large, at 10: a probe of another form", LOOP_AT_ENTRY.replace("sub    $0x45c00,%r11", "mov    %rdi,%r11")),
     (1, "large, at 10: a probe of another form", LOOP_AT_ENTRY.replace("%r11", "%rax")),
     (1, "large, at 10: a probe of another form", LOOP_AT_ENTRY.replace("movq   $0x0,(%rsp)", "test   %rax,(%rsp)")),
     (1, "large, at 10: a probe of another form", LOOP_AT_ENTRY.replace("jne", "ja ")),
-    (1, "large, at 10: a probe of another form", LOOP_AT_ENTRY.replace("0x1000,", "0x800,")),
+    (1, "large, at 10: a probe of another form", LOOP_AT_ENTRY.replace("0xc00,", "0x800,")),
     # no probe in the function, or none that is seen
-    (1, "middle, at 86: a probe of another form", re.sub(r"sub    \$0x1000.*|movq.*", "nop", OTHERS_AT_ENTRY)),
-    (1, "middle, at 7f: a probe of another form", OTHERS_AT_ENTRY.replace("sub    $0xc70", "sub    $0x4c70")),
-    (1, "middle, at 7f: a probe of another form", OTHERS_AT_ENTRY.replace("sub    $0xc70", "sub    %rax")),
+    (1, "middle, at 86: a probe of another form", re.sub(r"sub    \$0xc00.*|movq.*", "nop", OTHERS_AT_ENTRY)),
+    (1, "middle, at 7f: a probe of another form", OTHERS_AT_ENTRY.replace("sub    $0xb70", "sub    $0x4b70")),
+    (1, "middle, at 7f: a probe of another form", OTHERS_AT_ENTRY.replace("sub    $0xb70", "sub    %rax")),
+    # what is allowed in `main` elsewhere, or with another register, step or end
+    (1, "other, at c5: a probe of another form", MAIN.replace("<main>", "<other>")),
+    (1, "main, at c5: a probe of another form", MAIN.replace("d1:\tcmp    %rsp,%rsi", "d1:\tcmp    %rsp,%rdi")),
+    (1, "main, at c5: a probe of another form", MAIN.replace("$0xc00", "$0x1000")),
+    (1, "main, at c5: a probe of another form", MAIN.replace("mov    %rsi,%rsp", "mov    %rax,%rsp")),
+    (1, "main, at c5: a probe of another form", MAIN.replace("jge    d6", "jge    d9")),
 ]
 
 

@@ -1,7 +1,7 @@
 #!/usr/bin/env bash
 # Runs a program over the examples and compares what it prints with their listings.
 #
-#     tools/try_examples.sh PROGRAM [ARGUMENT ..]      such as target/bin/keep, or ./keep -
+#     tools/try_examples.sh PROGRAM [ARGUMENT ..]      such as crates/keep/out/keep, or ./keep -
 #
 # The program gets a graph file as standard input. It may end with exit code 0 or 1; any other, or another listing, is a
 # difference. Exit code: 0 if there is none, else 1; 2 without a program.

@@ -2,7 +2,7 @@
 # Runs the program `keep`, and the command ./keep over it, on files at its limits, on input that comes in pieces, and where a read or a
 # write fails.
 #
-#     tools/try_program.sh PROGRAM      such as target/bin/keep
+#     tools/try_program.sh PROGRAM      such as crates/keep/out/keep
 #
 # The files, and what has to be printed for them, are made by tools/program_inputs.py. Exit code: 0 if all is as expected, else 1;
 # 2 without a program.

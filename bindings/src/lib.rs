@@ -59,9 +59,9 @@
 //! `std`, on by default: the functions that start a thread. Without it the crate is `no_std`, with `alloc`.
 //!
 //! # Linking
-//! The crate links the static library `libhost.a`, for x86-64 Linux: from the folder that `KEEP_LIB_DIR` names, else from
-//! `target/staticlib` of the repository, where `rt staticlib host` leaves it, else the built one in the crate's folder
-//! `lib`.
+//! The crate links the static library of the engine, for x86-64 Linux: `libhost.a` or `libhost_c.a` in the folder that
+//! `KEEP_LIB_DIR` names, else `crates/host_c/out/libhost_c.a` of the repository, where `rt lib` leaves it, else the built
+//! one in the crate's folder `lib`.
 #![no_std]
 #![warn(missing_docs)]
 

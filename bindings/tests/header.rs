@@ -157,7 +157,7 @@ fn compiled(source: &Path, language: Language) -> PathBuf {
         .arg(package().join("include"))
         .arg(source)
         .args(["-x", "none"])
-        .arg(Path::new(env!("KEEP_LIBRARY_FOLDER")).join("libhost.a"))
+        .arg(env!("KEEP_LIBRARY"))
         .arg("-o")
         .arg(&program)
         .output()
