@@ -19,7 +19,7 @@ enum_told-1 c = search rules
 
 work-requires : tie.Need-work-requires
 unfolding graph_in
-work-requires c κs = let g = c.may_begin.ensures in let e = c.in-Accepted.is in ((g.good e).0, (((begins_fits _ _ _ (rows c.args.marks.now c.args.lines.now c.args.modules-row.now c.args.statements-row.now c.args.used.now c.args.external.now c.args.json.now c.args.reason.now c.args.dead.now c.args.helpers.now c.args.entries.now) g e).0, partners_fit _ _ c.requires.0.is _ c.requires.1.1.0.0, c.requires.1.1.0.2), (plan_fits _ _ c.requires.0.is _ c.requires.1.1.1.0, c.requires.1.1.1.1, c.requires.1.1.1.2)))
+work-requires c κs = let g = c.may_begin.ensures in let e = c.in-Accepted.is in ((g.good e).0, (((begins_fits _ _ _ (rows c.args.marks.now c.args.lines.now c.args.modules_row.now c.args.statements_row.now c.args.used.now c.args.external.now c.args.json.now c.args.reason.now c.args.dead.now c.args.helpers.now c.args.entries.now) g e).0, partners_fit _ _ c.requires.0.is _ c.requires.1.1.0.0, c.requires.1.1.0.2), (plan_fits _ _ c.requires.0.is _ c.requires.1.1.1.0, c.requires.1.1.1.1, c.requires.1.1.1.2)))
 
 enum_told-in-Full : tie.Need-enum_told-in-Full
 enum_told-in-Full c = search rules
@@ -29,11 +29,11 @@ enum_known-x c = search rules
 
 show_all-requires : tie.Need-show_all-requires
 unfolding graph_in
-show_all-requires c κs = let g = c.may_begin.ensures in let e = c.in-Accepted.is in let h = c.work.ensures.holds _ c.in-Done.is in (g.good e, ((begins_fits _ _ _ (rows c.args.marks.now c.args.lines.now c.args.modules-row.now c.args.statements-row.now c.args.used.now c.args.external.now c.args.json.now c.args.reason.now c.args.dead.now c.args.helpers.now c.args.entries.now) g e).1, (h.held.base_inside, h.held.room, h.held.good)))
+show_all-requires c κs = let g = c.may_begin.ensures in let e = c.in-Accepted.is in let h = c.work.ensures.holds _ c.in-Done.is in (g.good e, ((begins_fits _ _ _ (rows c.args.marks.now c.args.lines.now c.args.modules_row.now c.args.statements_row.now c.args.used.now c.args.external.now c.args.json.now c.args.reason.now c.args.dead.now c.args.helpers.now c.args.entries.now) g e).1, (h.held.base_inside, h.held.room, h.held.good)))
 
 show_run-count-requires : tie.Need-show_run-count-requires
 unfolding graph_in
-show_run-count-requires c κs = let g = c.may_begin.ensures in let e = c.in-Accepted.is in let h = c.work.ensures.holds _ c.in-Done.is in ((g.good e).0, (shows_held _ _ _ _ _ h, (still_fits c.work.auto.partners (scratch_fits _ _ c.requires.0.is _ c.requires.1.1.0.1), (begins_fits _ _ _ (rows c.args.marks.now c.args.lines.now c.args.modules-row.now c.args.statements-row.now c.args.used.now c.args.external.now c.args.json.now c.args.reason.now c.args.dead.now c.args.helpers.now c.args.entries.now) g e).2)))
+show_run-count-requires c κs = let g = c.may_begin.ensures in let e = c.in-Accepted.is in let h = c.work.ensures.holds _ c.in-Done.is in ((g.good e).0, (shows_held _ _ _ _ _ h, (still_fits c.work.auto.partners (scratch_fits _ _ c.requires.0.is _ c.requires.1.1.0.1), (begins_fits _ _ _ (rows c.args.marks.now c.args.lines.now c.args.modules_row.now c.args.statements_row.now c.args.used.now c.args.external.now c.args.json.now c.args.reason.now c.args.dead.now c.args.helpers.now c.args.entries.now) g e).2)))
 
 overflow_sub-result : tie.Need-overflow_sub-result
 overflow_sub-result c = (c.work.ensures.holds _ c.in-Done.is).held.base_inside
@@ -42,7 +42,7 @@ shape_of-tables-in-Refused : tie.Need-shape_of-tables-in-Refused
 shape_of-tables-in-Refused c = search rules
 
 returns-in-Refused : tie.Need-returns-in-Refused
-returns-in-Refused c = ends_refused _ _ _ (rows c.args.marks.now c.args.lines.now c.args.modules-row.now c.args.statements-row.now c.args.used.now c.args.external.now c.args.json.now c.args.reason.now c.args.dead.now c.args.helpers.now c.args.entries.now) c.may_begin.ensures c.in-Refused.is
+returns-in-Refused c = ends_refused _ _ _ (rows c.args.marks.now c.args.lines.now c.args.modules_row.now c.args.statements_row.now c.args.used.now c.args.external.now c.args.json.now c.args.reason.now c.args.dead.now c.args.helpers.now c.args.entries.now) c.may_begin.ensures c.in-Refused.is
 
 shape_of-tables-in-Full : tie.Need-shape_of-tables-in-Full
 shape_of-tables-in-Full c = search rules
@@ -60,7 +60,7 @@ shape_of-lines-in-Full : tie.Need-shape_of-lines-in-Full
 shape_of-lines-in-Full c = search rules
 
 returns-in-Full : tie.Need-returns-in-Full
-returns-in-Full c = ends_worked _ _ _ (rows c.args.marks.now c.args.lines.now c.args.modules-row.now c.args.statements-row.now c.args.used.now c.args.external.now c.args.json.now c.args.reason.now c.args.dead.now c.args.helpers.now c.args.entries.now) c.may_begin.ensures c.in-Accepted.is (ends_short _ (rows c.args.marks.now c.args.lines.now c.args.modules-row.now c.args.statements-row.now c.args.used.now c.args.external.now c.args.json.now c.args.reason.now c.args.dead.now c.args.helpers.now c.args.entries.now) _ _ _ _ c.work.ensures c.in-Full.is)
+returns-in-Full c = ends_worked _ _ _ (rows c.args.marks.now c.args.lines.now c.args.modules_row.now c.args.statements_row.now c.args.used.now c.args.external.now c.args.json.now c.args.reason.now c.args.dead.now c.args.helpers.now c.args.entries.now) c.may_begin.ensures c.in-Accepted.is (ends_short _ (rows c.args.marks.now c.args.lines.now c.args.modules_row.now c.args.statements_row.now c.args.used.now c.args.external.now c.args.json.now c.args.reason.now c.args.dead.now c.args.helpers.now c.args.entries.now) _ _ _ _ c.work.ensures c.in-Full.is)
 
 shape_of-tables-in-Done : tie.Need-shape_of-tables-in-Done
 shape_of-tables-in-Done c = c.may_begin.auto.tables
@@ -105,7 +105,7 @@ shape_of-entries : tie.Need-shape_of-entries
 shape_of-entries c = search rules
 
 returns-in-Done : tie.Need-returns-in-Done
-returns-in-Done c = ends_worked _ _ _ (rows c.args.marks.now c.args.lines.now c.args.modules-row.now c.args.statements-row.now c.args.used.now c.args.external.now c.args.json.now c.args.reason.now c.args.dead.now c.args.helpers.now c.args.entries.now) c.may_begin.ensures c.in-Accepted.is (ends_done _ (rows c.args.marks.now c.args.lines.now c.args.modules-row.now c.args.statements-row.now c.args.used.now c.args.external.now c.args.json.now c.args.reason.now c.args.dead.now c.args.helpers.now c.args.entries.now) (rows c.work.new.marks c.work.new.lines c.show_all.new.modules_row c.show_all.new.statements_row c.show_all.new.used c.show_all.new.external c.show_all.new.json c.show_all.new.reason c.show_run-count.new.dead c.show_run-count.new.helpers c.show_run-count.new.entries) _ _ (c.work.ensures.holds _ c.in-Done.is) c.work.auto.marks c.work.auto.lines (λ i. (c.slice_known-in-Accepted-2-1.given i).fits) c.show_all.ensures _ c.show_run-count.ensures)
+returns-in-Done c = ends_worked _ _ _ (rows c.args.marks.now c.args.lines.now c.args.modules_row.now c.args.statements_row.now c.args.used.now c.args.external.now c.args.json.now c.args.reason.now c.args.dead.now c.args.helpers.now c.args.entries.now) c.may_begin.ensures c.in-Accepted.is (ends_done _ (rows c.args.marks.now c.args.lines.now c.args.modules_row.now c.args.statements_row.now c.args.used.now c.args.external.now c.args.json.now c.args.reason.now c.args.dead.now c.args.helpers.now c.args.entries.now) (rows c.work.new.marks c.work.new.lines c.show_all.new.modules_row c.show_all.new.statements_row c.show_all.new.used c.show_all.new.external c.show_all.new.json c.show_all.new.reason c.show_run-count.new.dead c.show_run-count.new.helpers c.show_run-count.new.entries) _ _ (c.work.ensures.holds _ c.in-Done.is) c.work.auto.marks c.work.auto.lines (λ i. (c.slice_known-in-Accepted-2-1.given i).fits) c.show_all.ensures _ c.show_run-count.ensures)
 
 pub run_in_spec : {M : Type 1} → statement M
 run_in_spec =
