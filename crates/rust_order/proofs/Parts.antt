@@ -152,7 +152,7 @@ module _ (g p : ℕ → List ℕ) (Node : ℕ → Type 0) (back : (u v : ℕ) �
     numbered_more : (i j m : ℕ) → i < j → At j → In m (component all i) → Earlier (new-last j) m (r ∷ rs)
     numbered_more i j m h (inl w) a =
         let l : i < length o.groups = omega (arith, h, w.0) in
-        rw (last-old j w.0) (inr (o.numbered i j m h w.0 (moved_in m (old_at o.groups q.members i l) a)))
+        subst (λ (x : ℕ). Earlier x m (r ∷ rs)) (sym (last-old j w.0)) (inr (o.numbered i j m h w.0 (moved_in m (old_at o.groups q.members i l) a)))
     numbered_more i j m h (inr w) a =
         let l : i < length o.groups = omega (arith, h, w.0) in
         let k = moved_in m (old_at o.groups q.members i l) a in
