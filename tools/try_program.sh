@@ -100,16 +100,17 @@ for name in bytes_8192 bytes_8193; do
 done
 graph=$folder/bytes_8192.graph
 
-expect 'a folder as input' 0 $nothing "$read_failure" "$program" <"$folder"
+expect 'a folder as input' 2 $nothing "$read_failure" "$program" <"$folder"
 expect 'a folder as input, command' 2 $nothing "$read_failure" "$keep" - <"$folder"
 expect 'a folder as file, command' 2 $nothing "$failure" "$keep" "$folder"
 expect 'no such file, command' 2 $nothing "$failure" "$keep" "$folder/none"
-expect 'output to a full device' 0 $nothing "$write_failure" to_full "$program" <"$graph"
+expect 'output to a full device' 2 $nothing "$write_failure" to_full "$program" <"$graph"
 expect 'output to a full device, command' 2 $nothing "$failure" to_full "$keep" "$graph"
-expect 'standard input closed' 0 $nothing "$read_failure" from_closed "$program"
+expect 'standard input closed' 2 $nothing "$read_failure" from_closed "$program"
 expect 'standard input closed, command' 2 $nothing "$failure" from_closed "$keep" -
-expect 'standard output closed' 0 $nothing "$write_failure" to_closed "$program" <"$graph"
+expect 'standard output closed' 2 $nothing "$write_failure" to_closed "$program" <"$graph"
 expect 'standard output closed, command' 2 $nothing "$failure" to_closed "$keep" "$graph"
+expect 'no reader' 2 $nothing "$write_failure" to_no_reader "$program" <"$graph"
 expect 'no reader, command' 2 $nothing "$failure" to_no_reader "$keep" "$graph"
 if python3 -c 'import pty; pty.openpty()' 2>/dev/null; then
     expect 'the end of input at a terminal' 0 "$folder/empty.listing" "$quiet" from_terminal "$program"
