@@ -1,2 +1,2 @@
--- The main definitions of `Complete`: `isComplete`.
+-- The main definitions of `Complete`: `is_complete`.
 pub mod Complete

@@ -223,8 +223,8 @@ module _ (numbers : List ℕ) (ok : answer_of (check_of numbers) ≡ Accepted) w
     abbrev RuntimeDone : ℕ → Type 0
     RuntimeDone w = (x : IncludeRuntimeSymbol g v w (new_context c) last.end) × RuntimeBy g v ch w (new_context c) last.end x
 
-    with_runtime : RuntimeDone (collect_depended_runtime_helpers g c (depended_runtime_helper g c))
-    with_runtime = subst (λ w. RuntimeDone w) (sym union_is) (last.done, last.follows)
+    with_runtime_lem : RuntimeDone (collect_depended_runtime_helpers g c (depended_runtime_helper g c))
+    with_runtime_lem = subst (λ w. RuntimeDone w) (sym union_is) (last.done, last.follows)
 
     returned : Returns g outcome
     returned =
@@ -240,13 +240,13 @@ module _ (numbers : List ℕ) (ok : answer_of (check_of numbers) ≡ Accepted) w
                 makes_rounds = with-rounds.0;
                 entries_are = refl;
                 helpers_are = refl;
-                includes_runtime = with_runtime.0;
+                includes_runtime = with_runtime_lem.0;
               };
         }
 
     pub it-returns : (o : Outcome) × (r : Returns (graph_in numbers) o) × Follows (graph_in numbers) ch o r
     unfolding returned
-    it-returns = (outcome, returned, ((refl, refl), (with-users.1, (with-rounds.1, with_runtime.1))))
+    it-returns = (outcome, returned, ((refl, refl), (with-users.1, (with-rounds.1, with_runtime_lem.1))))
 
   pub either_way : AsRust (graph_in numbers) → ReturnsBy (graph_in numbers) ⊎ Circle (graph_in numbers)
   either_way off = go (search g (HasLine all) onward (uses_of all) (λ p h. uses_lined all p h) (λ p h. lined_uses all p h))
