@@ -1,5 +1,6 @@
 // The answer rows of a drain: the bits that the facts of its lines show.
 #![tactic(auto)]
+
 ghost use Rattle.std.specs.Prelude.{◌≡◌, ℕ, ◌+◌, ◌*◌, ◌-◌, ◌<◌, ◌≤◌, true, false, ◌||◌, not, [], length, drop};
 ghost use Rattle.bit_row.specs.Row.{bit_at};
 ghost use Rattle.determine_side_effects.specs.graph_tables_crate.Tables.{header_in};

@@ -1,5 +1,6 @@
 // Whether anything is absent from a record: a start, or what follows from its lines.
 #![tactic(auto)]
+
 ghost use Rattle.std.specs.Prelude.{◌≡◌, ℕ, ◌+◌, ◌*◌, ◌/◌, ◌<◌, ◌≤◌, eqb, length, get_or};
 ghost use Rattle.determine_side_effects.specs.graph_tables_crate.Tables.{header_in};
 ghost use Rattle.determine_side_effects.specs.graph_crate.Check.{graph_in};
@@ -13,8 +14,8 @@ ghost use Rattle.completeness.specs.Complete.{all, is_closed_at, are_declared, i
 
 use determine_side_effects::facts_crate::Fact;
 use determine_side_effects::graph_access_crate::{modules, symbols};
-use include_context::IncludeContext;
 use determine_side_effects::index_crate::SymbolIdx;
+use include_context::IncludeContext;
 use keep_rules::Candidate;
 use marked::is_marked;
 

@@ -1,6 +1,7 @@
 // The consequences of a fact by K2 to K14, by segment and candidate (include_statements.rs), over the rules of the crates include_*. The judge
 // searches them and asks whether all of them are there; the drain goes over the same rules in loops of its own (include_statements).
 #![tactic(auto)]
+
 ghost use Rattle.std.specs.Prelude.{◌≡◌, ◌+◌, ◌<◌, length};
 ghost use Rattle.determine_side_effects.specs.graph_crate.Check.{graph_in};
 ghost use Rattle.determine_side_effects.specs.facts_crate.Facts.{Good};

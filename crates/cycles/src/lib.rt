@@ -1,6 +1,7 @@
 // Strongly connected components of the graph of dynamic entries: the order in which its nodes are completed, and which are on a cycle
 // (dynamic_entries.rs takes petgraph's `tarjan_scc`).
 #![tactic(auto)]
+
 ghost use Rattle.std.specs.Prelude.{◌≡◌, ℕ, ◌+◌, ◌*◌, ◌<◌, ◌≤◌, true, false, length, get_or, take};
 ghost use Rattle.bit_row.specs.Row.{bit_at};
 ghost use Rattle.entry_graph.specs.Memory.{succs_in, Stored};

@@ -1,5 +1,6 @@
 // The row of dead import records: those that the tries of dynamic entries marked, or, with options bit 6, those that are dead after the last round.
 #![tactic(auto)]
+
 ghost use Rattle.std.specs.Prelude.{◌≡◌, ℕ, ◌+◌, ◌*◌, ◌<◌, ◌≤◌, ◌||◌, ◌&&◌, not, List, [], length, get_or};
 ghost use Rattle.bit_row.specs.Row.{bit_at, bytes_for};
 ghost use Rattle.determine_side_effects.specs.graph_tables_crate.Tables.{header_in};
@@ -136,7 +137,11 @@ fn note_late(
     while k < to {
         match keep_record::fact_at(lines, k) {
             Fact::Statement(m, i) => {
-                let at = determine_side_effects::facts_crate::mark_of(numbers, tables, Fact::Statement(m, i));
+                let at = determine_side_effects::facts_crate::mark_of(
+                    numbers,
+                    tables,
+                    Fact::Statement(m, i),
+                );
                 scratch[at - h.modules] = 1;
             }
             Fact::Module(_) => {}

@@ -1,5 +1,6 @@
 // Which modules have side effects (determine_side_effects.rs).
 #![tactic(auto)]
+
 ghost use Rattle.std.specs.Prelude.{◌≡◌, ℕ, ◌+◌, ◌-◌, ◌<◌, ◌≤◌, List, [], ◌∷◌, ◌++◌, Bool, true, false, length, get_or, drop};
 ghost use Rattle.facts.specs.tables_crate.Layout.{start_of, Laid, Kept, verdicts_in, FitsSize, at_verdicts, at_on_demand};
 ghost use Rattle.facts.specs.tables_crate.declared.Size.TheVariants.{Small, Middle, Large, Largest};
@@ -14,23 +15,18 @@ ghost use Rattle.determine_side_effects.specs.Tabled.{HasVerdicts, Settled};
 
 // The crates below, for the crates above, which list this one alone.
 pub use facts as facts_crate;
-pub use facts::graph_crate;
-pub use facts::graph_access_crate;
-pub use facts::graph_entries_crate;
-pub use facts::graph_format_crate;
-pub use facts::graph_tables_crate;
-pub use facts::index_crate;
-pub use facts::rows_crate;
-pub use facts::tables_crate;
-
-use facts::graph_crate::Checked;
 use facts::graph_access_crate::modules::{DYNAMIC_EXPORTS, IS_EXPORT_STAR, RELAXED};
 use facts::graph_access_crate::statements::UNKNOWN_SIDE_EFFECT;
 use facts::graph_access_crate::{modules, statements};
+use facts::graph_crate::Checked;
 use facts::graph_format_crate::Header;
 use facts::index_crate::{ImportRecordIdx, ModuleIdx, StmtIdx};
 use facts::rows_crate::Walk;
 use facts::tables_crate::{LARGE, LARGEST, MIDDLE, SMALL, Size, VERDICTS};
+pub use facts::{
+    graph_access_crate, graph_crate, graph_entries_crate, graph_format_crate, graph_tables_crate,
+    index_crate, rows_crate, tables_crate,
+};
 
 // Whether a verdict is one of effects.
 fn effectful(v: usize) -> bool

@@ -1,5 +1,6 @@
 // The drain: a graph, starts and lent rows in; a keep record and the answer rows out. Here is which tables it takes.
 #![tactic(auto)]
+
 ghost use Rattle.std.specs.Prelude.{◌≡◌, ℕ, ◌+◌, ◌*◌, ◌<◌, ◌≤◌, List, [], ◌∷◌};
 ghost use Rattle.drain_parts.specs.Operation.{rows as rows_of, Drains};
 

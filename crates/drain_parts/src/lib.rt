@@ -1,6 +1,7 @@
 // The drain's parts: whether it may begin, its work, and both in their order.
 // Whether it may begin is told from the lengths of the lent rows, without the rows. No answer row is written before the last refusal is excluded.
 #![tactic(auto)]
+
 ghost use Rattle.std.specs.Prelude.{◌≡◌, ℕ, ◌+◌, ◌*◌, ◌-◌, ◌/◌, ◌%◌, ◌<◌, ◌≤◌, Bool, true, false, List, [], ◌∷◌, length, get_or, replicate};
 ghost use Rattle.bit_row.specs.Row.{bytes_for};
 ghost use Rattle.determine_side_effects.specs.tables_crate.Layout.{start_of, all_sections};
@@ -19,8 +20,8 @@ ghost use Rattle.drain_parts.specs.Parts.{MayBegin, Worked};
 use answer_rows::Lengths;
 use determine_side_effects::graph_crate::Checked;
 use determine_side_effects::graph_format_crate::Header;
-use keep_record::Added;
 use determine_side_effects::rows_crate::Walk;
+use keep_record::Added;
 
 // How a drain ends: with so many lines, or with a refusal's number and its place.
 #[derive(Clone, Copy)]
@@ -47,7 +48,11 @@ fn may_begin(
         Checked::Accepted => match starts::check(numbers, tables, starts) {
             Walk::Fault(n, p) => Checked::Refused(n, p),
             Walk::At(_) => {
-                if marks < bit_row::bytes_for(determine_side_effects::facts_crate::mark_count(numbers, tables)) {
+                if marks
+                    < bit_row::bytes_for(determine_side_effects::facts_crate::mark_count(
+                        numbers, tables,
+                    ))
+                {
                     return Checked::Refused(5, 0);
                 }
                 if !answer_rows::are_long_enough(numbers, tables, lengths) {

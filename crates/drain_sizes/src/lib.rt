@@ -1,5 +1,6 @@
 // The drain with tables for small graphs, for graphs of middle and large size, and for the largest.
 #![tactic(auto)]
+
 ghost use Rattle.std.specs.Prelude.{◌≡◌, ℕ, ◌+◌, ◌*◌, ◌<◌, ◌≤◌, List, [], ◌∷◌};
 ghost use Rattle.graph.specs.tables_crate.Layout.{FitsSize};
 ghost use Rattle.graph.specs.tables_crate.declared.Size.TheVariants.{Small, Middle, Large, Largest};

@@ -1,5 +1,6 @@
 // The order in which entries are taken (dynamic_entries.rs, `sort_dynamic_entries_by_topological_order`).
 #![tactic(auto)]
+
 ghost use Rattle.std.specs.Prelude.{◌≡◌, ◌+◌, ◌*◌, ◌-◌, ◌<◌, ◌≤◌, Bool, ◌||◌, List, ◌++◌, eqb, length, get_or, take, drop};
 ghost use Rattle.determine_side_effects.specs.graph_tables_crate.Tables.{header_in};
 ghost use Rattle.determine_side_effects.specs.graph_crate.Check.{graph_in};
@@ -12,9 +13,9 @@ ghost use Rattle.dynamic_entries.specs.Sorted.{goes_first, by_completion, comple
 ghost use Rattle.dynamic_entries.specs.Tries.{Planned, Unlived};
 ghost use Rattle.dynamic_entries.specs.Parts.{Cleared, Parted, Cycled, Outside, Completed, Holds, Orders};
 
-use entry_graph::Built;
 use determine_side_effects::graph_access_crate::entries;
 use determine_side_effects::index_crate::{EntryIdx, ModuleIdx};
+use entry_graph::Built;
 
 // Whether the dynamic entries are sorted; or a module has more successors than there is room for.
 #[derive(Clone, Copy)]

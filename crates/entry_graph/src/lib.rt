@@ -1,5 +1,6 @@
 // The graph by which dynamic entries are ordered (dynamic_entries.rs, `construct_dynamic_entry_graph`).
 #![tactic(auto)]
+
 ghost use Rattle.std.specs.Prelude.{◌≡◌, ℕ, ◌+◌, ◌*◌, ◌<◌, ◌≤◌, false, ◌||◌, List, [], eqb, length, get_or, take};
 ghost use Rattle.bit_row.specs.Row.{bit_at};
 ghost use Rattle.graph_access.specs.graph_tables_crate.Tables.{header_in};
@@ -11,8 +12,8 @@ ghost use Rattle.entry_graph.specs.Ordering.{no_ordering, construct, add_edge, f
 ghost use Rattle.entry_graph.specs.Memory.{ordering_in, Stored, Builds};
 ghost use Rattle.entry_graph.specs.Steps.{Put, Holds, records_of, Bounded, Asks, behind_edge, Takes, TakesRecords};
 
-use graph_access::{entries, modules};
 use graph_access::index_crate::{EntryIdx, ImportRecordIdx, ModuleIdx};
+use graph_access::{entries, modules};
 
 // How many nodes the graph has; or a module has more successors than there is room for.
 #[derive(Clone, Copy)]

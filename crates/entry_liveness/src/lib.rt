@@ -1,5 +1,6 @@
 // Whether a dynamic entry is alive (dynamic_entries.rs, `is_dynamic_entry_alive`).
 #![tactic(auto)]
+
 ghost use Rattle.std.specs.Prelude.{◌≡◌, ℕ, ◌+◌, ◌*◌, ◌<◌, ◌≤◌, List, [], length, get_or};
 ghost use Rattle.determine_side_effects.specs.graph_tables_crate.Tables.{header_in};
 ghost use Rattle.determine_side_effects.specs.graph_crate.Check.{graph_in};
@@ -15,7 +16,9 @@ ghost use Rattle.dynamic_entries.specs.Tries.{Planned, PassedOver};
 
 use determine_side_effects::facts_crate::Fact;
 use determine_side_effects::graph_access_crate::entries::RelatedStmt;
-use determine_side_effects::graph_access_crate::modules::{DYNAMIC_IMPORTS_USE_NO_EXPORT, TOP_LEVEL_PURE_DYNAMIC_IMPORT};
+use determine_side_effects::graph_access_crate::modules::{
+    DYNAMIC_IMPORTS_USE_NO_EXPORT, TOP_LEVEL_PURE_DYNAMIC_IMPORT,
+};
 use determine_side_effects::graph_access_crate::{entries, modules};
 use determine_side_effects::index_crate::{EntryIdx, ModuleIdx};
 

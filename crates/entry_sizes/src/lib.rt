@@ -2,6 +2,7 @@
 // Up to 128 modules there is room for all of them as successors of each. Above, there is room for 16 at first; where a module has more, the ordering
 // graph is built again with room for 1,024.
 #![tactic(auto)]
+
 ghost use Rattle.std.specs.Prelude.{◌≡◌, ℕ, ◌<◌, ◌≤◌, ◌&&◌, leb, length, get_or};
 ghost use Rattle.determine_side_effects.specs.graph_tables_crate.Tables.{header_in};
 ghost use Rattle.determine_side_effects.specs.graph_crate.Check.{graph_in};
@@ -10,8 +11,8 @@ ghost use Rattle.entry_order.specs.Plan.{plan_size};
 ghost use Rattle.dynamic_entries.specs.Tries.{Planned, Unlived};
 ghost use Rattle.dynamic_entries.specs.Parts.{Cleared, Parted, Orders};
 
-use dynamic_entries::{Ordered, order_in};
 use determine_side_effects::graph_format_crate::Header;
+use dynamic_entries::{Ordered, order_in};
 
 // Sorts the dynamic entries with rows for a small graph.
 fn order_small(numbers: &[u32], tables: &[usize], users: usize, plan: &mut [usize]) -> Ordered

@@ -1,5 +1,6 @@
 // A row of marks that holds a list of facts.
 #![tactic(auto)]
+
 ghost use Rattle.std.specs.Prelude.{◌≡◌, ◌*◌, ◌≤◌, length};
 ghost use Rattle.facts.specs.graph_crate.Check.{graph_in};
 ghost use Rattle.facts.specs.graph_crate.Loaded.{Loaded};

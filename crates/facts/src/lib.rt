@@ -1,5 +1,6 @@
 // What can be kept: facts, their numbers and their marks.
 #![tactic(auto)]
+
 ghost use Rattle.std.specs.Prelude.{◌≡◌, ℕ, ◌+◌, ◌*◌, ◌<◌, ◌≤◌, length};
 ghost use Rattle.graph_access.specs.graph_tables_crate.Tables.{header_in};
 ghost use Rattle.graph_access.specs.graph_crate.Check.{graph_in};
@@ -9,16 +10,12 @@ ghost use Rattle.graph_access.specs.graph_crate.Loaded.{Loaded};
 
 // The crates below, for the crates above, which list this one alone.
 pub use graph_access as graph_access_crate;
-pub use graph_access::graph_crate;
-pub use graph_access::graph_entries_crate;
-pub use graph_access::graph_format_crate;
-pub use graph_access::graph_tables_crate;
-pub use graph_access::index_crate;
-pub use graph_access::rows_crate;
-pub use graph_access::tables_crate;
-
-use graph_access::statements;
 use graph_access::index_crate::{ModuleIdx, StmtIdx, SymbolIdx};
+use graph_access::statements;
+pub use graph_access::{
+    graph_crate, graph_entries_crate, graph_format_crate, graph_tables_crate, index_crate,
+    rows_crate, tables_crate,
+};
 
 // Why a symbol is used: Normal 1, EntryExport 2, ReExportDynamicExports 4, JsonDefaultExportSelfReference 8,
 // SimulatedFacadeChunk 16, added up.

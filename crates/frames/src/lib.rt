@@ -1,5 +1,6 @@
 // Keeping the frame of a function apart from its caller's.
 #![tactic(auto)]
+
 ghost use Rattle.std.specs.Prelude.{◌≡◌, ◌/◌, length};
 
 // The length of the numbers divided by 2^62, so 0: no slice of 32-bit numbers is so long. A compiler cannot tell, so a function that calls itself if

@@ -1,5 +1,6 @@
 // The check of a graph, and its tables.
 #![tactic(auto)]
+
 ghost use Rattle.std.specs.Prelude.{◌≡◌, ℕ, ◌+◌, ◌*◌, ◌<◌, ◌≤◌, List, [], ◌∷◌, Bool, true, false, length, get_or, drop};
 ghost use Rattle.graph_entries.specs.rows_crate.Walk.{walk_of, cells, no_item};
 ghost use Rattle.graph_entries.specs.graph_format_crate.Format.{header_rules};
@@ -12,14 +13,12 @@ ghost use Rattle.graph_entries.specs.tables_crate.declared.Size.TheVariants.{Sma
 
 // The crates below, for the crates above, which list this one alone.
 pub use graph_entries as graph_entries_crate;
-pub use graph_entries::graph_format_crate;
-pub use graph_entries::graph_tables_crate;
-pub use graph_entries::rows_crate;
-pub use graph_entries::tables_crate;
-
 use graph_entries::graph_format_crate::Header;
 use graph_entries::rows_crate::Walk;
-use graph_entries::tables_crate::{LARGE_PLACES, LARGEST_PLACES, MIDDLE_PLACES, MODULES, SMALL_PLACES, SYMBOLS, Size};
+use graph_entries::tables_crate::{
+    LARGE_PLACES, LARGEST_PLACES, MIDDLE_PLACES, MODULES, SMALL_PLACES, SYMBOLS, Size,
+};
+pub use graph_entries::{graph_format_crate, graph_tables_crate, rows_crate, tables_crate};
 
 // How the check of a graph ends: accepted, or with a refusal's number and its place.
 #[derive(Clone, Copy)]
@@ -83,7 +82,8 @@ fn runtime_normal(numbers: &[u32], h: Header, modules: &[usize]) -> bool
     ensures { result ≡ runtime_normal (graph_in numbers.now) }
 {
     if h.runtime < h.modules {
-        return graph_entries::graph_tables_crate::module_number(numbers, modules, h.runtime, 0) == 1;
+        return graph_entries::graph_tables_crate::module_number(numbers, modules, h.runtime, 0)
+            == 1;
     }
     false
 }

@@ -7,8 +7,8 @@ ghost use Rattle.graph_access.specs.Names.{entry_module, entry_kind, related};
 ghost use Rattle.graph_access.specs.Related.{RelatedIs};
 ghost use Rattle.graph_access.specs.Words.{entry_of};
 
-use index::{EntryIdx, ImportRecordIdx, ModuleIdx, StmtIdx};
 use graph::tables_crate::ENTRIES;
+use index::{EntryIdx, ImportRecordIdx, ModuleIdx, StmtIdx};
 
 // A statement that is related to an entry: where it stands, its import record, and 1 if it can't be reached.
 #[derive(Clone, Copy)]

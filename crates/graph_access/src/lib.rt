@@ -3,12 +3,11 @@
 
 // The crates below, for the crates above, which list this one alone.
 pub use graph as graph_crate;
-pub use graph::graph_entries_crate;
-pub use graph::graph_format_crate;
-pub use graph::graph_tables_crate;
-pub use graph::rows_crate;
-pub use graph::tables_crate;
+pub use graph::{
+    graph_entries_crate, graph_format_crate, graph_tables_crate, rows_crate, tables_crate,
+};
 pub use index as index_crate;
+
 pub mod entries;
 pub mod helpers;
 mod lists;

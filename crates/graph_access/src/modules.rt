@@ -8,8 +8,8 @@ ghost use Rattle.graph_access.specs.Names.{effects as effects_of, exports as exp
 ghost use Rattle.graph_access.specs.Words.{module_of, statement_list, normal};
 
 use crate::lists;
-use index::{ImportRecordIdx, ModuleIdx, StmtIdx, SymbolIdx};
 use graph::tables_crate::MODULES;
+use index::{ImportRecordIdx, ModuleIdx, StmtIdx, SymbolIdx};
 
 // Bits of a module's flags.
 pub const EVAL: usize = 0;
@@ -35,7 +35,12 @@ fn number(numbers: &[u32], tables: &[usize], m: ModuleIdx, i: usize) -> usize
     requires m_bound { (m.0 < (header_in numbers.now).modules) × (i < 12) }
     ensures { result ≡ get_or (module_of (graph_in numbers.now) m.0).head i 0 }
 {
-    graph::graph_tables_crate::module_number(numbers, graph::tables_crate::section(tables, MODULES), m.0, i)
+    graph::graph_tables_crate::module_number(
+        numbers,
+        graph::tables_crate::section(tables, MODULES),
+        m.0,
+        i,
+    )
 }
 
 // How many rows list j of a module has.
@@ -44,7 +49,12 @@ fn list_length(numbers: &[u32], tables: &[usize], m: ModuleIdx, j: usize) -> usi
     requires m_bound { (m.0 < (header_in numbers.now).modules) × (j < 10) }
     ensures { (result ≡ length (get_or (module_of (graph_in numbers.now) m.0).rows j [])) × (result ≤ 16384) }
 {
-    lists::module_list_length(numbers, graph::tables_crate::section(tables, MODULES), m.0, j)
+    lists::module_list_length(
+        numbers,
+        graph::tables_crate::section(tables, MODULES),
+        m.0,
+        j,
+    )
 }
 
 // Number `column` of row k of list j of a module.
@@ -60,7 +70,14 @@ fn list_number(
     requires m_bound { (m.0 < (header_in numbers.now).modules) × (j < 10) × (k < length (get_or (module_of (graph_in numbers.now) m.0).rows j [])) × (column < get_or module_widths j 0) }
     ensures { result ≡ get_or (get_or (get_or (module_of (graph_in numbers.now) m.0).rows j []) k []) column 0 }
 {
-    lists::module_list_number(numbers, graph::tables_crate::section(tables, MODULES), m.0, j, k, column)
+    lists::module_list_number(
+        numbers,
+        graph::tables_crate::section(tables, MODULES),
+        m.0,
+        j,
+        k,
+        column,
+    )
 }
 
 // Whether a module is a normal one.

@@ -7,8 +7,8 @@ ghost use Rattle.graph_access.specs.Names.{import_records, statement_bits, state
 ghost use Rattle.graph_access.specs.Words.{module_of, statement_list, statement_of};
 ghost use Rattle.graph_access.specs.References.{reference_width, ReferencesAt};
 
-use index::{ImportRecordIdx, ModuleIdx, StmtIdx};
 use graph::tables_crate::{FIRST_STATEMENT_OF, STATEMENTS};
+use index::{ImportRecordIdx, ModuleIdx, StmtIdx};
 
 // Bits of a statement.
 pub const SIDE_EFFECT: usize = 0;

@@ -7,8 +7,8 @@ ghost use Rattle.graph_access.specs.Names.{owner as owner_of, symbol_name, alias
 ghost use Rattle.graph_access.specs.Words.{symbol_of, root_of, statement_list};
 
 use crate::lists;
-use index::{ModuleIdx, StmtIdx, SymbolIdx};
 use graph::tables_crate::SYMBOLS;
+use index::{ModuleIdx, StmtIdx, SymbolIdx};
 
 // Bits of a symbol as a constant.
 pub const KNOWN: usize = 0;
@@ -23,7 +23,12 @@ fn number(numbers: &[u32], tables: &[usize], s: SymbolIdx, i: usize) -> usize
     requires s_bound { (s.0 < (header_in numbers.now).symbols) × (i < 6) }
     ensures { result ≡ get_or (symbol_of (graph_in numbers.now) s.0).head i 0 }
 {
-    graph::graph_tables_crate::symbol_number(numbers, graph::tables_crate::section(tables, SYMBOLS), s.0, i)
+    graph::graph_tables_crate::symbol_number(
+        numbers,
+        graph::tables_crate::section(tables, SYMBOLS),
+        s.0,
+        i,
+    )
 }
 
 // How many elements list j of a symbol has.
@@ -32,7 +37,12 @@ fn list_length(numbers: &[u32], tables: &[usize], s: SymbolIdx, j: usize) -> usi
     requires s_bound { (s.0 < (header_in numbers.now).symbols) × (j < 3) }
     ensures { (result ≡ length (get_or (symbol_of (graph_in numbers.now) s.0).rows j [])) × (result ≤ 16384) }
 {
-    lists::symbol_list_length(numbers, graph::tables_crate::section(tables, SYMBOLS), s.0, j)
+    lists::symbol_list_length(
+        numbers,
+        graph::tables_crate::section(tables, SYMBOLS),
+        s.0,
+        j,
+    )
 }
 
 // Element k of list j of a symbol.
@@ -41,7 +51,13 @@ fn list_number(numbers: &[u32], tables: &[usize], s: SymbolIdx, j: usize, k: usi
     requires s_bound { (s.0 < (header_in numbers.now).symbols) × (j < 3) × (k < length (get_or (symbol_of (graph_in numbers.now) s.0).rows j [])) }
     ensures { result ≡ get_or (get_or (get_or (symbol_of (graph_in numbers.now) s.0).rows j []) k []) 0 0 }
 {
-    lists::symbol_list_number(numbers, graph::tables_crate::section(tables, SYMBOLS), s.0, j, k)
+    lists::symbol_list_number(
+        numbers,
+        graph::tables_crate::section(tables, SYMBOLS),
+        s.0,
+        j,
+        k,
+    )
 }
 
 // The module that owns it.

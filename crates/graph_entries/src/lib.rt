@@ -1,5 +1,6 @@
 // The entries of a graph and their related statements, and the table of the entries' places.
 #![tactic(auto)]
+
 ghost use Rattle.std.specs.Prelude.{◌≡◌, ℕ, ◌+◌, ◌*◌, ◌<◌, ◌≤◌, List, [], ◌∷◌, length, get_or};
 ghost use Rattle.graph_tables.specs.rows_crate.Walk.{walk_of, many, list, firsts, no_item};
 ghost use Rattle.graph_tables.specs.graph_format_crate.Format.{import_records_of, related_module_at, related_import_record_at, related_at, entry_at, entries_at};
@@ -9,13 +10,10 @@ ghost use Rattle.graph_tables.specs.tables_crate.Layout.{start_of, Laid, Kept, m
 
 // The crates below, for the crates above, which list this one alone.
 pub use graph_tables as graph_tables_crate;
-pub use graph_tables::graph_format_crate;
-pub use graph_tables::rows_crate;
-pub use graph_tables::tables_crate;
-
 use graph_tables::graph_format_crate::Header;
 use graph_tables::rows_crate::Walk;
 use graph_tables::tables_crate::{ENTRIES, MODULES};
+pub use graph_tables::{graph_format_crate, rows_crate, tables_crate};
 
 // The module of a related statement, which is a normal one.
 fn related_module(numbers: &[u32], modules: &[usize], at: usize, h: Header) -> Walk
@@ -139,7 +137,12 @@ pub fn entries(numbers: &[u32], at: usize, h: Header, tables: &mut [usize]) -> W
     let mut k: usize = 0;
     let mut q = at;
     while k < h.entries {
-        match entry(numbers, graph_tables::tables_crate::section(tables, MODULES), q, h) {
+        match entry(
+            numbers,
+            graph_tables::tables_crate::section(tables, MODULES),
+            q,
+            h,
+        ) {
             Walk::Fault(n, p) => {
                 return Walk::Fault(n, p);
             }

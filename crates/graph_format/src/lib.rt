@@ -1,12 +1,12 @@
 // The parts of the graph file: one module, one symbol, one statement.
 #![tactic(auto)]
+
 ghost use Rattle.std.specs.Prelude.{◌≡◌, ℕ, ◌+◌, ◌*◌, ◌<◌, ◌≤◌, List, [], ◌∷◌, eqb, length, get_or, drop};
 ghost use Rattle.rows.specs.Walk.{walk_of, cells, lists, list, number, many, firsts, item};
 ghost use Rattle.graph_format.specs.Format.{module_rules, namespace_limit, least_statements, statement_limit, import_lists, export_lists, name_lists, module_lists, module_at, symbol_rules, symbol_lists, owners_counts, member_rules, reference_at, parts_at, depended_at, statement_at, reference_list};
 
 // The crates below, for the crates above, which list this one alone.
 pub use rows as rows_crate;
-
 use rows::Walk;
 
 // The header's numbers.

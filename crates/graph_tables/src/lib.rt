@@ -1,5 +1,6 @@
 // The parts of a graph, each read from the left, and the tables of their places.
 #![tactic(auto)]
+
 ghost use Rattle.std.specs.Prelude.{◌≡◌, ℕ, ◌+◌, ◌*◌, ◌<◌, ◌≤◌, List, [], ◌∷◌, length, get_or, drop};
 ghost use Rattle.tables.specs.rows_crate.Walk.{walk_of, many, no_item};
 ghost use Rattle.tables.specs.graph_format_crate.Format.{modules_at, import_records_of, symbol_at, symbols_at, statement_at, statements_at, following};
@@ -9,11 +10,9 @@ ghost use Rattle.tables.specs.Layout.{start_of, Laid, Kept, module_places, first
 
 // The crates below, for the crates above, which list this one alone.
 pub use tables as tables_crate;
-pub use tables::graph_format_crate;
-pub use tables::rows_crate;
-
 use tables::graph_format_crate::{Header, Left};
 use tables::rows_crate::Walk;
+pub use tables::{graph_format_crate, rows_crate};
 use tables::{FIRST_STATEMENT_OF, MODULES, STATEMENTS, SYMBOLS};
 
 // Number i of the twelve leading numbers of module m.

@@ -1,5 +1,6 @@
 // K7 and K8: what follows from a statement (include_statement of include_statements.rs).
 #![tactic(auto)]
+
 ghost use Rattle.std.specs.Prelude.{◌≡◌, ℕ, ◌+◌, ◌-◌, ◌<◌, ◌≤◌, List, [], ◌∷◌, Bool, true, false, length, get_or, drop, ◌&&◌, eqb};
 ghost use Rattle.determine_side_effects.specs.graph_tables_crate.Tables.{header_in};
 ghost use Rattle.determine_side_effects.specs.graph_crate.Check.{graph_in};
@@ -14,7 +15,9 @@ ghost use Rattle.keep_rules.specs.Prepared.{Prepared, GoodCandidate};
 ghost use Rattle.include_statement.specs.Here.{Here};
 
 use determine_side_effects::facts_crate::{Fact, Reason};
-use determine_side_effects::graph_access_crate::modules::{IS_CJS_REEXPORT, TOP_LEVEL_PURE_DYNAMIC_IMPORT};
+use determine_side_effects::graph_access_crate::modules::{
+    IS_CJS_REEXPORT, TOP_LEVEL_PURE_DYNAMIC_IMPORT,
+};
 use determine_side_effects::graph_access_crate::statements::REEXPORT_DYNAMIC_EXPORTS;
 use determine_side_effects::graph_access_crate::{modules, statements, symbols};
 use determine_side_effects::index_crate::{ImportRecordIdx, ModuleIdx, StmtIdx, SymbolIdx};
@@ -49,7 +52,10 @@ fn bails_out(
             return false;
         }
     }
-    if !determine_side_effects::facts_crate::flag(modules::flags(numbers, tables, m), IS_CJS_REEXPORT) {
+    if !determine_side_effects::facts_crate::flag(
+        modules::flags(numbers, tables, m),
+        IS_CJS_REEXPORT,
+    ) {
         return true;
     }
     modules::reexport_count(numbers, tables, m) > 1
@@ -145,7 +151,13 @@ fn is_inlined_enum_member_access(
         return false;
     }
     let name = symbols::name(numbers, tables, root);
-    enum_member(numbers, tables, owner, name, determine_side_effects::rows_crate::wide(numbers[place + 4]))
+    enum_member(
+        numbers,
+        tables,
+        owner,
+        name,
+        determine_side_effects::rows_crate::wide(numbers[place + 4]),
+    )
 }
 
 // How many candidates the reference that stands at `place`, reference r of statement i, has.
@@ -193,7 +205,9 @@ fn resolved_candidate(
     ensures { (result ≡ resolved_candidate (get_or (references (statement_of (graph_in numbers.now) m.0 i.0)) r []) (reason_of (graph_in numbers.now) m.0 i.0) k) × GoodCandidate (graph_in numbers.now) result }
 {
     if k < determine_side_effects::rows_crate::wide(numbers[place + 3]) {
-        return Candidate::Gives(Fact::Forward(SymbolIdx(determine_side_effects::rows_crate::wide(numbers[place + 4 + k]))));
+        return Candidate::Gives(Fact::Forward(SymbolIdx(determine_side_effects::rows_crate::wide(
+            numbers[place + 4 + k],
+        ))));
     }
     let x = include_kind(numbers, tables, m, i);
     let s = SymbolIdx(determine_side_effects::rows_crate::wide(numbers[place + 1]));

@@ -1,6 +1,7 @@
 // What follows from a fact by K2 to K14, as lines behind those of the record (include_statements.rs). Each rule has a loop of its own over its
 // candidates, in the record's order, so that a fact's kind and rule are decided once and not for each candidate.
 #![tactic(auto)]
+
 ghost use Rattle.std.specs.Prelude.{◌≡◌, ℕ, ◌<◌, true, List, [], ◌∷◌, map, length, get_or, drop};
 ghost use Rattle.determine_side_effects.specs.graph_tables_crate.Tables.{header_in};
 ghost use Rattle.determine_side_effects.specs.graph_crate.Check.{graph_in};

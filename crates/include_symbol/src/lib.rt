@@ -1,5 +1,6 @@
 // K9 to K14: what follows from a use, checked or not (include_symbol of include_statements.rs).
 #![tactic(auto)]
+
 ghost use Rattle.std.specs.Prelude.{◌≡◌, ◌<◌, ◌≤◌, get_or};
 ghost use Rattle.determine_side_effects.specs.graph_tables_crate.Tables.{header_in, symbols_in};
 ghost use Rattle.determine_side_effects.specs.graph_crate.Check.{graph_in};
@@ -11,7 +12,9 @@ ghost use Rattle.linking_metadata.specs.Namespaces.{target_of};
 ghost use Rattle.keep_rules.specs.Prepared.{Prepared, GoodCandidate};
 
 use determine_side_effects::facts_crate::{Fact, Reason};
-use determine_side_effects::graph_access_crate::options::{INLINE_CONST_SMART, PROPERTY_WRITES_FALSE};
+use determine_side_effects::graph_access_crate::options::{
+    INLINE_CONST_SMART, PROPERTY_WRITES_FALSE,
+};
 use determine_side_effects::graph_access_crate::symbols::{COMMONJS, KNOWN, SAFE};
 use determine_side_effects::graph_access_crate::{modules, symbols};
 use determine_side_effects::index_crate::{ModuleIdx, StmtIdx, SymbolIdx};

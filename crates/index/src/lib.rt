@@ -1,5 +1,6 @@
 // Typed indexes, as the source's: an index of one kind does not stand for one of another.
 #![tactic(auto)]
+
 #[derive(Clone, Copy)]
 pub struct ModuleIdx(pub usize);
 

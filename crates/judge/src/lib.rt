@@ -1,5 +1,6 @@
 // The judge of a keep record: a graph, starts and a record in; passed, or the first refusal. Here is which tables it takes.
 #![tactic(auto)]
+
 ghost use Rattle.std.specs.Prelude.{◌≡◌};
 ghost use Rattle.graph.specs.tables_crate.Layout.{FitsSize};
 ghost use Rattle.graph.specs.tables_crate.declared.Size.TheVariants.{Small, Middle, Large, Largest};
@@ -7,9 +8,9 @@ ghost use Rattle.graph.specs.Check.{HeaderRead};
 ghost use Rattle.judge_parts.specs.Operation.{judge_of};
 
 use graph::graph_format_crate::Header;
-use judge_parts::Judged;
 use graph::rows_crate::Walk;
 use graph::tables_crate::{LARGE, LARGEST, MIDDLE, SMALL, Size};
+use judge_parts::Judged;
 
 // The judge with tables for a small graph.
 fn judge_small(numbers: &[u32], starts: &[u32], lines: &[u32], h: Header) -> Judged

@@ -1,5 +1,6 @@
 // The judge's parts: whether the lines may be judged, the lines one after another, what may be absent, and all in their order.
 #![tactic(auto)]
+
 ghost use Rattle.std.specs.Prelude.{◌≡◌, ℕ, ◌+◌, ◌*◌, ◌<◌, ◌≤◌, Bool, true, false, List, [], length};
 ghost use Rattle.bit_row.specs.Row.{bit_at};
 ghost use Rattle.determine_side_effects.specs.tables_crate.Layout.{start_of, all_sections};

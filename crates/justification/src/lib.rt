@@ -1,5 +1,6 @@
 // Whether a fact follows from others by a rule: the search of one rule's candidates, for the judge.
 #![tactic(auto)]
+
 ghost use Rattle.std.specs.Prelude.{◌≡◌, ℕ, ◌+◌, ◌<◌, ◌≤◌, length};
 ghost use Rattle.determine_side_effects.specs.graph_tables_crate.Tables.{header_in};
 ghost use Rattle.determine_side_effects.specs.graph_crate.Check.{graph_in};
@@ -41,13 +42,18 @@ pub enum Search {
 pub fn same(a: Fact, b: Fact) -> bool
     ensures { result ≡ same_fact a b }
 {
-    if determine_side_effects::facts_crate::kind_of(a) != determine_side_effects::facts_crate::kind_of(b) {
+    if determine_side_effects::facts_crate::kind_of(a)
+        != determine_side_effects::facts_crate::kind_of(b)
+    {
         return false;
     }
-    if determine_side_effects::facts_crate::first_part(a) != determine_side_effects::facts_crate::first_part(b) {
+    if determine_side_effects::facts_crate::first_part(a)
+        != determine_side_effects::facts_crate::first_part(b)
+    {
         return false;
     }
-    determine_side_effects::facts_crate::second_part(a) == determine_side_effects::facts_crate::second_part(b)
+    determine_side_effects::facts_crate::second_part(a)
+        == determine_side_effects::facts_crate::second_part(b)
 }
 
 // Whether a candidate gives the fact.

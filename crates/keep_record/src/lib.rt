@@ -1,5 +1,6 @@
 // The keep record and the marks: a line for each fact.
 #![tactic(auto)]
+
 ghost use Rattle.std.specs.Prelude.{◌≡◌, ℕ, ◌+◌, ◌*◌, ◌-◌, ◌<◌, ◌≤◌, List, [], ◌∷◌, ◌++◌, length, get_or, take, drop, replicate};
 ghost use Rattle.facts.specs.graph_tables_crate.Tables.{header_in};
 ghost use Rattle.facts.specs.graph_crate.Check.{graph_in};

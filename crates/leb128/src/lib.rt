@@ -1,5 +1,6 @@
 // The numbers of a graph file: unsigned LEB128 (DWARF 5, 7.6), in shortest form only, below 2^32.
 #![tactic(auto)]
+
 ghost use Rattle.std.specs.Prelude.{◌≡◌, true, ◌<◌, ◌≤◌, length, get_or, drop};
 ghost use Rattle.leb128.specs.Read.{IsRead, read_of, answer_of, lent_of};
 ghost use Rattle.leb128.specs.Number.{number_of, accepted};

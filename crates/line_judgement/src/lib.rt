@@ -2,6 +2,7 @@
 // A drain writes the consequences of a line together and in order, so the lines of drains and runs are judged in one walk (`Trail`). Any other line
 // costs at most two searches of one rule's candidates of the line that it names.
 #![tactic(auto)]
+
 ghost use Rattle.std.specs.Prelude.{◌≡◌, ℕ, ◌+◌, ◌*◌, ◌/◌, ◌<◌, ◌≤◌, Bool, true, false, List, [], length};
 ghost use Rattle.determine_side_effects.specs.graph_crate.Check.{graph_in};
 ghost use Rattle.determine_side_effects.specs.Effects.{last_verdicts};

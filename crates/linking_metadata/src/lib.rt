@@ -1,5 +1,6 @@
 // CommonJS namespaces by symbol, and where a symbol leads (linking_metadata.rs).
 #![tactic(auto)]
+
 ghost use Rattle.std.specs.Prelude.{◌≡◌, ℕ, ◌+◌, ◌-◌, ◌<◌, ◌≤◌, Bool, length, get_or};
 ghost use Rattle.graph_access.specs.tables_crate.Layout.{start_of, Laid, Kept, namespaces_in, at_namespaces, all_sections};
 ghost use Rattle.graph_access.specs.graph_tables_crate.Tables.{header_in};
@@ -8,9 +9,9 @@ ghost use Rattle.graph_access.specs.graph_crate.Loaded.{Loaded};
 ghost use Rattle.linking_metadata.specs.Namespaces.{common_js_of, is_namespace, target_of};
 ghost use Rattle.linking_metadata.specs.Tabled.{entered, NamespaceTable, Named};
 
-use graph_access::{modules, symbols};
 use graph_access::index_crate::{ModuleIdx, SymbolIdx};
 use graph_access::tables_crate::NAMESPACES;
+use graph_access::{modules, symbols};
 
 // Whether a symbol is the namespace of its owner.
 pub fn is_namespace(numbers: &[u32], tables: &[usize], s: SymbolIdx) -> bool

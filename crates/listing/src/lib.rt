@@ -1,6 +1,7 @@
 // What the program `keep` prints: lines of a word and numbers. A row that is shorter than the text holds a window on it: its part behind the
 // first `skip` bytes.
 #![tactic(auto)]
+
 ghost use Rattle.std.specs.Prelude.{◌≡◌, ℕ, ◌+◌, ◌*◌, ◌<◌, ◌≤◌, Bool, true, false, ◌&&◌, List, [], ◌∷◌, ◌++◌, eqb, length, get_or};
 ghost use Rattle.bit_row.specs.Row.{bit_at};
 ghost use Rattle.graph_access.specs.graph_tables_crate.Tables.{header_in};
@@ -14,8 +15,8 @@ ghost use Rattle.listing.specs.Text.{digits, decimal, numbers_text, line, only_i
 ghost use Rattle.listing.specs.Listing.{shown, Fits, statement_word, dead_word, entry_text, module_text, statement_text, symbol_text, json_text, dead_text, listing_of, refused_text};
 ghost use Rattle.listing.specs.Parts.{of_entries, of_modules, of_statements, of_json, of_dead, pair_text};
 
-use graph_access::{entries, modules, statements, symbols};
 use graph_access::index_crate::{EntryIdx, ModuleIdx, SymbolIdx};
+use graph_access::{entries, modules, statements, symbols};
 
 // Adds a byte behind a text of `at` bytes. Gives how long the text is then.
 fn put_byte(skip: usize, at: usize, byte: u8, out: &mut [u8]) -> usize

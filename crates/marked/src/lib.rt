@@ -1,5 +1,6 @@
 // Whether a fact is kept, by its mark.
 #![tactic(auto)]
+
 ghost use Rattle.std.specs.Prelude.{◌≡◌, ℕ, ◌*◌, ◌≤◌, length};
 ghost use Rattle.facts.specs.graph_crate.Check.{graph_in};
 ghost use Rattle.facts.specs.graph_crate.Loaded.{Loaded};

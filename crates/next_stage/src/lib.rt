@@ -1,6 +1,7 @@
 // A further stage of a record: it begins with the modules and the statements that are kept, but no other facts (include_statements.rs makes a
 // new `IncludeContext` over the same bits).
 #![tactic(auto)]
+
 ghost use Rattle.std.specs.Prelude.{◌≡◌, ℕ, ◌+◌, ◌*◌, ◌<◌, ◌≤◌, length, get_or};
 ghost use Rattle.facts.specs.graph_tables_crate.Tables.{header_in};
 ghost use Rattle.facts.specs.graph_crate.Check.{graph_in};

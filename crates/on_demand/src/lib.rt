@@ -1,5 +1,6 @@
 // Bodies whose side effects are included on demand (on_demand.rs).
 #![tactic(auto)]
+
 ghost use Rattle.std.specs.Prelude.{◌≡◌, ℕ, ◌+◌, ◌-◌, ◌<◌, ◌≤◌, Bool, true, false, length, get_or};
 ghost use Rattle.determine_side_effects.specs.tables_crate.Layout.{start_of, Laid, Kept, on_demand_in, bodies_in, at_on_demand, at_bodies, all_sections};
 ghost use Rattle.determine_side_effects.specs.graph_tables_crate.Tables.{header_in};
@@ -117,7 +118,10 @@ pub fn is_gated_side_effect_stmt(
     if i.0 == 0 {
         return false;
     }
-    if !determine_side_effects::facts_crate::flag(statements::bits(numbers, tables, m, i), SIDE_EFFECT) {
+    if !determine_side_effects::facts_crate::flag(
+        statements::bits(numbers, tables, m, i),
+        SIDE_EFFECT,
+    ) {
         return false;
     }
     if statements::reference_count(numbers, tables, m, i) == 0 {

@@ -1,6 +1,7 @@
 // A run's own starts, noted as triples, each once: what entries and bailouts start, beside `entry_starts` and `passes`, which start it. They are worked
 // out by kind from what the main part of a run leaves.
 #![tactic(auto)]
+
 ghost use Rattle.std.specs.Prelude.{◌≡◌, ℕ, ◌+◌, ◌*◌, ◌<◌, ◌≤◌, List, [], ◌∷◌, length};
 ghost use Rattle.facts.specs.graph_tables_crate.Tables.{header_in};
 ghost use Rattle.facts.specs.graph_crate.Check.{graph_in};
@@ -18,9 +19,9 @@ ghost use Rattle.tree_shaking.specs.Rounds.{users_starts};
 ghost use Rattle.tree_shaking.specs.Own.{live_starts, starts_by_kind};
 ghost use Rattle.own_starts.specs.Noting.{Noted, Notes, Writes};
 
-use facts::{Fact, Reason};
 use facts::graph_access_crate::{entries, modules, symbols};
 use facts::index_crate::{EntryIdx, ModuleIdx, SymbolIdx};
+use facts::{Fact, Reason};
 use marked::is_marked;
 use tree_shaking::Reached;
 

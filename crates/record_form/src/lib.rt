@@ -1,5 +1,6 @@
 // Whether a line of a record is in form.
 #![tactic(auto)]
+
 ghost use Rattle.std.specs.Prelude.{◌≡◌, ◌+◌, ◌*◌, ◌≤◌, length};
 ghost use Rattle.determine_side_effects.specs.graph_crate.Check.{graph_in};
 ghost use Rattle.determine_side_effects.specs.graph_crate.Loaded.{Loaded};
@@ -66,5 +67,10 @@ pub fn is_in_form(numbers: &[u32], tables: &[usize], lines: &[u32], k: usize) ->
     if rule >= 15 {
         return false;
     }
-    names_fit(k, rule, determine_side_effects::rows_crate::wide(lines[p + 4]), determine_side_effects::rows_crate::wide(lines[p + 5]))
+    names_fit(
+        k,
+        rule,
+        determine_side_effects::rows_crate::wide(lines[p + 4]),
+        determine_side_effects::rows_crate::wide(lines[p + 5]),
+    )
 }

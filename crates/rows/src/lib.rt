@@ -1,5 +1,6 @@
 // Reading lists of rows from a slice of numbers: each function ends where its definition does, or in the same fault.
 #![tactic(auto)]
+
 ghost use Rattle.std.specs.Prelude.{◌≡◌, ℕ, ◌+◌, ◌*◌, ◌<◌, ◌≤◌, List, [], ◌∷◌, Bool, true, false, length, get_or};
 ghost use Rattle.rows.specs.Walk.{Parsed, walk_of, number, value, count, cells, many, list, firsts, firsts_at, repeated, elem, plain_row, distinct_row, row_of, columns_of};
 ghost use Rattle.rows.specs.Chain.{Linked, Chained};

@@ -1,5 +1,6 @@
 // The sections behind the places: what the rules and the answer rows read. And getting ready for an operation: the check and all sections.
 #![tactic(auto)]
+
 ghost use Rattle.std.specs.Prelude.{◌≡◌, ◌<◌, ◌≤◌, length};
 ghost use Rattle.determine_side_effects.specs.tables_crate.Layout.{start_of, Laid, all_sections};
 ghost use Rattle.determine_side_effects.specs.graph_tables_crate.Tables.{header_in};

@@ -1,5 +1,6 @@
 // The run: a graph and lent rows in; a keep record and the answer rows out. Here is which tables it takes, and the run with the small ones.
 #![tactic(auto)]
+
 ghost use Rattle.std.specs.Prelude.{◌≡◌};
 ghost use Rattle.graph.specs.tables_crate.Layout.{FitsSize};
 ghost use Rattle.graph.specs.tables_crate.declared.Size.TheVariants.{Small};
@@ -8,8 +9,8 @@ ghost use Rattle.run_parts.specs.Operation.{rows as rows_of, Runs};
 
 use graph::graph_format_crate::Header;
 use graph::rows_crate::Walk;
-use run_parts::Ran;
 use graph::tables_crate::{SMALL, Size};
+use run_parts::Ran;
 
 // The run with tables for a small graph.
 fn run_small(

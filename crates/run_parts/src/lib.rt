@@ -1,6 +1,7 @@
 // The run's parts: whether it may begin, its work, what only a run shows, and all in their order.
 // Whether it may begin is told from the lengths of the lent rows, without the rows. No answer row is written before the last refusal is excluded.
 #![tactic(auto)]
+
 ghost use Rattle.std.specs.Prelude.{◌≡◌, ℕ, ◌-◌, ◌<◌, ◌≤◌, length, get_or};
 ghost use Rattle.bit_row.specs.Row.{bytes_for};
 ghost use Rattle.determine_side_effects.specs.tables_crate.Layout.{start_of, all_sections};
@@ -65,7 +66,9 @@ fn are_enough(numbers: &[u32], tables: &[usize], l: Lengths) -> bool
     ensures { (lines : ℕ) → result ≡ enough (graph_in numbers.now) (room_for lines l) }
 {
     let h = determine_side_effects::graph_crate::header_of(numbers);
-    if l.marks < bit_row::bytes_for(determine_side_effects::facts_crate::mark_count(numbers, tables)) {
+    if l.marks
+        < bit_row::bytes_for(determine_side_effects::facts_crate::mark_count(numbers, tables))
+    {
         return false;
     }
     let six = answer_rows::Lengths {

@@ -1,5 +1,6 @@
 // Answer rows that a run has beside those of a drain: helper words and final entries. Dead import records have a crate of their own.
 #![tactic(auto)]
+
 ghost use Rattle.std.specs.Prelude.{◌≡◌, ℕ, ◌+◌, ◌<◌, ◌≤◌, ◌||◌, ◌&&◌, ltb, ◌++◌, length, get_or, take, drop};
 ghost use Rattle.determine_side_effects.specs.graph_tables_crate.Tables.{header_in};
 ghost use Rattle.determine_side_effects.specs.graph_crate.Check.{graph_in};

@@ -1,5 +1,6 @@
 // The run with tables for graphs of middle and large size and for the largest, in frames of their own (docs/DECISIONS.md, "Frames of their own").
 #![tactic(auto)]
+
 ghost use Rattle.std.specs.Prelude.{◌≡◌};
 ghost use Rattle.graph.specs.tables_crate.Layout.{FitsSize};
 ghost use Rattle.graph.specs.tables_crate.declared.Size.TheVariants.{Middle, Large, Largest};
@@ -7,8 +8,8 @@ ghost use Rattle.graph.specs.Check.{HeaderRead};
 ghost use Rattle.run_parts.specs.Operation.{rows as rows_of, Runs};
 
 use graph::graph_format_crate::Header;
-use run_parts::Ran;
 use graph::tables_crate::{LARGE, LARGEST, MIDDLE, Size};
+use run_parts::Ran;
 
 // The run with tables for a graph of middle size.
 fn run_middle(

@@ -1,6 +1,7 @@
 // A run's own starts: a graph and lent rows in; the starts as triples, each once, out.
 // They cannot be read from the record: a start that was a fact already has no line of its own. They are worked out from what the main part leaves.
 #![tactic(auto)]
+
 ghost use Rattle.std.specs.Prelude.{◌≡◌, ℕ, ◌+◌, ◌*◌, ◌<◌, ◌≤◌, false, length, get_or};
 ghost use Rattle.bit_row.specs.Row.{bytes_for, bit_at};
 ghost use Rattle.facts.specs.tables_crate.Layout.{start_of, FitsSize, all_sections};
@@ -17,8 +18,8 @@ ghost use Rattle.run_starts.specs.Parts.{MainReached, Given};
 use facts::graph_crate::Checked;
 use facts::graph_format_crate::Header;
 use facts::rows_crate::Walk;
-use run_parts::Part;
 use facts::tables_crate::{LARGE, LARGEST, MIDDLE, SMALL, Size};
+use run_parts::Part;
 use tree_shaking::{Reached, Work};
 
 // How many numbers the starts have, or a refusal's number and its place.

@@ -1,13 +1,13 @@
 // All tables of a graph in one slice: where each section begins, and which size of slice a graph needs.
 #![tactic(auto)]
+
 ghost use Rattle.std.specs.Prelude.{◌≡◌, ℕ, ◌+◌, ◌<◌, ◌≤◌, Bool, true, false, length, get_or};
 ghost use Rattle.tables.specs.Layout.{start_of, section as section_of, Inside, Kept, Counts, FitsSize};
 
 // The crates below, for the crates above, which list this one alone.
 pub use graph_format as graph_format_crate;
-pub use graph_format::rows_crate;
-
 use graph_format::Header;
+pub use graph_format::rows_crate;
 
 // The sections, in the order in which they are filled, and by which function.
 // MODULES to ENTRIES: `graph::load`. VERDICTS: `determine_side_effects::last_verdicts`. ON_DEMAND: `on_demand::fill_on_demand`.

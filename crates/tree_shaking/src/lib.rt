@@ -1,5 +1,6 @@
 // The run: its main part and its runtime stage (include_statements.rs, `include_statements`).
 #![tactic(auto)]
+
 ghost use Rattle.std.specs.Prelude.{◌≡◌, ℕ, ◌+◌, ◌*◌, ◌<◌, ◌≤◌, [], length, get_or, set};
 ghost use Rattle.determine_side_effects.specs.graph_tables_crate.Tables.{header_in};
 ghost use Rattle.determine_side_effects.specs.graph_crate.Check.{graph_in};
@@ -16,9 +17,9 @@ ghost use Rattle.dynamic_entries.specs.Tries.{tries, progress_in, Planned, Unliv
 ghost use Rattle.tree_shaking.specs.Rounds.{users_starts, round as round_of, kept_module, live_count, goes_on, rounds_from, main_part};
 ghost use Rattle.tree_shaking.specs.Parts.{Progressed, CountsLive, TellsFurther, MainEnds, StageEnds};
 
-use entry_liveness::next_live;
 use determine_side_effects::graph_access_crate::entries;
 use determine_side_effects::index_crate::EntryIdx;
+use entry_liveness::next_live;
 use keep_record::{Added, Stage};
 
 // The bit of the options by which rounds go on until nothing moves.

@@ -1,5 +1,6 @@
 // The drain's work: each line in turn, and what follows from it added behind the last line (include_statements.rs).
 #![tactic(auto)]
+
 ghost use Rattle.std.specs.Prelude.{◌≡◌, ℕ, ◌+◌, ◌*◌, ◌-◌, ◌/◌, ◌<◌, ◌≤◌, List, [], ◌∷◌, length, get_or, take, drop};
 ghost use Rattle.determine_side_effects.specs.graph_tables_crate.Tables.{header_in};
 ghost use Rattle.determine_side_effects.specs.graph_crate.Check.{graph_in};
@@ -120,7 +121,10 @@ fn join_forwards(
     let mut total = stage.count;
     let mut at = partners[firsts + owner];
     while at > 0 {
-        let s = SymbolIdx(determine_side_effects::facts_crate::first_part(keep_record::fact_at(lines, at - 1)));
+        let s = SymbolIdx(determine_side_effects::facts_crate::first_part(keep_record::fact_at(
+            lines,
+            at - 1,
+        )));
         match declare(
             numbers,
             tables,
@@ -203,7 +207,10 @@ fn link_forward(
     if last == 0 {
         partners[firsts + owner.0] = k + 1;
     } else {
-        let before = determine_side_effects::facts_crate::first_part(keep_record::fact_at(lines, last - 1));
+        let before = determine_side_effects::facts_crate::first_part(keep_record::fact_at(
+            lines,
+            last - 1,
+        ));
         partners[nexts + before] = k + 1;
     }
     partners[lasts + owner.0] = k + 1;

@@ -80,11 +80,10 @@ sub-collect : (t : ℕ) → lts.Need-overflow_sub-fuel (claims t) (at t) collect
 sub-collect t c = omega (arith, c.if-fuel-eq0.false)
 
 collect-requires : (t : ℕ) → lts.Need-collect-c-requires (claims t) (at t) collect.Post invariant-loop-u decreases-loop-u
-collect-requires t c κs =
-    (
-      omega (arith, c.requires.0, c.if-fuel-eq0.false),
-      ((c.requires.1.0.0, c.requires.1.0.1, c.loop-u-test.true), room-below (started t c.before.before.before) c.loop-u.invariant.2),
-    )
+collect-requires t c κs = (
+  omega (arith, c.requires.0, c.if-fuel-eq0.false),
+  ((c.requires.1.0.0, c.requires.1.0.1, c.loop-u-test.true), room-below (started t c.before.before.before) c.loop-u.invariant.2),
+)
 
 add-next-source : (t : ℕ) → lts.Need-overflow_add-u (claims t) (at t) collect.Post invariant-loop-u decreases-loop-u
 add-next-source t c = omega (arith, c.loop-u-test.true, c.requires.1.0.0)

@@ -37,8 +37,7 @@ loop-i-smaller c = omega (arith, c.loop-i-test.true)
 
 loop-i-preserved : tie.Need-loop-i-preserved invariant-loop-i decreases-loop-i
 loop-i-preserved c =
-    let h = c.loop-i-test.true in
-    (
+    let h = c.loop-i-test.true in (
       omega (arith, h),
       go_step c.loop-i.invariant.1 _ _ _ _ _ (nodes_turn _ _ c.requires.1.1.1 _ h) c.complete-c.auto.seen c.complete-c.auto.order c.complete-c.ensures,
     )

@@ -99,8 +99,7 @@ loop-made-smaller c = omega (arith, at-round c.before.before.before.before.befor
 loop-made-preserved : tie.Need-loop-made-preserved invariant-loop-made decreases-loop-made
 unfolding graph_in
 loop-made-preserved c =
-    let t = c.loop-made.invariant in
-    (
+    let t = c.loop-made.invariant in (
       c.round.auto.partners ∙ t.0,
       c.round.auto.marks ∙ t.1,
       c.round.auto.lines ∙ t.2,
