@@ -1,5 +1,6 @@
 // What the program prints for a file.
 #![tactic(auto)]
+
 ghost use Rattle.std.specs.Prelude.{◌≡◌, ℕ, ◌+◌, ◌*◌, ◌<◌, length};
 ghost use Rattle.leb128.specs.Read.{read_of};
 ghost use Rattle.determine_side_effects.specs.graph_crate.Check.{graph_in};
@@ -11,10 +12,10 @@ ghost use Rattle.listing.specs.Listing.{shown, Fits, listing_of};
 ghost use Rattle.answer_text.specs.Program.{program_rooms, outcome_text, decoded_text, program_text};
 
 use determine_side_effects::graph_crate::Checked;
-use leb128::Answer;
 use determine_side_effects::rows_crate::Walk;
-use run_parts::Ran;
 use determine_side_effects::tables_crate::LARGEST_PLACES;
+use leb128::Answer;
+use run_parts::Ran;
 
 // The listing of a run's answer, with the verdicts of the graph.
 fn listed(

@@ -1,5 +1,6 @@
 // The answers that cross the C boundary, as numbers: each made from the answer of its operation, by value.
 #![tactic(auto)]
+
 ghost use Rattle.std.specs.Prelude.{◌≡◌};
 ghost use Rattle.answers.specs.Answers.{read_answer_of, check_answer_of, drain_answer_of, run_answer_of, judge_answer_of, starts_answer_of};
 
