@@ -48,7 +48,7 @@ GROUPS = [
     ),
     ("Facts and side effects", 7, 20, 860, "code", "facts determine_side_effects on_demand linking_metadata"),
     ("Graph file", 8, 20, 860, "code", "graph_format tables graph_tables graph_entries graph graph_access"),
-    ("Numbers and bits", 9, 20, 860, "code", "frames leb128 bit_row index rows"),
+    ("Numbers and bits", 9, 20, 860, "code", "refusal frames leb128 bit_row index rows"),
 ]
 
 # How each arrow goes: down at a place from the left, then along a lane, (row above it, number of the lane), and down again.

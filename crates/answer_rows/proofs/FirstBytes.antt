@@ -56,6 +56,10 @@ before_mono (s ∷ ss) (suc m) (suc n) l = omega (arith, before_mono ss m n (ome
 pub statement_inside : (ss : List (List Item)) (m n i : ℕ) → m < n → i < length (get_or ss m []) → 8 * bytes_before ss m + i < 8 * bytes_before ss n
 statement_inside ss m n i l h = omega (arith, before_step ss m, before_mono ss (m + 1) n (omega arith), bytes_hold (length (get_or ss m [])))
 
+-- a module by the header that the code reads is one of the graph's
+pub modules_below : (numbers : List ℕ) (h : Header) → h ≡ header_in numbers → (m : ℕ) → m < h.modules → m < (header_in numbers).modules
+modules_below numbers h e m l = omega (arith, l, ap (λ (x : Header). x.modules) e)
+
 -- an accepted graph's runtime module is one of its modules
 pub some_modules : {numbers tables : List ℕ} → Loaded numbers tables → 0 < (header_in numbers).modules
 some_modules {numbers} t = go (dec_lt 0 (header_in numbers).modules)

@@ -57,11 +57,9 @@ pub fn fill_first_bytes(numbers: &[u32], tables: &mut [usize])
     let h = determine_side_effects::graph_crate::header_of(numbers);
     let base = tables[FIRST_BYTE_OF];
     let mut total: usize = 0;
-    let mut m: usize = 0;
-    while m < h.modules {
+    for m in 0..h.modules {
         tables[base + m] = total;
         total += bit_row::bytes_for(modules::statement_count(numbers, tables, ModuleIdx(m)));
-        m += 1;
     }
 }
 
@@ -279,8 +277,7 @@ fn show_lines(
     requires from_le_to { (from ≤ to) × (6 * to ≤ length lines.now) × ((k : ℕ) → k < to → Good (graph_in numbers.now) (line_at lines.now k).fact) }
     ensures { LinesShown (graph_in numbers.now) main (drop from (lines_of to lines.now)) (six_rows modules_row.old statements_row.old used.old external.old json.old reason.old) (six_rows modules_row.new statements_row.new used.new external.new json.new reason.new) }
 {
-    let mut k = from;
-    while k < to {
+    for k in from..to {
         show_fact(
             numbers,
             tables,
@@ -293,7 +290,6 @@ fn show_lines(
             json,
             reason,
         );
-        k += 1;
     }
 }
 

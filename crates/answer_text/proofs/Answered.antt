@@ -8,20 +8,21 @@ use Rattle.determine_side_effects.specs.graph_crate.Loaded.{Loaded}
 use Rattle.determine_side_effects.specs.Effects.{last_verdicts}
 use Rattle.run_rows.specs.Run.{run_of}
 use Rattle.run_parts.specs.declared.Totals.{Totals}
-use Rattle.run_parts.specs.declared.Ran.{Ran}
-use Rattle.run_parts.specs.declared.Ran.TheVariants.{Done, Refused}
 use Rattle.run_parts.specs.Operation.{Rows, rooms_of, outcome_of, answered, Ends}
 use Rattle.listing.specs.Listing.{Shown, shown, Fits, listing_of, refused_text}
 use Rattle.answer_text.specs.Program.{program_rooms, outcome_text}
 use Rattle.answer_text.proofs.Outcomes.{IsDone, text_refused, done_is}
 use Rattle.answer_text.proofs.Fitting.{rows_fit, shown_is}
 use Rattle.answer_text.proofs.Texts.{lent_rows, rooms_text, entries_done}
+use Rattle.std.specs.Prelude.{Result, Ok, Err}
+use Rattle.determine_side_effects.specs.refusal_crate.Number.{number_of}
+use Rattle.determine_side_effects.specs.refusal_crate.declared.Refusal.{Refusal}
 
 abbrev pub shown_by : List ℕ → ℕ → ℕ → Rows → Shown
 shown_by numbers rounds count r =
     shown rounds count (last_verdicts (graph_in numbers)) r.entries r.modules r.statements r.used r.external r.json r.reason r.dead r.helpers
 
-module _ {numbers tables : List ℕ} (t : Loaded numbers tables) {x : Ran} {totals : Totals} (is : x ≡ Done totals) (after : Rows) (e : Ends (outcome_of numbers (rooms_of lent_rows)) x lent_rows after) where
+module _ {numbers tables : List ℕ} (t : Loaded numbers tables) {x : Result Totals Refusal} {totals : Totals} (is : x ≡ Ok totals) (after : Rows) (e : Ends (outcome_of numbers (rooms_of lent_rows)) x lent_rows after) where
   ended : IsDone numbers (rooms_of lent_rows) totals
   ended = done_is numbers t.accepted (rooms_of lent_rows) (sym is ∙ e.answer)
 
@@ -41,5 +42,5 @@ module _ {numbers tables : List ℕ} (t : Loaded numbers tables) {x : Ran} {tota
       ∙ rooms_text numbers
 
 -- and a refused one
-pub refused_text_lem : (numbers : List ℕ) {x : Ran} {n p : ℕ} → x ≡ Refused n p → x ≡ answered (outcome_of numbers (rooms_of lent_rows)) → refused_text n ≡ outcome_text (outcome_of numbers program_rooms)
+pub refused_text_lem : (numbers : List ℕ) {x : Result Totals Refusal} {why : Refusal} → x ≡ Err why → x ≡ answered (outcome_of numbers (rooms_of lent_rows)) → refused_text (number_of why) ≡ outcome_text (outcome_of numbers program_rooms)
 refused_text_lem numbers is e = text_refused (outcome_of numbers (rooms_of lent_rows)) (sym is ∙ e) ∙ rooms_text numbers

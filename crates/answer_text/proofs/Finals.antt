@@ -1,8 +1,8 @@
 -- The final entries are entries of the graph, no more than there are; the rounds are few.
 use Prim.Native.Nat.{ℕ, zero, suc, ◌+◌, ◌*◌, ◌<◌, ◌≤◌}
-use mathlib.Core.Path.{◌≡◌, refl, ap, ◌∙◌, sym}
+use mathlib.Core.Path.{◌≡◌, refl, ◌∙◌}
 use mathlib.Core.Logic.{⊎_elim}
-use mathlib.Core.Bool.{Bool, true, false, not}
+use mathlib.Core.Bool.{Bool, true, false}
 use mathlib.Core.List.{List, [], ◌∷◌, ◌++◌}
 use native.Mathlib.Omega.{arith}
 use lib.Dec.{eqb}
@@ -12,12 +12,12 @@ use Rattle.determine_side_effects.specs.graph_crate.Loaded.{Loaded}
 use Rattle.determine_side_effects.specs.graph_access_crate.Words.{option}
 use Rattle.keep_record.specs.Lines.{elem}
 use Rattle.determine_side_effects.specs.Effects.{last_verdicts}
-use Rattle.entry_order.specs.Order.{those, grouped, module_of_entry, user_entries, dynamic_entries}
+use Rattle.entry_order.specs.Order.{those, module_of_entry, user_entries, dynamic_entries}
 use Rattle.entry_order.proofs.Those.{those_in, those_parts}
 use Rattle.entry_order.proofs.Grouped.{grouped-length, grouped_in}
 use Rattle.entry_order.proofs.Entered.{below_at, parts-length, user_below, dynamic_below}
 use Rattle.entry_graph.specs.Ordering.{entry_graph}
-use Rattle.entry_graph.proofs.Made.{Made, entry_graph_made}
+use Rattle.entry_graph.proofs.Made.{entry_graph_made}
 use Rattle.cycles.proofs.Members.{in_either, in_none}
 use Rattle.cycles.proofs.Strong.{finished_roots, finished_distinct}
 use Rattle.dynamic_entries.specs.Sorted.{on_cycle, goes_first, by_completion, completion, sorted_entries}

@@ -2,14 +2,13 @@
 use Prim.Native.Nat.{ℕ, ◌<◌, ◌≤◌}
 use mathlib.Core.Path.{◌≡◌, refl, ap, ◌∙◌, sym, subst}
 use mathlib.Core.Bool.{Bool, true, false}
-use mathlib.Core.List.{List, [], ◌∷◌, ◌++◌}
+use mathlib.Core.List.{List, ◌++◌}
 use native.Mathlib.Omega.{arith}
 use borrow.Author.Tests.{ltb-true, ltb-false, lt-ltb, le-ltb}
 use lib.Dec.{ltb}
 use lib.ListN.{length, take, drop, replicate, length-append, length-replicate, length-drop, drop_of_length-le}
 use lib.Seq.{take_at, take_all, length-take-le}
-use Rattle.leb128.specs.declared.Answer.TheVariants.{Numbers, Refused}
-use Rattle.leb128.specs.Read.{Decoded, all, refused, read_of, answer_of, lent_of, IsRead}
+use Rattle.leb128.specs.Read.{Decoded, all, refused, read_of, answer_of, lent_of}
 use Rattle.determine_side_effects.specs.graph_format_crate.declared.Header.{Header}
 use Rattle.determine_side_effects.specs.graph_tables_crate.Tables.{header_in}
 use Rattle.determine_side_effects.specs.graph_crate.Check.{Graph, graph_in}
@@ -19,10 +18,13 @@ use Rattle.determine_side_effects.specs.Effects.{last_verdicts}
 use Rattle.determine_side_effects.specs.Operation.{effects_row}
 use Rattle.determine_side_effects.proofs.Loading.{last-length}
 use Rattle.run_rows.specs.Run.{Run, entries_row}
-use Rattle.run_parts.specs.Operation.{Rows, rows, Rooms, rooms_of, Outcome, done, outcome_of, entries_after}
+use Rattle.run_parts.specs.Operation.{Rows, rows, rooms_of, Outcome, done, outcome_of, entries_after}
 use Rattle.listing.specs.Text.{shown_in}
 use Rattle.listing.specs.Listing.{shown, Fits, listing_of, refused_text}
 use Rattle.answer_text.specs.Program.{program_rooms, outcome_text, decoded_text, file_text, program_text, TextOfFile}
+use Rattle.std.specs.Prelude.{Ok, Err}
+use Rattle.determine_side_effects.specs.refusal_crate.Number.{number_of}
+use Rattle.determine_side_effects.specs.refusal_crate.declared.Refusal.{Refusal}
 
 -- a text by another name
 pub told_as : (skip : ℕ) (lent : List ℕ) {r : ℕ} {a b out : List ℕ} → a ≡ b → (r ≡ length a) × (out ≡ shown_in skip a lent) → (r ≡ length b) × (out ≡ shown_in skip b lent)
@@ -60,24 +62,24 @@ text_of_file file = go (ltb 8192 (length file)) refl
 
 -- what was read
 module _ (d : Decoded) where
-  pub decoded_refused : {n p : ℕ} → Refused n p ≡ answer_of d → refused_text n ≡ decoded_text d
+  pub decoded_refused : {why : Refusal} → Err why ≡ answer_of d → refused_text (number_of why) ≡ decoded_text d
   unfolding answer_of decoded_text
-  decoded_refused {n} {p} e = go d e
+  decoded_refused {why} e = go d e
     where
-      go : (x : Decoded) → Refused n p ≡ answer_of x → refused_text n ≡ decoded_text x
-      go (all xs) i = let z : ◌≡◌ {A = ℕ} 0 1 = cc in absurd (omega arith)
-      go (refused m q) i = let j : n ≡ m = cc in ap refused_text j
+      go : (x : Decoded) → Err why ≡ answer_of x → refused_text (number_of why) ≡ decoded_text x
+      go (all xs) i = absurd cc
+      go (refused q) i = let j : why ≡ q = cc in ap (λ w. refused_text (number_of w)) j
 
-  pub decoded_read : {n : ℕ} → Numbers n ≡ answer_of d → (lent numbers : List ℕ) → numbers ≡ lent_of d lent
+  pub decoded_read : {n : ℕ} → Ok n ≡ answer_of d → (lent numbers : List ℕ) → numbers ≡ lent_of d lent
       → (n ≤ length numbers) × (outcome_text (outcome_of (take n numbers) program_rooms) ≡ decoded_text d)
   unfolding answer_of lent_of decoded_text
   decoded_read {n} e lent numbers i = go d e i
     where
-      go : (x : Decoded) → Numbers n ≡ answer_of x → numbers ≡ lent_of x lent → (n ≤ length numbers) × (outcome_text (outcome_of (take n numbers) program_rooms) ≡ decoded_text x)
+      go : (x : Decoded) → Ok n ≡ answer_of x → numbers ≡ lent_of x lent → (n ≤ length numbers) × (outcome_text (outcome_of (take n numbers) program_rooms) ≡ decoded_text x)
       go (all xs) j k =
           let l : length xs ≡ n = cc in
           (omega (arith, l, ap length k, length-append xs (drop (length xs) lent)), ap (λ ys. outcome_text (outcome_of ys program_rooms)) (ap (take n) k ∙ take_at xs (drop (length xs) lent) n l))
-      go (refused m q) j k = let z : ◌≡◌ {A = ℕ} 0 1 = cc in absurd (omega arith)
+      go (refused why) j k = absurd cc
 
 -- the row that is lent to be read into has room for 8,192 numbers
 pub room_is : (file : List ℕ) → decoded_text (read_of file (length (replicate {A = ℕ} 8192 0))) ≡ decoded_text (read_of file 8192)

@@ -1,5 +1,5 @@
 -- What the program prints for a file (docs/OPERATIONS.md, Program keep).
-use Rattle.std.specs.Prelude.{ℕ, ◌≡◌, true, false, List, [], ◌∷◌, ltb, length, replicate, take, drop}
+use Rattle.std.specs.Prelude.{ℕ, ◌≡◌, true, false, List, ltb, length, replicate, take, drop}
 use Rattle.leb128.specs.Read.{Decoded, all, refused, read_of}
 use Rattle.determine_side_effects.specs.graph_crate.Check.{Graph}
 use Rattle.determine_side_effects.specs.Effects.{last_verdicts}
@@ -7,6 +7,7 @@ use Rattle.answer_rows.specs.declared.Row.TheVariants.{Modules, Statements, Used
 use Rattle.tree_shaking.specs.Rounds.{final_entries}
 use Rattle.run_rows.specs.Run.{Run}
 use Rattle.run_parts.specs.Operation.{Rooms, Outcome, before, short, done, outcome_of, row_after, dead_after, helpers_after, entries_after}
+use Rattle.determine_side_effects.specs.refusal_crate.Number.{number_of}
 use Rattle.listing.specs.Listing.{Shown, listing_of, refused_text}
 
 -- The rows of the program: for the largest counts of a graph, but import records (8,192 numbers hold fewer than 8,192) and record lines
@@ -46,13 +47,13 @@ shown_of g r =
     }
 
 unfoldable pub outcome_text : Outcome → List ℕ
-outcome_text (before n p) = refused_text n
+outcome_text (before why) = refused_text (number_of why)
 outcome_text short = refused_text 5
 outcome_text (done g r) = listing_of g (shown_of g r)
 
 unfoldable pub decoded_text : Decoded → List ℕ
 decoded_text (all numbers) = outcome_text (outcome_of numbers program_rooms)
-decoded_text (refused n p) = refused_text n
+decoded_text (refused why) = refused_text (number_of why)
 
 -- the text for a file: one of more than 8,192 bytes is refused 2, before anything is read as numbers
 unfoldable pub file_text : List ℕ → List ℕ

@@ -11,11 +11,7 @@ ghost use Rattle.listing.specs.Text.{shown_in};
 ghost use Rattle.listing.specs.Listing.{shown, Fits, listing_of};
 ghost use Rattle.answer_text.specs.Program.{program_rooms, outcome_text, decoded_text, program_text};
 
-use determine_side_effects::graph_crate::Checked;
-use determine_side_effects::rows_crate::Walk;
 use determine_side_effects::tables_crate::LARGEST_PLACES;
-use leb128::Answer;
-use run_parts::Ran;
 
 // The listing of a run's answer, with the verdicts of the graph.
 fn listed(
@@ -40,7 +36,7 @@ fn listed(
     ensures { (result ≡ length (listing_of (graph_in numbers.now) (shown rounds count (last_verdicts (graph_in numbers.now)) entries.now modules_row.now statements_row.now used.now external.now json.now reason.now dead.now helpers.now))) × (out.new ≡ shown_in skip (listing_of (graph_in numbers.now) (shown rounds count (last_verdicts (graph_in numbers.now)) entries.now modules_row.now statements_row.now used.now external.now json.now reason.now dead.now helpers.now)) out.old) }
 {
     let mut verdicts = [0u32; 1024];
-    determine_side_effects::effects(numbers, &mut verdicts);
+    let _ = determine_side_effects::effects(numbers, &mut verdicts);
     let h = determine_side_effects::graph_crate::header_of(numbers);
     let size = h.modules;
     listing::form(
@@ -93,8 +89,8 @@ fn ran(numbers: &[u32], tables: &[usize], skip: usize, out: &mut [u8]) -> usize
         &mut helpers,
         &mut entries,
     ) {
-        Ran::Refused(n, _) => listing::refuse(n, skip, out),
-        Ran::Done(t) => listed(
+        Err(why) => listing::refuse(why.number(), skip, out),
+        Ok(t) => listed(
             numbers,
             tables,
             t.rounds,
@@ -119,13 +115,13 @@ fn checked(numbers: &[u32], skip: usize, out: &mut [u8]) -> usize
     ensures { (result ≡ length (outcome_text (outcome_of numbers.now program_rooms))) × (out.new ≡ shown_in skip (outcome_text (outcome_of numbers.now program_rooms)) out.old) }
 {
     match determine_side_effects::graph_crate::header(numbers) {
-        Walk::Fault(n, _) => listing::refuse(n, skip, out),
-        Walk::At(_) => {
+        Err(why) => listing::refuse(why.number(), skip, out),
+        Ok(_) => {
             let h = determine_side_effects::graph_crate::header_of(numbers);
             let mut tables = [0usize; LARGEST_PLACES];
             match determine_side_effects::graph_crate::load(numbers, h, &mut tables) {
-                Checked::Refused(n, _) => listing::refuse(n, skip, out),
-                Checked::Accepted => ran(numbers, &tables, skip, out),
+                Err(why) => listing::refuse(why.number(), skip, out),
+                Ok(()) => ran(numbers, &tables, skip, out),
             }
         }
     }
@@ -137,8 +133,8 @@ fn decoded(file: &[u8], skip: usize, out: &mut [u8]) -> usize
 {
     let mut numbers = [0u32; 8192];
     match leb128::read(file, &mut numbers) {
-        Answer::Refused(n, _) => listing::refuse(n, skip, out),
-        Answer::Numbers(count) => checked(&numbers[..count], skip, out),
+        Err(why) => listing::refuse(why.number(), skip, out),
+        Ok(count) => checked(&numbers[..count], skip, out),
     }
 }
 

@@ -4,12 +4,7 @@
 ghost use Rattle.std.specs.Prelude.{◌≡◌};
 ghost use Rattle.answers.specs.Answers.{read_answer_of, check_answer_of, drain_answer_of, run_answer_of, judge_answer_of, starts_answer_of};
 
-use drain_parts::Drained;
-use graph::Checked;
-use judge_parts::Judged;
-use leb128::Answer;
-use run_parts::Ran;
-use run_starts::StartsRead;
+use run_parts::Totals;
 
 // A refusal's number and its place; number 0: not refused.
 #[repr(C)]
@@ -50,63 +45,63 @@ pub struct RunAnswer {
 }
 
 // The answer of a read.
-pub fn read_answer(r: Answer) -> ReadAnswer
+pub fn read_answer(r: Result<usize, leb128::refusal_crate::Refusal>) -> ReadAnswer
     ensures { result ≡ read_answer_of r }
 {
     match r {
-        Answer::Numbers(n) => ReadAnswer {
+        Ok(n) => ReadAnswer {
             number: 0,
             place: 0,
             count: n as u64,
         },
-        Answer::Refused(n, p) => ReadAnswer {
-            number: n,
-            place: p as u64,
+        Err(why) => ReadAnswer {
+            number: why.number(),
+            place: why.place() as u64,
             count: 0,
         },
     }
 }
 
 // The answer of a check or of effects.
-pub fn check_answer(r: Checked) -> Refusal
+pub fn check_answer(r: Result<(), leb128::refusal_crate::Refusal>) -> Refusal
     ensures { result ≡ check_answer_of r }
 {
     match r {
-        Checked::Accepted => Refusal {
+        Ok(()) => Refusal {
             number: 0,
             place: 0,
         },
-        Checked::Refused(n, p) => Refusal {
-            number: n,
-            place: p as u64,
+        Err(why) => Refusal {
+            number: why.number(),
+            place: why.place() as u64,
         },
     }
 }
 
 // The answer of a drain.
-pub fn drain_answer(r: Drained) -> DrainAnswer
+pub fn drain_answer(r: Result<usize, leb128::refusal_crate::Refusal>) -> DrainAnswer
     ensures { result ≡ drain_answer_of r }
 {
     match r {
-        Drained::Lines(n) => DrainAnswer {
+        Ok(n) => DrainAnswer {
             number: 0,
             place: 0,
             lines: n as u64,
         },
-        Drained::Refused(n, p) => DrainAnswer {
-            number: n,
-            place: p as u64,
+        Err(why) => DrainAnswer {
+            number: why.number(),
+            place: why.place() as u64,
             lines: 0,
         },
     }
 }
 
 // The answer of a run.
-pub fn run_answer(r: Ran) -> RunAnswer
+pub fn run_answer(r: Result<Totals, leb128::refusal_crate::Refusal>) -> RunAnswer
     ensures { result ≡ run_answer_of r }
 {
     match r {
-        Ran::Done(t) => RunAnswer {
+        Ok(t) => RunAnswer {
             number: 0,
             place: 0,
             rounds: t.rounds as u64,
@@ -114,9 +109,9 @@ pub fn run_answer(r: Ran) -> RunAnswer
             runtime_lines: t.runtime_lines as u64,
             entries: t.entries as u64,
         },
-        Ran::Refused(n, p) => RunAnswer {
-            number: n,
-            place: p as u64,
+        Err(why) => RunAnswer {
+            number: why.number(),
+            place: why.place() as u64,
             rounds: 0,
             lines: 0,
             runtime_lines: 0,
@@ -126,34 +121,34 @@ pub fn run_answer(r: Ran) -> RunAnswer
 }
 
 // The answer of a judge.
-pub fn judge_answer(r: Judged) -> Refusal
+pub fn judge_answer(r: Result<(), leb128::refusal_crate::Refusal>) -> Refusal
     ensures { result ≡ judge_answer_of r }
 {
     match r {
-        Judged::Passed => Refusal {
+        Ok(()) => Refusal {
             number: 0,
             place: 0,
         },
-        Judged::Refused(n, p) => Refusal {
-            number: n,
-            place: p as u64,
+        Err(why) => Refusal {
+            number: why.number(),
+            place: why.place() as u64,
         },
     }
 }
 
 // The answer of a run's own starts.
-pub fn starts_answer(r: StartsRead) -> ReadAnswer
+pub fn starts_answer(r: Result<usize, leb128::refusal_crate::Refusal>) -> ReadAnswer
     ensures { result ≡ starts_answer_of r }
 {
     match r {
-        StartsRead::Numbers(n) => ReadAnswer {
+        Ok(n) => ReadAnswer {
             number: 0,
             place: 0,
             count: n as u64,
         },
-        StartsRead::Refused(n, p) => ReadAnswer {
-            number: n,
-            place: p as u64,
+        Err(why) => ReadAnswer {
+            number: why.number(),
+            place: why.place() as u64,
             count: 0,
         },
     }

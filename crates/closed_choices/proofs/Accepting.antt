@@ -7,7 +7,6 @@ use native.Mathlib.Omega.{arith}
 use lib.ListN.{length, get_or, drop, replicate, length-append, length-map, length-replicate, get_or-append}
 use lib.Seq.{get_or-append-add, get_or-drop, drop-drop, drop_at}
 use Rattle.determine_side_effects.specs.rows_crate.Walk.{Parsed, got, many, Item, no_item, walk_of, cells}
-use Rattle.determine_side_effects.specs.rows_crate.declared.Walk.TheVariants.{At}
 use Rattle.determine_side_effects.proofs.rows_crate.Cells.{then_got}
 use Rattle.determine_side_effects.proofs.rows_crate.Items.{many_first, many-length, rows_end, plain_plain}
 use Rattle.determine_side_effects.specs.graph_format_crate.declared.Header.{Header}
@@ -18,7 +17,6 @@ use Rattle.determine_side_effects.specs.graph_tables_crate.Tables.{items_of, end
 use Rattle.determine_side_effects.specs.graph_tables_crate.Places.{Filled, StatementsPlaced, StatementsFilled, ModuleTable}
 use Rattle.determine_side_effects.proofs.graph_tables_crate.Sections.{placed_section}
 use Rattle.determine_side_effects.proofs.graph_tables_crate.ByModule.{first_step, first_fits}
-use Rattle.determine_side_effects.specs.graph_crate.declared.Checked.TheVariants.{Accepted}
 use Rattle.determine_side_effects.specs.graph_crate.Check.{Graph, helpers_at, graph_at, walked, check_of, answer_of, HeaderRead}
 use Rattle.determine_side_effects.specs.graph_crate.Loaded.{Loaded}
 use Rattle.determine_side_effects.proofs.graph_crate.Checking.{walked_is, bounded}
@@ -26,6 +24,7 @@ use Rattle.determine_side_effects.proofs.graph_crate.Loading.{module-table, symb
 use Rattle.determine_side_effects.proofs.graph_crate.WellFormed.{accepted_is}
 use Rattle.determine_side_effects.specs.graph_access_crate.Words.{tabulate}
 use Rattle.answer_rows.proofs.Tabulated.{length-tabulate, get_d_tabulate}
+use Rattle.std.specs.Prelude.{Ok}
 
 -- the places of items, and of statements by module
 abbrev places_of : List Item → List ℕ
@@ -75,7 +74,7 @@ read_is : {A : Type 0} (x : Parsed (List A)) {xs : List A} {q : ℕ} → x ≡ g
 unfolding items_of end_of
 read_is x e = (rw e, rw e)
 
-walk_ends : {A : Type 0} (x : Parsed A) {a : A} {q : ℕ} → x ≡ got a q → walk_of x ≡ At q
+walk_ends : {A : Type 0} (x : Parsed A) {a : A} {q : ℕ} → x ≡ got a q → walk_of x ≡ Ok q
 unfolding walk_of
 walk_ends x e = rw e
 
@@ -180,7 +179,7 @@ pub record Tabled (numbers : List ℕ) : Type 0 where
   pub tables : List ℕ
   pub holds : Loaded numbers tables
 
-module _ (numbers : List ℕ) (ok : answer_of (check_of numbers) ≡ Accepted) where
+module _ (numbers : List ℕ) (ok : answer_of (check_of numbers) ≡ Ok tt) where
   abbrev h : Header
   h = header_in numbers
 

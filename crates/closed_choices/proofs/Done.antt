@@ -9,7 +9,6 @@ use borrow.Author.Tests.{eqb-true, ltb-false, eq-eqb}
 use lib.Dec.{eqb, ltb}
 use lib.ListN.{length}
 use Rattle.determine_side_effects.specs.rows_crate.Walk.{Parsed, got, fault}
-use Rattle.determine_side_effects.specs.graph_crate.declared.Checked.TheVariants.{Accepted}
 use Rattle.determine_side_effects.specs.graph_crate.Check.{Graph, graph_in, check_of, answer_of}
 use Rattle.determine_side_effects.specs.Effects.{last_verdicts}
 use Rattle.keep_record.specs.declared.Line.{Line}
@@ -17,9 +16,12 @@ use Rattle.worklist.specs.Drain.{drain_of}
 use Rattle.starts.specs.Starts.{starts_of, starts_fault}
 use Rattle.drain_parts.specs.Operation.{Rooms, before, short, done, worked, enough, outcome_in, outcome_of}
 use Rattle.drain_parts.proofs.Ending.{outcome_short, outcome_work, outcome_accepted}
+use Rattle.std.specs.Prelude.{Ok}
+use Rattle.determine_side_effects.specs.refusal_crate.declared.Refusal.{Refusal}
+use Rattle.determine_side_effects.specs.refusal_crate.declared.Refusal.TheVariants.{NoRoom}
 
 pub record Done (numbers starts : List ℕ) (room : Rooms) (g : Graph) (lines : List Line) : Type 0 where
-  pub accepted : answer_of (check_of numbers) ≡ Accepted
+  pub accepted : answer_of (check_of numbers) ≡ Ok tt
   pub graph_is : g ≡ graph_in numbers
   pub whole : length starts % 3 ≡ 0
   pub faultless : starts_fault (graph_in numbers) starts 0 (length starts / 3) ≡ 0
@@ -28,8 +30,8 @@ pub record Done (numbers starts : List ℕ) (room : Rooms) (g : Graph) (lines : 
   pub have_room : 6 * length lines ≤ room.lines
 
 -- done is neither of the other outcomes
-not_before : (n p : ℕ) (g : Graph) (lines : List Line) → before n p ≡ done g lines → ⊥
-not_before n p g lines e = let z : ◌≡◌ {A = ℕ} 0 1 = cc in omega arith
+not_before : (why : Refusal) (g : Graph) (lines : List Line) → before why ≡ done g lines → ⊥
+not_before why g lines e = let z : ◌≡◌ {A = ℕ} 0 1 = cc in omega arith
 
 not_short : (g : Graph) (lines : List Line) → short ≡ done g lines → ⊥
 not_short g lines e = let z : ◌≡◌ {A = ℕ} 0 1 = cc in omega arith
@@ -54,7 +56,7 @@ module _ (g : Graph) (starts : List ℕ) (room : Rooms) (h : Graph) (lines : Lis
     where
       go : (b : Bool) → eqb (length starts % 3) 0 ≡ b → length starts % 3 ≡ 0
       go true t = eqb-true (length starts % 3) 0 t
-      go false t = absurd (not_before _ _ h lines (rw (t, outcome_in) at e))
+      go false t = absurd (not_before _ h lines (rw (t, outcome_in) at e))
 
   without_fault : at ≡ 0
   unfolding outcome_in
@@ -62,27 +64,27 @@ module _ (g : Graph) (starts : List ℕ) (room : Rooms) (h : Graph) (lines : Lis
     where
       go : (b : Bool) → eqb at 0 ≡ b → at ≡ 0
       go true t = eqb-true at 0 t
-      go false t = absurd (not_before _ _ h lines (rw (eq-eqb (length starts % 3) 0 in_threes, t, outcome_in) at e))
+      go false t = absurd (not_before _ h lines (rw (eq-eqb (length starts % 3) 0 in_threes, t, outcome_in) at e))
 
   with_room : enough g room ≡ true
   with_room = go (enough g room) refl
     where
       go : (b : Bool) → enough g room ≡ b → enough g room ≡ true
       go true t = t
-      go false t = absurd (not_before 5 0 h lines (sym (outcome_short g starts room in_threes without_fault t) ∙ e))
+      go false t = absurd (not_before NoRoom h lines (sym (outcome_short g starts room in_threes without_fault t) ∙ e))
 
   work_done : worked g (drain_of g (last_verdicts g) (starts_of starts)) room.lines ≡ done h lines
   work_done = sym (outcome_work g starts room in_threes without_fault with_room) ∙ e
 
 -- and the check of the numbers
 module _ (numbers starts : List ℕ) (room : Rooms) (g : Graph) (lines : List Line) (e : outcome_of numbers starts room ≡ done g lines) where
-  passed : answer_of (check_of numbers) ≡ Accepted
+  passed : answer_of (check_of numbers) ≡ Ok tt
   unfolding outcome_of answer_of
   passed = go (check_of numbers) refl
     where
-      go : (x : Parsed Graph) → check_of numbers ≡ x → answer_of (check_of numbers) ≡ Accepted
+      go : (x : Parsed Graph) → check_of numbers ≡ x → answer_of (check_of numbers) ≡ Ok tt
       go (got h q) t = ap answer_of t
-      go (fault n p) t = absurd (not_before n p g lines (rw (t, outcome_of) at e))
+      go (fault why) t = absurd (not_before why g lines (rw (t, outcome_of) at e))
 
   pub drain_done : Done numbers starts room g lines
   drain_done =

@@ -4,7 +4,6 @@ use Prim.Native.Nat.{ℕ, ◌/◌, ◌≤◌}
 use mathlib.Core.Path.{◌≡◌}
 use mathlib.Core.List.{List}
 use lib.ListN.{length}
-use Rattle.determine_side_effects.specs.graph_crate.declared.Checked.TheVariants.{Accepted}
 use Rattle.determine_side_effects.specs.graph_crate.Check.{graph_in, check_of, answer_of}
 use Rattle.determine_side_effects.specs.facts_crate.Facts.{mark_count}
 use Rattle.determine_side_effects.specs.Effects.{last_verdicts}
@@ -14,8 +13,9 @@ use Rattle.starts.proofs.Starting.{starts_good}
 use Rattle.closed_choices.specs.Choice.{Smallest, HasLine}
 use Rattle.closed_choices.proofs.Accepting.{accepted_tabled}
 use Rattle.closed_choices.proofs.Smallest.{drain_smallest, lines-suffice}
+use Rattle.std.specs.Prelude.{Ok}
 
-module _ (numbers starts : List ℕ) (accepted : answer_of (check_of numbers) ≡ Accepted) (good : starts_fault (graph_in numbers) starts 0 (length starts / 3) ≡ 0) where
+module _ (numbers starts : List ℕ) (accepted : answer_of (check_of numbers) ≡ Ok tt) (good : starts_fault (graph_in numbers) starts 0 (length starts / 3) ≡ 0) where
   -- the facts of the drain's lines are the smallest closed choice that holds the starts
   pub facts_smallest : Smallest (graph_in numbers) (starts_of starts) (HasLine (drain_of (graph_in numbers) (last_verdicts (graph_in numbers)) (starts_of starts)))
   facts_smallest = drain_smallest (accepted_tabled numbers accepted).holds (starts_of starts) (starts_good (graph_in numbers) starts good)

@@ -15,7 +15,6 @@ use Rattle.determine_side_effects.specs.rows_crate.Walk.{no_item}
 use Rattle.determine_side_effects.specs.graph_format_crate.Format.{module_rules, statement_limit}
 use Rattle.determine_side_effects.specs.graph_tables_crate.Tables.{modules_in}
 use Rattle.determine_side_effects.proofs.graph_tables_crate.Facts.{its-read, number_same}
-use Rattle.determine_side_effects.specs.graph_crate.declared.Checked.TheVariants.{Accepted}
 use Rattle.determine_side_effects.specs.graph_crate.Check.{Graph, graph_in, check_of, answer_of}
 use Rattle.determine_side_effects.specs.graph_access_crate.Names.{kind}
 use Rattle.determine_side_effects.specs.facts_crate.declared.Fact.{Fact}
@@ -45,6 +44,7 @@ use Rattle.closed_choices.proofs.Showing.{bytes_long, bit_of_bytes, bit_behind, 
 use Rattle.closed_choices.proofs.Spare.{spare_unshown}
 use Rattle.closed_choices.proofs.Done.{drain_done}
 use Rattle.closed_choices.proofs.OfDrains.{facts_smallest, lines_few}
+use Rattle.std.specs.Prelude.{Ok}
 
 -- only normal modules have statements
 limit_kind : (kind left n : ℕ) → 0 < n → n < statement_limit kind left → 0 < kind
@@ -70,7 +70,7 @@ module _ {numbers tables : List ℕ} (t : Loaded numbers tables) where
   targets s h = target_below t s h
 
 -- the drain of accepted numbers and starts without a fault
-module _ (numbers starts : List ℕ) (accepted : answer_of (check_of numbers) ≡ Accepted) (faultless : starts_fault (graph_in numbers) starts 0 (length starts / 3) ≡ 0) where
+module _ (numbers starts : List ℕ) (accepted : answer_of (check_of numbers) ≡ Ok tt) (faultless : starts_fault (graph_in numbers) starts 0 (length starts / 3) ≡ 0) where
   abbrev g : Graph
   g = graph_in numbers
 

@@ -2,7 +2,6 @@
 -- `drain_shows`, `drain_enough` and `no_starts` in proofs/OfOperation.antt.
 use Rattle.std.specs.Prelude.{ℕ, ◌+◌, ◌*◌, ◌/◌, ◌%◌, ◌<◌, ◌≤◌, ◌≡◌, ◌↔◌, true, false, List, [], length}
 use Rattle.bit_row.specs.Row.{bit_at}
-use Rattle.determine_side_effects.specs.graph_crate.declared.Checked.TheVariants.{Accepted}
 use Rattle.determine_side_effects.specs.graph_crate.Check.{Graph, graph_in, check_of, answer_of}
 use Rattle.determine_side_effects.specs.index_crate.declared.ModuleIdx.{ModuleIdx}
 use Rattle.determine_side_effects.specs.index_crate.declared.StmtIdx.{StmtIdx}
@@ -17,6 +16,7 @@ use Rattle.answer_rows.specs.declared.Row.TheVariants.{Modules, Statements, Used
 use Rattle.answer_rows.specs.Shown.{bytes_before, row_bytes}
 use Rattle.drain_parts.specs.Operation.{Rooms, done, outcome_of, marks_after, row_after, enough}
 use Rattle.closed_choices.specs.Choice.{Smallest, HasLine, RowShows}
+use Rattle.std.specs.Prelude.{Ok}
 
 -- a bit of a row that stands for no module, statement, symbol or reason (docs/OPERATIONS.md, Rows)
 abbrev pub Spare : Graph → Row → ℕ → Type 0
@@ -48,7 +48,7 @@ EveryDrainShows =
 -- no 5 with enough room: accepted numbers, starts without a fault, rows that are long enough and six numbers for each mark
 abbrev pub EnoughDrains : Type 0
 EnoughDrains =
-    (numbers starts : List ℕ) (room : Rooms) → answer_of (check_of numbers) ≡ Accepted → length starts % 3 ≡ 0
+    (numbers starts : List ℕ) (room : Rooms) → answer_of (check_of numbers) ≡ Ok tt → length starts % 3 ≡ 0
     → starts_fault (graph_in numbers) starts 0 (length starts / 3) ≡ 0 → enough (graph_in numbers) room ≡ true
     → 6 * mark_count (graph_in numbers) ≤ room.lines → (lines : List Line) × (outcome_of numbers starts room ≡ done (graph_in numbers) lines)
 

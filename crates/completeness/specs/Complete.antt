@@ -7,7 +7,7 @@ use Rattle.determine_side_effects.specs.graph_access_crate.Words.{symbol_of, nor
 use Rattle.determine_side_effects.specs.facts_crate.declared.Fact.{Fact}
 use Rattle.determine_side_effects.specs.facts_crate.declared.Fact.TheVariants.{Module, Statement, Use, CheckedUse, Forward, Bailout}
 use Rattle.determine_side_effects.specs.facts_crate.Facts.{module_fact, statement_fact}
-use Rattle.keep_rules.specs.Rules.{Given, gives}
+use Rattle.keep_rules.specs.Rules.{gives}
 use Rattle.keep_record.specs.declared.Line.{Line}
 
 -- each element of a list passes a test

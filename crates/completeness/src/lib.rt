@@ -39,12 +39,10 @@ pub fn are_marked(numbers: &[u32], tables: &[usize], starts: &[u32], marks: &[u8
     ensures { result ≡ all (marked (graph_in numbers.now) marks.now) (starts_of starts.now) }
 {
     let count = starts.len() / 3;
-    let mut i: usize = 0;
-    while i < count {
+    for i in 0..count {
         if !is_marked(numbers, tables, marks, start_at(starts, i)) {
             return false;
         }
-        i += 1;
     }
     true
 }
@@ -56,15 +54,11 @@ fn is_closed_at(numbers: &[u32], tables: &[usize], marks: &[u8], fact: Fact) -> 
     ensures { result ≡ is_closed_at (graph_in numbers.now) (last_verdicts (graph_in numbers.now)) (marked (graph_in numbers.now) marks.now) fact }
 {
     let count = consequences::segment_count(numbers, tables, fact);
-    let mut j: usize = 0;
     let mut place: usize = 0;
-    while j < count {
+    for j in 0..count {
         let candidates = consequences::segment_candidates(numbers, tables, fact, j, place);
-        let mut c: usize = 0;
-        while c < candidates {
-            let at = c;
-            c += 1;
-            match consequences::segment_candidate(numbers, tables, fact, j, at, place) {
+        for c in 0..candidates {
+            match consequences::segment_candidate(numbers, tables, fact, j, c, place) {
                 Candidate::Gives(found) => {
                     if !is_marked(numbers, tables, marks, found) {
                         return false;
@@ -74,7 +68,6 @@ fn is_closed_at(numbers: &[u32], tables: &[usize], marks: &[u8], fact: Fact) -> 
             }
         }
         place = consequences::place_behind(numbers, tables, fact, j, place);
-        j += 1;
     }
     true
 }
@@ -93,13 +86,11 @@ fn are_declared(numbers: &[u32], tables: &[usize], marks: &[u8], s: SymbolIdx) -
         return true;
     }
     let count = symbols::declaring_count(numbers, tables, s);
-    let mut i: usize = 0;
-    while i < count {
+    for i in 0..count {
         let statement = symbols::declaring(numbers, tables, s, i);
         if !is_marked(numbers, tables, marks, Fact::Statement(owner, statement)) {
             return false;
         }
-        i += 1;
     }
     true
 }
@@ -131,14 +122,12 @@ fn first_open_plain<'a>(
     ensures { eqb result (length lines.now / 6) ≡ are_closed (graph_in numbers.now) (last_verdicts (graph_in numbers.now)) (marked (graph_in numbers.now) marks.now) (lines_of (length lines.now / 6) lines.now) }
 {
     let count = lines.len() / 6;
-    let mut k: usize = 0;
-    while k < count {
+    for k in 0..count {
         if !is_closed_fact(numbers, tables, marks, keep_record::fact_at(lines, k)) {
             return k;
         }
-        k += 1;
     }
-    k
+    count
 }
 
 // The same over the view.

@@ -1,9 +1,9 @@
 -- Which nodes lie in a strongly connected component with another member (T12).
-use Rattle.std.specs.Prelude.{ℕ, zero, suc, ◌≡◌, Bool, true, false, List, [], ◌∷◌, ◌++◌, ltb, length}
+use Rattle.std.specs.Prelude.{ℕ, ◌≡◌, Bool, true, false, List, [], ◌∷◌, ◌++◌, ltb, length}
 use Rattle.graph_access.specs.Words.{tabulate}
 use Rattle.keep_record.specs.Lines.{elem}
 use Rattle.entry_order.specs.Order.{those}
-use Rattle.cycles.specs.Search.{Search, none, walk, finished}
+use Rattle.cycles.specs.Search.{none, walk, finished}
 
 abbrev pub Edge : (ℕ → List ℕ) → ℕ → ℕ → Type 0
 Edge g u v = elem v (g u) ≡ true

@@ -1,5 +1,5 @@
 -- What the finding of cycles leaves in the lent rows.
-use Rattle.std.specs.Prelude.{ℕ, zero, suc, ◌+◌, ◌<◌, ◌≤◌, ◌≡◌, Bool, true, false, List, [], ◌∷◌, eqb, length, get_or}
+use Rattle.std.specs.Prelude.{ℕ, zero, suc, ◌+◌, ◌<◌, ◌≤◌, ◌≡◌, List, [], ◌∷◌, eqb, get_or}
 use Rattle.keep_record.specs.Lines.{elem}
 use Rattle.entry_order.specs.Plan.{Untouched}
 use Rattle.cycles.specs.Search.{finished}

@@ -1,5 +1,5 @@
 -- A depth-first walk: each node is entered once, its successors are walked in order, and then it is completed.
-use Rattle.std.specs.Prelude.{ℕ, zero, suc, Bool, true, false, ◌||◌, List, [], ◌∷◌, ◌++◌, eqb}
+use Rattle.std.specs.Prelude.{ℕ, zero, suc, Bool, true, false, ◌||◌, List, [], ◌∷◌, eqb}
 
 -- which nodes were entered, and those that were completed, the last first
 pub record Search : Type 0 where

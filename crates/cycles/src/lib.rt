@@ -43,11 +43,9 @@ fn complete(
     bit_row::set(seen, t);
     let size = outs[t];
     let mut c = count;
-    let mut k: usize = 0;
-    while k + 1 < size {
+    for k in 0..size.saturating_sub(1) {
         let u = wide(succs[t * cap + k]);
         c = complete(modules, cap, outs, succs, u, fuel - 1, seen, order, c);
-        k += 1;
     }
     order[c] = t;
     c + 1
@@ -70,10 +68,8 @@ fn complete_all(
     ensures { (result ≤ modules) × (last_first result order.new ≡ finished (succs_in modules cap outs.now succs.now) modules (take n nodes.now)) }
 {
     let mut c: usize = 0;
-    let mut i: usize = 0;
-    while i < n {
+    for i in 0..n {
         c = complete(modules, cap, outs, succs, nodes[i], modules, seen, order, c);
-        i += 1;
     }
     c
 }
@@ -146,11 +142,9 @@ fn mark_group(modules: usize, group: &[usize], size: usize, plan: &mut [usize], 
     requires modules_in_bounds { (at + modules ≤ length plan.old) × (length plan.old < 4294967296) }
     ensures { Marked (last_first size group.now) modules at plan.old plan.new }
 {
-    let mut i: usize = 0;
-    while i < size {
+    for i in 0..size {
         let m = group[i];
         plan[at + m] = 1;
-        i += 1;
     }
 }
 
@@ -171,9 +165,7 @@ fn mark_cycles(
     requires modules_in_bounds { (at + modules ≤ length plan.old) × (length plan.old < 4294967296) }
     ensures { Marked (groups (preds_in modules edges.now) modules (last_first count order.now) none) modules at plan.old plan.new }
 {
-    let mut k = count;
-    while k > 0 {
-        k -= 1;
+    for k in (0..count).rev() {
         let size = collect(modules, edges, order[k], modules, seen, group, 0);
         if size > 1 {
             mark_group(modules, group, size, plan, at);

@@ -8,12 +8,13 @@ use native.Mathlib.Decide.{ℕ_discrete}
 use native.Mathlib.Omega.{arith}
 use borrow.Author.Tests.{eq-eqb, ne_eqb, eqb-true}
 use lib.Dec.{eqb}
-use lib.ListN.{length, get_or, set, length-set}
+use borrow.Rule.Slice.PartMut.{mid_of, put_mid, post_of}
+use lib.ListN.{length, get_or, set, take, drop, replicate, length-set, length-drop, length-replicate, get_or-replicate}
+use Rattle.std.proofs.lemmas.List.{length-take-le, get_or_append_left, get_or-append_right}
 use lib.Seq.{get_or-set_same, get_or-set_other, get_or-take}
 use Rattle.determine_side_effects.specs.index_crate.declared.ModuleIdx.{ModuleIdx}
 use Rattle.determine_side_effects.specs.index_crate.declared.SymbolIdx.{SymbolIdx}
 use Rattle.determine_side_effects.specs.graph_format_crate.declared.Header.{Header}
-use Rattle.determine_side_effects.specs.graph_format_crate.Format.{header_of}
 use Rattle.determine_side_effects.specs.graph_tables_crate.Tables.{header_in}
 use Rattle.determine_side_effects.specs.graph_crate.Check.{Graph, graph_in}
 use Rattle.determine_side_effects.specs.graph_crate.Loaded.{Loaded}
@@ -39,41 +40,22 @@ module _ (numbers : List ℕ) (h : Header) (e : h ≡ header_in numbers) where
   pub statements_read : h.statements ≡ (header_in numbers).statements
   statements_read = ap (λ (x : Header). x.statements) e
 
--- and stands in the first numbers
-pub modules_word : (numbers : List ℕ) → (header_in numbers).modules ≡ get_or numbers 2 0
-unfolding header_in header_of
-modules_word numbers = get_or-take 7 numbers 2 0 (omega arith)
+-- A part of the words that was filled with zeros: those below `first` stay, those of the part are 0.
+module _ (first k : ℕ) (before part : List ℕ) (inside : first + k ≤ length before) (zeros : part ≡ replicate (length (mid_of first k before)) 0) where
+  front : length (take first before) ≡ first
+  front = length-take-le first before (omega (arith, inside))
 
-pub statements_word : (numbers : List ℕ) → (header_in numbers).statements ≡ get_or numbers 4 0
-unfolding header_in header_of
-statements_word numbers = get_or-take 7 numbers 4 0 (omega arith)
+  middle : length (mid_of first k before) ≡ k
+  middle = length-take-le k (drop first before) (omega (arith, length-drop first before, inside))
 
--- In the loop that clears: the words below `first` stay, those from there up to j are 0.
-pub record Wiping (first : ℕ) (before after : List ℕ) (j : ℕ) : Type 0 where
-  pub same_length : length after ≡ length before
-  pub from : first ≤ j
-  pub stays : (i : ℕ) → i < first → get_or after i 0 ≡ get_or before i 0
-  pub wiped : (i : ℕ) → first ≤ i → i < j → get_or after i 0 ≡ 0
+  pub filled_below : (j : ℕ) → j < first → get_or (put_mid first k before part) j 0 ≡ get_or before j 0
+  filled_below j l = get_or_append_left (take first before) (part ++ post_of first k before) 0 j (omega (arith, front, l)) ∙ get_or-take first before j 0 l
 
-module _ (first : ℕ) (before : List ℕ) where
-  pub wiping_none : (j : ℕ) → j ≡ first → Wiping first before before j
-  wiping_none j e = record { same_length = refl; from = omega arith; stays = λ i l. refl; wiped = λ i l u. absurd (omega arith) }
-
-  pub wiping_more : (after : List ℕ) (j : ℕ) → Wiping first before after j → j < length before → Wiping first before (set after j 0) (j + 1)
-  wiping_more after j w l =
-      record {
-        same_length = length-set after j 0 ∙ w.same_length;
-        from = omega (arith, w.from);
-        stays = λ i u. get_or-set_other after j i 0 0 (λ q. omega (arith, q, u, w.from)) ∙ w.stays i u;
-        wiped = λ i u v. word i u v (ℕ_discrete i j);
-      }
-    where
-      inside : j < length after
-      inside = omega (arith, w.same_length)
-
-      word : (i : ℕ) → first ≤ i → i < j + 1 → Dec (i ≡ j) → get_or (set after j 0) i 0 ≡ 0
-      word i u v (yes q) = rw q (get_or-set_same after j 0 0 inside)
-      word i u v (no q) = get_or-set_other after j i 0 0 q ∙ w.wiped i u (omega (arith, v, q))
+  pub filled_part : (j : ℕ) → first ≤ j → j < first + k → get_or (put_mid first k before part) j 0 ≡ 0
+  filled_part j l u =
+      get_or-append_right (take first before) (part ++ post_of first k before) first j 0 front l
+      ∙ get_or_append_left part (post_of first k before) 0 (j - first) (omega (arith, l, u, middle, ap length zeros, length-replicate {A = ℕ} (length (mid_of first k before)) 0))
+      ∙ ap (λ (x : List ℕ). get_or x (j - first) 0) zeros ∙ get_or-replicate {A = ℕ} (length (mid_of first k before)) (j - first) 0 0 (omega (arith, l, u, middle))
 
 -- the marks of one more line
 marks_more : (g : Graph) (ls : List Line) (l : Line) → marks_of g (ls ++ (l ∷ [])) ≡ marks_of g ls ++ (mark_of g l.fact ∷ [])

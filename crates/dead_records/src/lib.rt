@@ -34,10 +34,8 @@ pub fn record_count(numbers: &[u32], tables: &[usize]) -> usize
 {
     let h = determine_side_effects::graph_crate::header_of(numbers);
     let mut total: usize = 0;
-    let mut m: usize = 0;
-    while m < h.modules {
+    for m in 0..h.modules {
         total += modules::import_record_count(numbers, tables, ModuleIdx(m));
-        m += 1;
     }
     total
 }
@@ -50,11 +48,9 @@ fn fill_first_records(numbers: &[u32], tables: &[usize], firsts: &mut [usize])
 {
     let h = determine_side_effects::graph_crate::header_of(numbers);
     let mut total: usize = 0;
-    let mut m: usize = 0;
-    while m < h.modules {
+    for m in 0..h.modules {
         firsts[m] = total;
         total += modules::import_record_count(numbers, tables, ModuleIdx(m));
-        m += 1;
     }
 }
 
@@ -66,8 +62,7 @@ fn show_dead_of(numbers: &[u32], tables: &[usize], firsts: &[usize], e: EntryIdx
     ensures { (j : ℕ) → bit_at bits.new j ≡ (elem j (dead_of (graph_in numbers.now) (last_verdicts (graph_in numbers.now)) (related (entry_of (graph_in numbers.now) e.0))) || bit_at bits.old j) }
 {
     let related = entries::related_count(numbers, tables, e);
-    let mut k: usize = 0;
-    while k < related {
+    for k in 0..related {
         let r = entries::related_statement(numbers, tables, e, k);
         if r.unreachable == 0 {
             if entry_liveness::is_pure(numbers, tables, e, k) {
@@ -77,7 +72,6 @@ fn show_dead_of(numbers: &[u32], tables: &[usize], firsts: &[usize], e: EntryIdx
                 bit_row::set(bits, firsts[first] + i.0);
             }
         }
-        k += 1;
     }
 }
 
@@ -96,12 +90,10 @@ fn show_found_dead(
 {
     let h = determine_side_effects::graph_crate::header_of(numbers);
     let dead = entry_order::dead_at(h);
-    let mut e: usize = 0;
-    while e < h.entries {
+    for e in 0..h.entries {
         if plan[dead + e] == 1 {
             show_dead_of(numbers, tables, scratch, EntryIdx(e), bits);
         }
-        e += 1;
     }
 }
 
@@ -111,11 +103,7 @@ fn clear_words(numbers: &[u32], scratch: &mut [usize])
     ensures { ((j : ℕ) → j < (header_in numbers.now).modules → get_or scratch.new j 0 ≡ get_or scratch.old j 0) × ((j : ℕ) → (header_in numbers.now).modules ≤ j → j < (header_in numbers.now).modules + (header_in numbers.now).statements → get_or scratch.new j 0 ≡ 0) }
 {
     let h = determine_side_effects::graph_crate::header_of(numbers);
-    let mut j: usize = h.modules;
-    while j < h.modules + h.statements {
-        scratch[j] = 0;
-        j += 1;
-    }
+    scratch[h.modules..h.modules + h.statements].fill(0);
 }
 
 // Sets the word of each statement that has one of the lines from number `from` up to `to`, over cleared words.
@@ -133,8 +121,7 @@ fn note_late(
     ensures { ((j : ℕ) → j < (header_in numbers.now).modules → get_or scratch.new j 0 ≡ get_or scratch.old j 0) × HasLate (graph_in numbers.now) (lines_between from to lines.now) scratch.new }
 {
     let h = determine_side_effects::graph_crate::header_of(numbers);
-    let mut k: usize = from;
-    while k < to {
+    for k in from..to {
         match keep_record::fact_at(lines, k) {
             Fact::Statement(m, i) => {
                 let at = determine_side_effects::facts_crate::mark_of(
@@ -150,7 +137,6 @@ fn note_late(
             Fact::Forward(_) => {}
             Fact::Bailout(_) => {}
         }
-        k += 1;
     }
 }
 
@@ -217,12 +203,10 @@ fn is_alive(numbers: &[u32], tables: &[usize], marks: &[u8], scratch: &[usize], 
         DYNAMIC_IMPORTS_USE_NO_EXPORT,
     );
     let count = entries::related_count(numbers, tables, e);
-    let mut k: usize = 0;
-    while k < count {
+    for k in 0..count {
         if lets_live(numbers, tables, marks, scratch, e, k, unused) {
             return true;
         }
-        k += 1;
     }
     false
 }
@@ -273,12 +257,10 @@ fn show_dead_now(
     ensures { (j : ℕ) → bit_at bits.new j ≡ (is_dead_record (graph_in numbers.now) (dead_now (graph_in numbers.now) (kept_before (graph_in numbers.now) marks.now scratch.now) (live_in (header_in numbers.now) plan.now)) j || bit_at bits.old j) }
 {
     let h = determine_side_effects::graph_crate::header_of(numbers);
-    let mut e: usize = 0;
-    while e < h.entries {
+    for e in 0..h.entries {
         if is_dead_now(numbers, tables, plan, marks, scratch, EntryIdx(e)) {
             show_dead_of(numbers, tables, scratch, EntryIdx(e), bits);
         }
-        e += 1;
     }
 }
 
@@ -297,8 +279,7 @@ fn exempt_of(
     ensures { (j : ℕ) → bit_at bits.new j ≡ (not (some (exempts (graph_in numbers.now) (kept_before (graph_in numbers.now) marks.now scratch.now) j) (related (entry_of (graph_in numbers.now) e.0))) && bit_at bits.old j) }
 {
     let count = entries::related_count(numbers, tables, e);
-    let mut k: usize = 0;
-    while k < count {
+    for k in 0..count {
         let r = entries::related_statement(numbers, tables, e, k);
         if r.unreachable == 0 {
             let m = r.module;
@@ -309,7 +290,6 @@ fn exempt_of(
                 bit_row::unset(bits, scratch[first] + i.0);
             }
         }
-        k += 1;
     }
 }
 
@@ -344,12 +324,10 @@ fn exempt(
     ensures { (j : ℕ) → bit_at bits.new j ≡ (not (exempted (graph_in numbers.now) (kept_before (graph_in numbers.now) marks.now scratch.now) (live_in (header_in numbers.now) plan.now) j) && bit_at bits.old j) }
 {
     let h = determine_side_effects::graph_crate::header_of(numbers);
-    let mut e: usize = 0;
-    while e < h.entries {
+    for e in 0..h.entries {
         if is_live(numbers, tables, plan, EntryIdx(e)) {
             exempt_of(numbers, tables, marks, scratch, EntryIdx(e), bits);
         }
-        e += 1;
     }
 }
 

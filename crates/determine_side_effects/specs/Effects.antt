@@ -1,8 +1,7 @@
 -- The modules' verdicts on side effects, as 002 (determine_side_effects.rs) settles them.
-use Rattle.std.specs.Prelude.{ℕ, zero, suc, ◌+◌, ◌-◌, ◌≡◌, Bool, true, false, ◌&&◌, ◌||◌, not, List, [], ◌∷◌, eqb, length, get_or, take, set}
-use Rattle.facts.specs.rows_crate.Walk.{Item}
+use Rattle.std.specs.Prelude.{ℕ, zero, suc, ◌-◌, Bool, true, false, ◌&&◌, ◌||◌, not, List, eqb, get_or, take, set}
 use Rattle.facts.specs.graph_crate.Check.{Graph}
-use Rattle.facts.specs.graph_access_crate.Names.{kind, effects, flags, wrap, scan_effects, scan_statement_count, import_records, import_record_target, import_record_kind, import_record_bits, statement_bits}
+use Rattle.facts.specs.graph_access_crate.Names.{effects, flags, wrap, scan_effects, scan_statement_count, import_records, import_record_target, import_record_kind, import_record_bits, statement_bits}
 use Rattle.facts.specs.graph_access_crate.Words.{flag, tabulate, some, module_of, statement_list, normal}
 
 -- verdicts 1 Analyzed(true), 3 UserDefined(true) and 4 NoTreeshake are effects

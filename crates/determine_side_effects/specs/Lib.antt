@@ -19,3 +19,4 @@ pub use Rattle.facts.specs.graph_tables_crate
 pub use Rattle.facts.specs.index_crate
 pub use Rattle.facts.specs.rows_crate
 pub use Rattle.facts.specs.tables_crate
+pub use Rattle.facts.specs.refusal_crate

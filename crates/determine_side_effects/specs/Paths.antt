@@ -1,5 +1,5 @@
 -- The modules from which a path of resolved imports leads to effects (docs/RULES.md, Effects).
-use Rattle.std.specs.Prelude.{ℕ, suc, ◌<◌, ◌≡◌, ◌↔◌, Bool, true, List, [], length, get_or}
+use Rattle.std.specs.Prelude.{ℕ, suc, ◌<◌, ◌≡◌, ◌↔◌, true, List, [], length, get_or}
 use Rattle.facts.specs.graph_crate.Check.{Graph}
 use Rattle.facts.specs.graph_access_crate.Names.{import_records, import_record_target}
 use Rattle.facts.specs.graph_access_crate.Words.{module_of, normal}

@@ -1,6 +1,6 @@
 -- T3: the Rust's own sequence of stages, and that the last verdicts are its. The theorems are `last_by_paths` and `rust_sequence` in
 -- proofs/ByPaths.antt.
-use Rattle.std.specs.Prelude.{ℕ, ◌≡◌, Bool, true, false, ◌&&◌, List, eqb, get_or}
+use Rattle.std.specs.Prelude.{ℕ, ◌≡◌, true, false, ◌&&◌, List, eqb, get_or}
 use Rattle.facts.specs.graph_crate.Check.{Graph}
 use Rattle.facts.specs.graph_access_crate.Names.{effects, flags, scan_effects}
 use Rattle.facts.specs.graph_access_crate.Words.{flag, module_of, normal, tabulate}

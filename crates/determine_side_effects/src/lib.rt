@@ -2,8 +2,7 @@
 #![tactic(auto)]
 
 ghost use Rattle.std.specs.Prelude.{◌≡◌, ℕ, ◌+◌, ◌-◌, ◌<◌, ◌≤◌, List, [], ◌∷◌, ◌++◌, Bool, true, false, length, get_or, drop};
-ghost use Rattle.facts.specs.tables_crate.Layout.{start_of, Laid, Kept, verdicts_in, FitsSize, at_verdicts, at_on_demand};
-ghost use Rattle.facts.specs.tables_crate.declared.Size.TheVariants.{Small, Middle, Large, Largest};
+ghost use Rattle.facts.specs.tables_crate.Layout.{start_of, Laid, Kept, verdicts_in, at_verdicts, at_on_demand};
 ghost use Rattle.facts.specs.graph_tables_crate.Tables.{header_in};
 ghost use Rattle.facts.specs.graph_crate.Check.{graph_in, check_of, answer_of, OnceAccepted, HeaderRead};
 ghost use Rattle.facts.specs.graph_crate.Loaded.{Loaded};
@@ -18,14 +17,13 @@ pub use facts as facts_crate;
 use facts::graph_access_crate::modules::{DYNAMIC_EXPORTS, IS_EXPORT_STAR, RELAXED};
 use facts::graph_access_crate::statements::UNKNOWN_SIDE_EFFECT;
 use facts::graph_access_crate::{modules, statements};
-use facts::graph_crate::Checked;
 use facts::graph_format_crate::Header;
 use facts::index_crate::{ImportRecordIdx, ModuleIdx, StmtIdx};
-use facts::rows_crate::Walk;
+use facts::refusal_crate::Refusal;
 use facts::tables_crate::{LARGE, LARGEST, MIDDLE, SMALL, Size, VERDICTS};
 pub use facts::{
     graph_access_crate, graph_crate, graph_entries_crate, graph_format_crate, graph_tables_crate,
-    index_crate, rows_crate, tables_crate,
+    index_crate, refusal_crate, rows_crate, tables_crate,
 };
 
 // Whether a verdict is one of effects.
@@ -119,15 +117,13 @@ fn moves(numbers: &[u32], tables: &[usize], m: ModuleIdx) -> bool
         return false;
     }
     let count = modules::import_record_count(numbers, tables, m);
-    let mut k: usize = 0;
-    while k < count {
+    for k in 0..count {
         if seeds(numbers, tables, m, ImportRecordIdx(k)) {
             return true;
         }
         if reaches(numbers, tables, m, ImportRecordIdx(k)) {
             return true;
         }
-        k += 1;
     }
     false
 }
@@ -172,12 +168,10 @@ fn relaxed(numbers: &[u32], tables: &[usize]) -> bool
     ensures { result ≡ relaxed_of (graph_in numbers.now) }
 {
     let h = facts::graph_crate::header_of(numbers);
-    let mut m: usize = 0;
-    while m < h.modules {
+    for m in 0..h.modules {
         if facts::flag(modules::flags(numbers, tables, ModuleIdx(m)), RELAXED) {
             return true;
         }
-        m += 1;
     }
     false
 }
@@ -190,8 +184,7 @@ fn rescanned(numbers: &[u32], tables: &[usize], m: ModuleIdx) -> usize
 {
     let all = modules::statement_count(numbers, tables, m);
     let scanned = modules::scan_statement_count(numbers, tables, m);
-    let mut i: usize = 0;
-    while i < all {
+    for i in 0..all {
         if i >= scanned {
             return 0;
         }
@@ -201,7 +194,6 @@ fn rescanned(numbers: &[u32], tables: &[usize], m: ModuleIdx) -> usize
         ) {
             return 1;
         }
-        i += 1;
     }
     0
 }
@@ -245,10 +237,8 @@ fn first_verdicts(numbers: &[u32], tables: &mut [usize])
     let h = facts::graph_crate::header_of(numbers);
     let again = relaxed(numbers, tables);
     let base = tables[VERDICTS];
-    let mut m: usize = 0;
-    while m < h.modules {
+    for m in 0..h.modules {
         tables[base + m] = first_verdict(numbers, tables, again, ModuleIdx(m));
-        m += 1;
     }
 }
 
@@ -269,70 +259,43 @@ fn write_row(numbers: &[u32], tables: &[usize], row: &mut [u32])
 {
     let verdicts = facts::tables_crate::section(tables, VERDICTS);
     let count = verdicts.len();
-    let mut m: usize = 0;
-    while m < count {
+    for m in 0..count {
         row[m] = facts::narrow(verdicts[m]);
-        m += 1;
     }
 }
 
 // The operation with tables that hold a graph of the header's counts.
-fn effects_in(numbers: &[u32], h: Header, tables: &mut [usize], row: &mut [u32]) -> Checked
+fn effects_in(
+    numbers: &[u32],
+    h: Header,
+    tables: &mut [usize],
+    row: &mut [u32],
+) -> Result<(), Refusal>
     requires header_read { HeaderRead numbers.now h }
     requires at_on_demand_in_bounds { (start_of h at_on_demand ≤ length tables.old) × (length tables.old < 4294967296) }
     ensures { (result ≡ effects_answer numbers.now (length row.old)) × (row.new ≡ effects_row numbers.now row.old) }
 {
-    match facts::graph_crate::load(numbers, h, tables) {
-        Checked::Refused(n, p) => Checked::Refused(n, p),
-        Checked::Accepted => {
-            if row.len() < h.modules {
-                return Checked::Refused(5, 0);
-            }
-            last_verdicts(numbers, tables);
-            write_row(numbers, tables, row);
-            Checked::Accepted
-        }
+    facts::graph_crate::load(numbers, h, tables)?;
+    if row.len() < h.modules {
+        return Err(Refusal::NoRoom);
     }
+    last_verdicts(numbers, tables);
+    write_row(numbers, tables, row);
+    Ok(())
 }
 
-// The operation with tables for a small graph.
-fn effects_small(numbers: &[u32], h: Header, row: &mut [u32]) -> Checked
-    requires { HeaderRead numbers.now h × FitsSize h Small }
+// The operation with tables of N words.
+fn effects_with<const N: usize>(numbers: &[u32], h: Header, row: &mut [u32]) -> Result<(), Refusal>
+    requires header_read { HeaderRead numbers.now h }
+    requires room { (start_of h at_on_demand ≤ N) × (N < 4294967296) }
     ensures { (result ≡ effects_answer numbers.now (length row.old)) × (row.new ≡ effects_row numbers.now row.old) }
 {
-    let mut tables = [0usize; SMALL];
-    effects_in(numbers, h, &mut tables, row)
-}
-
-// The operation with tables for a graph of middle size.
-fn effects_middle(numbers: &[u32], h: Header, row: &mut [u32]) -> Checked
-    requires { HeaderRead numbers.now h × FitsSize h Middle }
-    ensures { (result ≡ effects_answer numbers.now (length row.old)) × (row.new ≡ effects_row numbers.now row.old) }
-{
-    let mut tables = [0usize; MIDDLE];
-    effects_in(numbers, h, &mut tables, row)
-}
-
-// The operation with tables for a graph of large size.
-fn effects_large(numbers: &[u32], h: Header, row: &mut [u32]) -> Checked
-    requires { HeaderRead numbers.now h × FitsSize h Large }
-    ensures { (result ≡ effects_answer numbers.now (length row.old)) × (row.new ≡ effects_row numbers.now row.old) }
-{
-    let mut tables = [0usize; LARGE];
-    effects_in(numbers, h, &mut tables, row)
-}
-
-// The operation with tables for the largest graph.
-fn effects_largest(numbers: &[u32], h: Header, row: &mut [u32]) -> Checked
-    requires { HeaderRead numbers.now h × FitsSize h Largest }
-    ensures { (result ≡ effects_answer numbers.now (length row.old)) × (row.new ≡ effects_row numbers.now row.old) }
-{
-    let mut tables = [0usize; LARGEST];
+    let mut tables = [0usize; N];
     effects_in(numbers, h, &mut tables, row)
 }
 
 // The operation with tables for a larger graph, by its size. `again` is 0 (`frames::apart`).
-fn effects_larger(numbers: &[u32], h: Header, row: &mut [u32], again: usize) -> Checked
+fn effects_larger(numbers: &[u32], h: Header, row: &mut [u32], again: usize) -> Result<(), Refusal>
     requires { HeaderRead numbers.now h }
     ensures { (result ≡ effects_answer numbers.now (length row.old)) × (row.new ≡ effects_row numbers.now row.old) }
 {
@@ -340,26 +303,22 @@ fn effects_larger(numbers: &[u32], h: Header, row: &mut [u32], again: usize) -> 
         return effects_larger(numbers, h, row, again - 1);
     }
     if facts::tables_crate::fits(h, Size::Middle) {
-        return effects_middle(numbers, h, row);
+        return effects_with::<MIDDLE>(numbers, h, row);
     }
     if facts::tables_crate::fits(h, Size::Large) {
-        return effects_large(numbers, h, row);
+        return effects_with::<LARGE>(numbers, h, row);
     }
-    effects_largest(numbers, h, row)
+    effects_with::<LARGEST>(numbers, h, row)
 }
 
 // The verdicts of the modules of a graph, in a lent row.
-pub fn effects(numbers: &[u32], row: &mut [u32]) -> Checked
+pub fn effects(numbers: &[u32], row: &mut [u32]) -> Result<(), Refusal>
     ensures { (result ≡ effects_answer numbers.now (length row.old)) × (row.new ≡ effects_row numbers.now row.old) }
 {
-    match facts::graph_crate::header(numbers) {
-        Walk::Fault(n, p) => Checked::Refused(n, p),
-        Walk::At(_) => {
-            let h = facts::graph_crate::header_of(numbers);
-            if facts::tables_crate::fits(h, Size::Small) {
-                return effects_small(numbers, h, row);
-            }
-            effects_larger(numbers, h, row, frames::apart(numbers))
-        }
+    facts::graph_crate::header(numbers)?;
+    let h = facts::graph_crate::header_of(numbers);
+    if facts::tables_crate::fits(h, Size::Small) {
+        return effects_with::<SMALL>(numbers, h, row);
     }
+    effects_larger(numbers, h, row, frames::apart(numbers))
 }

@@ -4,9 +4,8 @@
 ghost use Rattle.std.specs.Prelude.{◌≡◌, ℕ, ◌+◌, ◌*◌, ◌<◌, ◌≤◌, List, [], ◌∷◌};
 ghost use Rattle.drain_parts.specs.Operation.{rows as rows_of, Drains};
 
-use drain_parts::Drained;
-use graph::rows_crate::Walk;
-use graph::tables_crate::Size;
+use graph::refusal_crate::Refusal;
+use graph::tables_crate::{SMALL, Size};
 
 // Keeps what the starts keep: marks, the record, and the answer rows; or the first refusal.
 pub fn drain(
@@ -20,42 +19,38 @@ pub fn drain(
     external: &mut [u8],
     json: &mut [u8],
     reason: &mut [u8],
-) -> Drained
+) -> Result<usize, Refusal>
     ensures { Drains numbers.now starts.now result (rows_of marks.old lines.old modules_row.old statements_row.old used.old external.old json.old reason.old) (rows_of marks.new lines.new modules_row.new statements_row.new used.new external.new json.new reason.new) }
 {
-    match graph::header(numbers) {
-        Walk::Fault(n, p) => Drained::Refused(n, p),
-        Walk::At(_) => {
-            let h = graph::header_of(numbers);
-            if graph::tables_crate::fits(h, Size::Small) {
-                return drain_sizes::drain_small(
-                    numbers,
-                    starts,
-                    h,
-                    marks,
-                    lines,
-                    modules_row,
-                    statements_row,
-                    used,
-                    external,
-                    json,
-                    reason,
-                );
-            }
-            drain_sizes::drain_larger(
-                numbers,
-                starts,
-                h,
-                marks,
-                lines,
-                modules_row,
-                statements_row,
-                used,
-                external,
-                json,
-                reason,
-                frames::apart(numbers),
-            )
-        }
+    graph::header(numbers)?;
+    let h = graph::header_of(numbers);
+    if graph::tables_crate::fits(h, Size::Small) {
+        return drain_sizes::drain_with::<SMALL, 112>(
+            numbers,
+            starts,
+            h,
+            marks,
+            lines,
+            modules_row,
+            statements_row,
+            used,
+            external,
+            json,
+            reason,
+        );
     }
+    drain_sizes::drain_larger(
+        numbers,
+        starts,
+        h,
+        marks,
+        lines,
+        modules_row,
+        statements_row,
+        used,
+        external,
+        json,
+        reason,
+        frames::apart(numbers),
+    )
 }

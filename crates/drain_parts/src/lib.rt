@@ -18,17 +18,9 @@ ghost use Rattle.drain_parts.specs.Operation.{rows as rows_of, rooms_of, enough,
 ghost use Rattle.drain_parts.specs.Parts.{MayBegin, Worked};
 
 use answer_rows::Lengths;
-use determine_side_effects::graph_crate::Checked;
 use determine_side_effects::graph_format_crate::Header;
-use determine_side_effects::rows_crate::Walk;
-use keep_record::Added;
-
-// How a drain ends: with so many lines, or with a refusal's number and its place.
-#[derive(Clone, Copy)]
-pub enum Drained {
-    Lines(usize),
-    Refused(u32, usize),
-}
+use determine_side_effects::refusal_crate::Refusal;
+use keep_record::Full;
 
 // Whether a drain may begin: the graph is accepted and its tables are filled, the starts are good, and all lengths but the record's are enough.
 fn may_begin(
@@ -38,30 +30,22 @@ fn may_begin(
     marks: usize,
     lengths: Lengths,
     tables: &mut [usize],
-) -> Checked
+) -> Result<(), Refusal>
     requires header_read { HeaderRead numbers.now h }
     requires all_sections_in_bounds { (start_of h all_sections ≤ length tables.old) × (length tables.old < 4294967296) }
     ensures { MayBegin numbers.now starts.now marks lengths tables.new result }
 {
-    match rule_tables::ready(numbers, h, tables) {
-        Checked::Refused(n, p) => Checked::Refused(n, p),
-        Checked::Accepted => match starts::check(numbers, tables, starts) {
-            Walk::Fault(n, p) => Checked::Refused(n, p),
-            Walk::At(_) => {
-                if marks
-                    < bit_row::bytes_for(determine_side_effects::facts_crate::mark_count(
-                        numbers, tables,
-                    ))
-                {
-                    return Checked::Refused(5, 0);
-                }
-                if !answer_rows::are_long_enough(numbers, tables, lengths) {
-                    return Checked::Refused(5, 0);
-                }
-                Checked::Accepted
-            }
-        },
+    rule_tables::ready(numbers, h, tables)?;
+    starts::check(numbers, tables, starts)?;
+    if marks
+        < bit_row::bytes_for(determine_side_effects::facts_crate::mark_count(numbers, tables))
+    {
+        return Err(Refusal::NoRoom);
     }
+    if !answer_rows::are_long_enough(numbers, tables, lengths) {
+        return Err(Refusal::NoRoom);
+    }
+    Ok(())
 }
 
 // The work: marks and record are cleared, and hold the drain's lines afterwards, or are cleared again where the record is short.
@@ -72,7 +56,7 @@ fn work(
     partners: &mut [usize],
     marks: &mut [u8],
     lines: &mut [u32],
-) -> Added
+) -> Result<usize, Full>
     requires prepared { Prepared numbers.now tables.now }
     requires numbers_in_bounds { (bytes_for (mark_count (graph_in numbers.now)) ≤ length marks.old) × (partners_size (header_in numbers.now) ≤ length partners.old) × ((i : ℕ) → get_or partners.old i 0 ≡ 0) }
     requires starts_good { StartsGood (graph_in numbers.now) (starts_of starts.now) }
@@ -80,11 +64,11 @@ fn work(
 {
     keep_record::clear(marks, lines);
     match worklist::drain_starts(numbers, tables, starts, partners, marks, lines) {
-        Added::Full => {
+        Ok(n) => Ok(n),
+        Err(full) => {
             keep_record::clear(marks, lines);
-            Added::Full
+            Err(full)
         }
-        Added::Lines(n) => Added::Lines(n),
     }
 }
 
@@ -102,15 +86,15 @@ fn work_and_show(
     external: &mut [u8],
     json: &mut [u8],
     reason: &mut [u8],
-) -> Drained
+) -> Result<usize, Refusal>
     requires prepared { Prepared numbers.now tables.now × FirstBytes numbers.now tables.now × StartsGood (graph_in numbers.now) (starts_of starts.now) }
     requires numbers_in_bounds { (partners_size (header_in numbers.now) ≤ length partners.old) × ((i : ℕ) → get_or partners.old i 0 ≡ 0) }
     requires reason_value { enough (graph_in numbers.now) (rooms_of (rows_of marks.old lines.old modules_row.old statements_row.old used.old external.old json.old reason.old)) ≡ true }
     ensures { Ends (worked (graph_in numbers.now) (drain_of (graph_in numbers.now) (last_verdicts (graph_in numbers.now)) (starts_of starts.now)) (length lines.old)) result (rows_of marks.old lines.old modules_row.old statements_row.old used.old external.old json.old reason.old) (rows_of marks.new lines.new modules_row.new statements_row.new used.new external.new json.new reason.new) }
 {
     match work(numbers, tables, starts, partners, marks, lines) {
-        Added::Full => Drained::Refused(5, 0),
-        Added::Lines(n) => {
+        Err(_) => Err(Refusal::NoRoom),
+        Ok(n) => {
             answer_rows::show_all(
                 numbers,
                 tables,
@@ -124,7 +108,7 @@ fn work_and_show(
                 json,
                 reason,
             );
-            Drained::Lines(n)
+            Ok(n)
         }
     }
 }
@@ -165,28 +149,26 @@ pub fn drain_in(
     external: &mut [u8],
     json: &mut [u8],
     reason: &mut [u8],
-) -> Drained
+) -> Result<usize, Refusal>
     requires header_read { HeaderRead numbers.now h }
     requires all_sections_in_bounds { (start_of h all_sections ≤ length tables.old) × (length tables.old < 4294967296) }
     requires h_in_bounds { (partners_size h ≤ length partners.old) × ((i : ℕ) → get_or partners.old i 0 ≡ 0) }
     ensures { Drains numbers.now starts.now result (rows_of marks.old lines.old modules_row.old statements_row.old used.old external.old json.old reason.old) (rows_of marks.new lines.new modules_row.new statements_row.new used.new external.new json.new reason.new) }
 {
     let lengths = lengths_of(modules_row, statements_row, used, external, json, reason);
-    match may_begin(numbers, starts, h, marks.len(), lengths, tables) {
-        Checked::Refused(n, p) => Drained::Refused(n, p),
-        Checked::Accepted => work_and_show(
-            numbers,
-            tables,
-            starts,
-            partners,
-            marks,
-            lines,
-            modules_row,
-            statements_row,
-            used,
-            external,
-            json,
-            reason,
-        ),
-    }
+    may_begin(numbers, starts, h, marks.len(), lengths, tables)?;
+    work_and_show(
+        numbers,
+        tables,
+        starts,
+        partners,
+        marks,
+        lines,
+        modules_row,
+        statements_row,
+        used,
+        external,
+        json,
+        reason,
+    )
 }

@@ -2,17 +2,17 @@
 #![tactic(auto)]
 
 ghost use Rattle.std.specs.Prelude.{◌≡◌, ℕ, ◌+◌, ◌*◌, ◌<◌, ◌≤◌, List, [], ◌∷◌};
-ghost use Rattle.graph.specs.tables_crate.Layout.{FitsSize};
-ghost use Rattle.graph.specs.tables_crate.declared.Size.TheVariants.{Small, Middle, Large, Largest};
+ghost use Rattle.graph.specs.tables_crate.Layout.{start_of, all_sections};
 ghost use Rattle.graph.specs.Check.{HeaderRead};
+ghost use Rattle.drain_parts.specs.Links.{partners_size};
 ghost use Rattle.drain_parts.specs.Operation.{rows as rows_of, Drains};
 
-use drain_parts::Drained;
 use graph::graph_format_crate::Header;
-use graph::tables_crate::{LARGE, LARGEST, MIDDLE, SMALL, Size};
+use graph::refusal_crate::Refusal;
+use graph::tables_crate::{LARGE, LARGEST, MIDDLE, Size};
 
-// The drain with tables for a small graph.
-pub fn drain_small(
+// The drain with tables of T words and partners of P words.
+pub fn drain_with<const T: usize, const P: usize>(
     numbers: &[u32],
     starts: &[u32],
     h: Header,
@@ -24,120 +24,13 @@ pub fn drain_small(
     external: &mut [u8],
     json: &mut [u8],
     reason: &mut [u8],
-) -> Drained
-    requires { HeaderRead numbers.now h × FitsSize h Small }
+) -> Result<usize, Refusal>
+    requires header_read { HeaderRead numbers.now h }
+    requires room { (start_of h all_sections ≤ T) × (T < 4294967296) × (partners_size h ≤ P) × (P < 4294967296) }
     ensures { Drains numbers.now starts.now result (rows_of marks.old lines.old modules_row.old statements_row.old used.old external.old json.old reason.old) (rows_of marks.new lines.new modules_row.new statements_row.new used.new external.new json.new reason.new) }
 {
-    let mut tables = [0usize; SMALL];
-    let mut partners = [0usize; 112];
-    drain_parts::drain_in(
-        numbers,
-        starts,
-        h,
-        &mut tables,
-        &mut partners,
-        marks,
-        lines,
-        modules_row,
-        statements_row,
-        used,
-        external,
-        json,
-        reason,
-    )
-}
-
-// The drain with tables for a graph of middle size.
-fn drain_middle(
-    numbers: &[u32],
-    starts: &[u32],
-    h: Header,
-    marks: &mut [u8],
-    lines: &mut [u32],
-    modules_row: &mut [u8],
-    statements_row: &mut [u8],
-    used: &mut [u8],
-    external: &mut [u8],
-    json: &mut [u8],
-    reason: &mut [u8],
-) -> Drained
-    requires { HeaderRead numbers.now h × FitsSize h Middle }
-    ensures { Drains numbers.now starts.now result (rows_of marks.old lines.old modules_row.old statements_row.old used.old external.old json.old reason.old) (rows_of marks.new lines.new modules_row.new statements_row.new used.new external.new json.new reason.new) }
-{
-    let mut tables = [0usize; MIDDLE];
-    let mut partners = [0usize; 1408];
-    drain_parts::drain_in(
-        numbers,
-        starts,
-        h,
-        &mut tables,
-        &mut partners,
-        marks,
-        lines,
-        modules_row,
-        statements_row,
-        used,
-        external,
-        json,
-        reason,
-    )
-}
-
-// The drain with tables for a graph of large size.
-fn drain_large(
-    numbers: &[u32],
-    starts: &[u32],
-    h: Header,
-    marks: &mut [u8],
-    lines: &mut [u32],
-    modules_row: &mut [u8],
-    statements_row: &mut [u8],
-    used: &mut [u8],
-    external: &mut [u8],
-    json: &mut [u8],
-    reason: &mut [u8],
-) -> Drained
-    requires { HeaderRead numbers.now h × FitsSize h Large }
-    ensures { Drains numbers.now starts.now result (rows_of marks.old lines.old modules_row.old statements_row.old used.old external.old json.old reason.old) (rows_of marks.new lines.new modules_row.new statements_row.new used.new external.new json.new reason.new) }
-{
-    let mut tables = [0usize; LARGE];
-    let mut partners = [0usize; 7168];
-    drain_parts::drain_in(
-        numbers,
-        starts,
-        h,
-        &mut tables,
-        &mut partners,
-        marks,
-        lines,
-        modules_row,
-        statements_row,
-        used,
-        external,
-        json,
-        reason,
-    )
-}
-
-// The drain with tables for the largest graph.
-fn drain_largest(
-    numbers: &[u32],
-    starts: &[u32],
-    h: Header,
-    marks: &mut [u8],
-    lines: &mut [u32],
-    modules_row: &mut [u8],
-    statements_row: &mut [u8],
-    used: &mut [u8],
-    external: &mut [u8],
-    json: &mut [u8],
-    reason: &mut [u8],
-) -> Drained
-    requires { HeaderRead numbers.now h × FitsSize h Largest }
-    ensures { Drains numbers.now starts.now result (rows_of marks.old lines.old modules_row.old statements_row.old used.old external.old json.old reason.old) (rows_of marks.new lines.new modules_row.new statements_row.new used.new external.new json.new reason.new) }
-{
-    let mut tables = [0usize; LARGEST];
-    let mut partners = [0usize; 19456];
+    let mut tables = [0usize; T];
+    let mut partners = [0usize; P];
     drain_parts::drain_in(
         numbers,
         starts,
@@ -169,7 +62,7 @@ pub fn drain_larger(
     json: &mut [u8],
     reason: &mut [u8],
     again: usize,
-) -> Drained
+) -> Result<usize, Refusal>
     requires { HeaderRead numbers.now h }
     ensures { Drains numbers.now starts.now result (rows_of marks.old lines.old modules_row.old statements_row.old used.old external.old json.old reason.old) (rows_of marks.new lines.new modules_row.new statements_row.new used.new external.new json.new reason.new) }
 {
@@ -190,7 +83,7 @@ pub fn drain_larger(
         );
     }
     if graph::tables_crate::fits(h, Size::Middle) {
-        return drain_middle(
+        return drain_with::<MIDDLE, 1408>(
             numbers,
             starts,
             h,
@@ -205,7 +98,7 @@ pub fn drain_larger(
         );
     }
     if graph::tables_crate::fits(h, Size::Large) {
-        return drain_large(
+        return drain_with::<LARGE, 7168>(
             numbers,
             starts,
             h,
@@ -219,7 +112,7 @@ pub fn drain_larger(
             reason,
         );
     }
-    drain_largest(
+    drain_with::<LARGEST, 19456>(
         numbers,
         starts,
         h,

@@ -1,14 +1,14 @@
 -- The ordering graph is built in lent rows, or they are too small.
-use Prim.Native.Nat.{ℕ, ◌+◌, ◌-◌, ◌*◌, ◌<◌, ◌≤◌}
-use mathlib.Core.Path.{◌≡◌, refl, ap, ◌∙◌, sym, subst}
+use Prim.Native.Nat.{ℕ, ◌-◌, ◌<◌}
+use mathlib.Core.Path.{◌≡◌, refl, ap, subst}
 use mathlib.Core.List.{List}
 use native.Mathlib.Omega.{arith}
-use lib.ListN.{length, get_or, take, drop}
+use lib.ListN.{take, drop}
 use Rattle.determine_side_effects.specs.graph_format_crate.declared.Header.{Header}
 use Rattle.determine_side_effects.specs.graph_tables_crate.Tables.{header_in}
 use Rattle.determine_side_effects.specs.graph_crate.Check.{Graph, graph_in}
 use Rattle.entry_graph.specs.Ordering.{Ordering, no_ordering, from_entries, entry_graph}
-use Rattle.entry_graph.specs.Memory.{Stored, Builds}
+use Rattle.entry_graph.specs.Memory.{Builds}
 use Rattle.entry_graph.specs.declared.Built.{Built}
 use Rattle.entry_graph.specs.declared.Built.TheVariants.{Nodes, Full as TooMany}
 use Rattle.dynamic_entries.specs.declared.Ordered.TheVariants.{Done, Full}

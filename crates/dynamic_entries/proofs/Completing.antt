@@ -1,7 +1,7 @@
 -- The entries of the nodes on no cycle are written into a row, from the node that was completed last on.
 use Prim.Native.Nat.{ℕ, zero, suc, ◌+◌, ◌-◌, ◌*◌, ◌<◌, ◌≤◌}
 use mathlib.Core.Path.{◌≡◌, refl, ap, ◌∙◌, sym}
-use mathlib.Core.Bool.{Bool, true, false}
+use mathlib.Core.Bool.{true, false}
 use mathlib.Core.List.{List, [], ◌∷◌, ◌++◌}
 use native.Mathlib.Omega.{arith}
 use borrow.Author.Tests.{eq-eqb, ne_eqb}
@@ -11,12 +11,12 @@ use Rattle.determine_side_effects.specs.graph_format_crate.declared.Header.{Head
 use Rattle.determine_side_effects.specs.graph_tables_crate.Tables.{header_in}
 use Rattle.determine_side_effects.specs.graph_crate.Check.{Graph, graph_in}
 use Rattle.entry_order.specs.Order.{those, module_of_entry, dynamic_entries}
-use Rattle.entry_order.specs.Chains.{of_module, Entries}
+use Rattle.entry_order.specs.Chains.{of_module}
 use Rattle.entry_order.proofs.Filling.{Filling, fill_start, fill-same, fill-within, fill_more, fill_end, fill_done}
 use Rattle.cycles.specs.Memory.{last_first}
 use Rattle.dynamic_entries.specs.Sorted.{on_cycle, by_completion, completion}
 use Rattle.dynamic_entries.specs.Parts.{Parted, Cycled, Completed}
-use Rattle.dynamic_entries.proofs.Parting.{part_is, part_entries, users_long}
+use Rattle.dynamic_entries.proofs.Parting.{part_is}
 
 module _ (g : Graph) (entries : List ℕ) (m : ℕ) (ms : List ℕ) where
   pub on_a_cycle : on_cycle g m ≡ true → by_completion g entries (m ∷ ms) ≡ by_completion g entries ms

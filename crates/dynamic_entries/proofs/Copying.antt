@@ -1,12 +1,12 @@
 -- Numbers of a row are copied into the plan.
 use Prim.Native.Nat.{ℕ, ◌+◌, ◌<◌, ◌≤◌}
-use mathlib.Core.Path.{◌≡◌, refl, ap, ◌∙◌, sym, subst}
-use mathlib.Core.List.{List, [], ◌∷◌, ◌++◌}
+use mathlib.Core.Path.{◌≡◌, ap, ◌∙◌, subst}
+use mathlib.Core.List.{List, ◌++◌}
 use native.Mathlib.Omega.{arith}
 use lib.ListN.{length, get_or, take, drop, set}
 use lib.Seq.{length-take-le}
 use Rattle.entry_order.proofs.Places.{first_next, first_none}
-use Rattle.entry_order.proofs.Filling.{Filling, fill_start, fill-same, fill-room, fill_step, fill_end, fill_done}
+use Rattle.entry_order.proofs.Filling.{Filling, fill_start, fill-room, fill_step, fill_end, fill_done}
 
 -- the state: i numbers were copied
 pub record Copies (list : List ℕ) (count users : ℕ) (plan₀ : List ℕ) (i : ℕ) (plan : List ℕ) : Type 0 where

@@ -1,7 +1,7 @@
 -- The dynamic entries that go first are written into a row.
-use Prim.Native.Nat.{ℕ, ◌+◌, ◌-◌, ◌*◌, ◌<◌, ◌≤◌}
-use mathlib.Core.Path.{◌≡◌, refl, ap, ◌∙◌, sym}
-use mathlib.Core.Bool.{Bool, true, false, ◌||◌, not}
+use Prim.Native.Nat.{ℕ, ◌+◌, ◌*◌, ◌<◌, ◌≤◌}
+use mathlib.Core.Path.{◌≡◌, ap, ◌∙◌, sym}
+use mathlib.Core.Bool.{Bool, true, false, ◌||◌}
 use mathlib.Core.List.{List, [], ◌∷◌, ◌++◌}
 use native.Mathlib.Omega.{arith}
 use lib.Dec.{eqb}
@@ -11,13 +11,10 @@ use Rattle.determine_side_effects.specs.graph_tables_crate.Tables.{header_in}
 use Rattle.determine_side_effects.specs.graph_crate.Check.{Graph, graph_in}
 use Rattle.determine_side_effects.specs.graph_access_crate.Names.{entry_module}
 use Rattle.determine_side_effects.specs.graph_access_crate.Words.{entry_of}
-use Rattle.keep_record.specs.Lines.{elem}
-use Rattle.entry_order.specs.Order.{those, module_of_entry, user_entries, dynamic_entries}
-use Rattle.entry_order.specs.Plan.{cycled_at, plan_size}
+use Rattle.entry_order.specs.Order.{those, module_of_entry, dynamic_entries}
 use Rattle.entry_order.proofs.Those.{those_here, those_not, those_parts}
 use Rattle.entry_order.proofs.Places.{first_next, first_none}
 use Rattle.entry_order.proofs.Filling.{Filling, fill_start, fill-same, fill-room, fill_step, fill_end, fill_done}
-use Rattle.entry_graph.specs.Ordering.{entry_graph}
 use Rattle.dynamic_entries.specs.Sorted.{on_cycle, goes_first}
 use Rattle.dynamic_entries.specs.Parts.{Parted, Cycled, Outside}
 use Rattle.dynamic_entries.proofs.Parting.{behind_users, dynamic_count}

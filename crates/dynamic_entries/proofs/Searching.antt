@@ -1,12 +1,11 @@
 -- What the search over the ordering graph in memory tells of the graph's dynamic entries.
 use Prim.Native.Nat.{ℕ, zero, suc, ◌+◌, ◌-◌, ◌*◌, ◌<◌, ◌≤◌}
 use mathlib.Core.Path.{◌≡◌, refl, ap, ◌∙◌, sym, subst}
-use mathlib.Core.Logic.{⊎_elim}
-use mathlib.Core.Bool.{Bool, true, false, not, ◌||◌}
-use mathlib.Core.List.{List, [], ◌∷◌, ◌++◌}
+use mathlib.Core.Bool.{Bool, true, false, not}
+use mathlib.Core.List.{List, ◌∷◌}
 use native.Mathlib.Decide.{ℕ_discrete}
 use native.Mathlib.Omega.{arith}
-use borrow.Author.Tests.{eqb-true, eqb-false, eq-eqb, ne_eqb, ltb-true, ltb-false, lt-ltb, le-ltb}
+use borrow.Author.Tests.{eq-eqb, ne_eqb, ltb-true, lt-ltb, le-ltb}
 use lib.Dec.{eqb, ltb}
 use lib.ListN.{length, get_or, take}
 use lib.Seq.{ext_get_or, length-take-le, get_or-take}
@@ -17,10 +16,9 @@ use Rattle.determine_side_effects.specs.graph_access_crate.Words.{tabulate}
 use Rattle.keep_record.specs.Lines.{elem}
 use Rattle.keep_record.specs.Held.{Distinct}
 use Rattle.keep_record.proofs.Counting.{elem_place}
-use Rattle.entry_order.specs.Order.{user_entries, dynamic_entries}
-use Rattle.entry_order.specs.Chains.{Entries}
+use Rattle.entry_order.specs.Order.{dynamic_entries}
 use Rattle.entry_order.specs.Plan.{cycled_at, plan_size, Untouched}
-use Rattle.entry_graph.specs.Ordering.{Ordering, entry_graph}
+use Rattle.entry_graph.specs.Ordering.{entry_graph}
 use Rattle.entry_graph.specs.Memory.{row_of, succs_in, Stored}
 use Rattle.cycles.specs.Search.{finished}
 use Rattle.cycles.specs.Cycles.{Edge, cycled}
@@ -28,7 +26,7 @@ use Rattle.cycles.specs.Memory.{last_first, Found}
 use Rattle.cycles.proofs.Members.{in_none, in_head, in_tail}
 use Rattle.cycles.proofs.Strong.{finished_roots, finished_distinct}
 use Rattle.dynamic_entries.specs.Sorted.{on_cycle, completion, sorted_entries}
-use Rattle.dynamic_entries.specs.Tries.{Planned, Unlived}
+use Rattle.dynamic_entries.specs.Tries.{Unlived}
 use Rattle.dynamic_entries.specs.Parts.{Cleared, Parted, Cycled, Outside, Completed, Holds}
 use Rattle.dynamic_entries.proofs.Lengths.{sorted_length}
 

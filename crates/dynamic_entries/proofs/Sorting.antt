@@ -1,5 +1,5 @@
 -- The plan with its dynamic entries sorted.
-use Prim.Native.Nat.{ℕ, zero, suc, ◌+◌, ◌-◌, ◌*◌, ◌<◌, ◌≤◌}
+use Prim.Native.Nat.{ℕ, ◌+◌, ◌-◌, ◌<◌, ◌≤◌}
 use mathlib.Core.Path.{◌≡◌, refl, ap, ◌∙◌, sym, subst}
 use mathlib.Core.Logic.{⊎_elim}
 use mathlib.Core.Bool.{Bool, true, false}
@@ -8,14 +8,13 @@ use native.Mathlib.Omega.{arith}
 use borrow.Author.Tests.{ltb-true, ltb-false}
 use lib.Dec.{eqb, ltb}
 use lib.ListN.{length, get_or, take, drop, length-append, length-drop, get_or-append}
-use lib.Seq.{take_at, take-take, length-take-le, get_or-take, get_or-drop, get_or-append-add, drop_at}
+use lib.Seq.{take_at, take-take, length-take-le, get_or-take, get_or-drop, drop_at}
 use Rattle.determine_side_effects.specs.graph_format_crate.declared.Header.{Header}
 use Rattle.determine_side_effects.specs.graph_tables_crate.Tables.{header_in}
 use Rattle.determine_side_effects.specs.graph_crate.Check.{Graph, graph_in}
 use Rattle.keep_record.specs.Lines.{elem}
 use Rattle.entry_order.specs.Order.{those, module_of_entry, user_entries, dynamic_entries}
-use Rattle.entry_order.specs.Chains.{Entries}
-use Rattle.entry_order.specs.Plan.{cycled_at, plan_size, Untouched}
+use Rattle.entry_order.specs.Plan.{cycled_at, Untouched}
 use Rattle.entry_order.proofs.Those.{those_in}
 use Rattle.entry_order.proofs.Entered.{below_at, parts-length, user_below, dynamic_below}
 use Rattle.cycles.proofs.Members.{in_none, in_either}

@@ -1,5 +1,5 @@
 -- Whether a dynamic entry is live, and what a try that finds it dead marks (003:170-217, `is_dynamic_entry_alive`).
-use Rattle.std.specs.Prelude.{ℕ, zero, suc, ◌+◌, ◌-◌, Bool, true, false, not, ◌||◌, ◌&&◌, List, [], ◌∷◌, ◌++◌, eqb, length, get_or}
+use Rattle.std.specs.Prelude.{ℕ, zero, suc, ◌+◌, ◌-◌, Bool, true, false, not, ◌||◌, ◌&&◌, List, [], ◌∷◌, eqb, length, get_or}
 use Rattle.determine_side_effects.specs.rows_crate.Walk.{Item}
 use Rattle.determine_side_effects.specs.graph_crate.Check.{Graph}
 use Rattle.determine_side_effects.specs.graph_access_crate.Names.{flags, import_records, import_record_target, import_record_bits, related, related_module, related_statement, related_import_record, unreachable}

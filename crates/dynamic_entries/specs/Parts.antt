@@ -1,8 +1,8 @@
 -- What the parts of the ordering need and leave.
-use Rattle.std.specs.Prelude.{ℕ, ◌+◌, ◌<◌, ◌≤◌, ◌≡◌, Bool, not, List, ◌++◌, eqb, length, get_or, take, drop}
+use Rattle.std.specs.Prelude.{ℕ, ◌+◌, ◌<◌, ◌≤◌, ◌≡◌, not, List, ◌++◌, eqb, length, get_or, take}
 use Rattle.determine_side_effects.specs.graph_crate.Check.{Graph}
 use Rattle.keep_record.specs.Lines.{elem}
-use Rattle.entry_order.specs.Order.{module_of_entry, user_entries, dynamic_entries}
+use Rattle.entry_order.specs.Order.{user_entries, dynamic_entries}
 use Rattle.entry_order.specs.Chains.{Entries}
 use Rattle.entry_order.specs.Plan.{cycled_at, plan_size}
 use Rattle.entry_graph.specs.Ordering.{entry_graph}
@@ -10,7 +10,7 @@ use Rattle.entry_graph.specs.Memory.{succs_in, Stored}
 use Rattle.cycles.specs.Memory.{last_first}
 use Rattle.dynamic_entries.specs.declared.Ordered.{Ordered}
 use Rattle.dynamic_entries.specs.declared.Ordered.TheVariants.{Done, Full}
-use Rattle.dynamic_entries.specs.Sorted.{on_cycle, completion, sorted_entries}
+use Rattle.dynamic_entries.specs.Sorted.{on_cycle, completion}
 use Rattle.dynamic_entries.specs.Tries.{Planned, Unlived}
 
 -- a plan in which at most the entries' words are set

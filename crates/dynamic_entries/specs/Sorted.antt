@@ -1,9 +1,9 @@
 -- The order of the dynamic entries (docs/RULES.md, Step 2; 003:92-128, `sort_dynamic_entries_by_topological_order`).
-use Rattle.std.specs.Prelude.{ℕ, zero, suc, Bool, true, false, not, ◌||◌, List, [], ◌∷◌, ◌++◌, eqb}
+use Rattle.std.specs.Prelude.{ℕ, Bool, true, false, not, ◌||◌, List, [], ◌∷◌, ◌++◌, eqb}
 use Rattle.determine_side_effects.specs.graph_crate.Check.{Graph}
 use Rattle.keep_record.specs.Lines.{elem}
 use Rattle.entry_order.specs.Order.{those, module_of_entry, dynamic_entries}
-use Rattle.entry_graph.specs.Ordering.{Ordering, entry_graph}
+use Rattle.entry_graph.specs.Ordering.{entry_graph}
 use Rattle.cycles.specs.Search.{finished}
 use Rattle.cycles.specs.Cycles.{cycled}
 

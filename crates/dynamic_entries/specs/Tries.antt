@@ -1,5 +1,5 @@
 -- The tries of dynamic entries (docs/RULES.md, Step 4; 003:25-63, `process_and_retain_dynamic_entry`).
-use Rattle.std.specs.Prelude.{ℕ, zero, suc, ◌+◌, ◌<◌, ◌≤◌, ◌≡◌, Bool, true, false, ◌||◌, List, [], ◌∷◌, ◌++◌, eqb, length, get_or, take, drop}
+use Rattle.std.specs.Prelude.{ℕ, ◌+◌, ◌<◌, ◌≤◌, ◌≡◌, Bool, true, false, ◌||◌, List, [], ◌∷◌, ◌++◌, eqb, length, get_or, take, drop}
 use Rattle.determine_side_effects.specs.graph_format_crate.declared.Header.{Header}
 use Rattle.determine_side_effects.specs.graph_crate.Check.{Graph}
 use Rattle.determine_side_effects.specs.facts_crate.declared.Fact.{Fact}
@@ -10,7 +10,7 @@ use Rattle.worklist.specs.Drain.{drained_all}
 use Rattle.marked.specs.Marked.{marked}
 use Rattle.entry_order.specs.Order.{module_of_entry, user_entries}
 use Rattle.entry_order.specs.Chains.{Entries}
-use Rattle.entry_order.specs.Plan.{live_in, dead_in, cycled_at, dead_at, words_at, plan_size, Untouched}
+use Rattle.entry_order.specs.Plan.{live_in, dead_in, cycled_at, dead_at, plan_size, Untouched}
 use Rattle.entry_starts.specs.Starts.{module_starts}
 use Rattle.dynamic_entries.specs.Sorted.{on_cycle, sorted_entries}
 use Rattle.dynamic_entries.specs.Alive.{is_alive}

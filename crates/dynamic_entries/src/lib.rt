@@ -52,15 +52,13 @@ fn take_first(
     let count = h.entries;
     let at = entry_order::cycled_at(h);
     let mut n: usize = 0;
-    let mut i = users;
-    while i < count {
+    for i in users..count {
         let e = plan[i];
         let m = entries::entry_module(numbers, tables, EntryIdx(e));
         if goes_first(plan, at, outs, m.0) {
             list[n] = determine_side_effects::facts_crate::narrow(e);
             n += 1;
         }
-        i += 1;
     }
     n
 }
@@ -86,9 +84,7 @@ fn take_by_completion(
     let count = h.entries;
     let at = entry_order::cycled_at(h);
     let mut total = n;
-    let mut k = found;
-    while k > 0 {
-        k -= 1;
+    for k in (0..found).rev() {
         let m = order[k];
         if plan[at + m] != 1 {
             total = entry_order::append_module(
@@ -110,10 +106,8 @@ fn copy_back(list: &[u32], count: usize, plan: &mut [usize], users: usize)
     requires { (count ≤ length list.now) × (users + count ≤ length plan.old) }
     ensures { plan.new ≡ take users plan.old ++ (take count list.now ++ drop (users + count) plan.old) }
 {
-    let mut i: usize = 0;
-    while i < count {
+    for i in 0..count {
         plan[users + i] = determine_side_effects::rows_crate::wide(list[i]);
-        i += 1;
     }
 }
 

@@ -1,7 +1,7 @@
 -- Nodes and edges added to the rows.
 use Prim.Native.Nat.{ℕ, ◌+◌, ◌*◌, ◌-◌, ◌<◌, ◌≤◌}
 use mathlib.Core.Path.{◌≡◌, refl, ap, ◌∙◌, sym}
-use mathlib.Core.Logic.{◌⊎◌, ⊎_elim}
+use mathlib.Core.Logic.{⊎_elim}
 use mathlib.Core.Bool.{Bool, true, false, ◌||◌}
 use mathlib.Core.List.{List, [], ◌∷◌, ◌++◌}
 use native.Mathlib.Numerals.{add-one}
@@ -166,6 +166,12 @@ ends {from = from} {to = to} p q =
       from_put = omega (arith, p.is_put, q.more from);
       to_put = q.is_put;
     }
+
+-- one after the other
+pub both_ends : {M cap from to : ℕ} {nodes₀ : List ℕ} {n₀ : ℕ} {outs₀ nodes₁ : List ℕ} {n₁ : ℕ} {outs₁ nodes : List ℕ} {n : ℕ} {outs succs edges : List ℕ}
+    → Stored M cap nodes₀ n₀ outs₀ succs edges → (from < M) × (to < M) → Put from n₀ nodes₀ outs₀ nodes₁ outs₁ n₁ → Put to n₁ nodes₁ outs₁ nodes outs n
+    → Ends M cap from to nodes₀ n₀ outs₀ nodes n outs succs edges
+both_ends s h p q = let o = placed s _ h.0 p in ends o (placed o.stored _ h.1 q)
 
 -- the ordering in memory with an edge more, by its parts
 ordering_added : (M cap from to : ℕ) (v nodes₀ : List ℕ) (n₀ : ℕ) (outs₀ succs₀ nodes : List ℕ) (n : ℕ) (outs succs : List ℕ)

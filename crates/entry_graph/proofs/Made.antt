@@ -1,5 +1,5 @@
 -- The ordering graph of a loaded graph is well made: its nodes are modules, each once, and both ends of an edge are nodes.
-use Prim.Native.Nat.{ℕ, ◌+◌, ◌<◌}
+use Prim.Native.Nat.{ℕ, ◌<◌}
 use mathlib.Core.Path.{◌≡◌, refl, ◌∙◌, sym}
 use mathlib.Core.Logic.{◌⊎◌, inr, ⊎_elim}
 use mathlib.Core.Bool.{Bool, true, false}

@@ -1,6 +1,6 @@
 -- How lent rows hold the ordering graph. With M modules and room for `cap` successors of each: word m of `outs` is 0 where module m is no node,
 -- else 1 more than how many successors it has; they stand in `succs` from m * cap on, by first adding; bit to * M + from of `edges` is the edge.
-use Rattle.std.specs.Prelude.{ℕ, ◌+◌, ◌*◌, ◌-◌, ◌<◌, ◌≤◌, ◌≡◌, Bool, true, false, List, [], ltb, length, get_or, take}
+use Rattle.std.specs.Prelude.{ℕ, ◌+◌, ◌*◌, ◌-◌, ◌<◌, ◌≤◌, ◌≡◌, true, false, List, [], ltb, length, get_or, take}
 use Rattle.bit_row.specs.Row.{bit_at}
 use Rattle.graph_access.specs.Words.{tabulate}
 use Rattle.keep_record.specs.Lines.{elem}

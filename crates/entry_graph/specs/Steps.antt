@@ -1,5 +1,5 @@
 -- What the steps of the walk leave: a node put, an edge added, an import record taken.
-use Rattle.std.specs.Prelude.{ℕ, ◌+◌, ◌<◌, ◌≤◌, ◌≡◌, Bool, true, false, List, [], length, get_or, set, drop}
+use Rattle.std.specs.Prelude.{ℕ, ◌+◌, ◌<◌, ◌≡◌, Bool, true, false, List, [], get_or, set, drop}
 use Rattle.graph_access.specs.index_crate.declared.ModuleIdx.{ModuleIdx}
 use Rattle.graph_access.specs.graph_crate.Check.{Graph}
 use Rattle.graph_access.specs.Names.{import_records}

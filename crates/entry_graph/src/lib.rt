@@ -226,15 +226,13 @@ fn take_records(
 {
     let size = record_count(numbers, tables, m);
     let mut c = n;
-    let mut i = k;
-    while i < size {
+    for i in k..size {
         let import = read_record(numbers, tables, root, m, ImportRecordIdx(i));
-        i += 1;
         match take_import(numbers, cap, root, import, c, nodes, outs, succs, edges) {
             Step::Walk(r, t, d) => {
                 c = d;
                 if !is_over(fuel, visited, t) {
-                    return Taken::UpTo(i, r, t, d);
+                    return Taken::UpTo(i + 1, r, t, d);
                 }
             }
             Step::Stay(d) => {
@@ -344,8 +342,7 @@ pub fn entry_graph(
 {
     let bytes = visited.len();
     let mut n: usize = 0;
-    let mut i: usize = 0;
-    while i < count {
+    for i in 0..count {
         let m = entries::entry_module(numbers, tables, EntryIdx(list[i]));
         bit_row::clear(visited, bytes);
         match construct_dynamic_entry_graph(
@@ -358,7 +355,6 @@ pub fn entry_graph(
                 return Built::Full;
             }
         }
-        i += 1;
     }
     Built::Nodes(n)
 }

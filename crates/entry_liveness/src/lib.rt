@@ -86,13 +86,14 @@ pub fn next_live(
     let live = entry_order::live_at(h);
     let cycled = entry_order::cycled_at(h);
     let dead = entry_order::dead_at(h);
-    let mut i = from;
-    'entries: while i < h.entries {
+    let mut first = h.entries;
+    'entries: for i in from..h.entries {
         let e = plan[i];
         let m = entries::entry_module(numbers, tables, EntryIdx(e));
         let u = m.0;
         if plan[live + u] != 1 {
             if plan[cycled + u] == 1 {
+                first = i;
                 break 'entries;
             }
             let unused = determine_side_effects::facts_crate::flag(
@@ -100,16 +101,14 @@ pub fn next_live(
                 DYNAMIC_IMPORTS_USE_NO_EXPORT,
             );
             let related = entries::related_count(numbers, tables, EntryIdx(e));
-            let mut k: usize = 0;
-            while k < related {
+            for k in 0..related {
                 if lets_live(numbers, tables, marks, EntryIdx(e), k, unused) {
+                    first = i;
                     break 'entries;
                 }
-                k += 1;
             }
             plan[dead + e] = 1;
         }
-        i += 1;
     }
-    i
+    first
 }

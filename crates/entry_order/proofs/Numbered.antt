@@ -1,24 +1,13 @@
--- The first words of a row: all 0, or numbered from 0 on.
+-- The first words of a row, numbered from 0 on.
 use Prim.Native.Nat.{ℕ, ◌+◌, ◌-◌, ◌<◌, ◌≤◌}
-use mathlib.Core.Path.{◌≡◌, refl, ap, ◌∙◌}
-use mathlib.Core.Bool.{Bool, true, false}
+use mathlib.Core.Path.{◌≡◌, ap, ◌∙◌}
 use mathlib.Core.List.{List, ◌++◌}
 use native.Mathlib.Omega.{arith}
-use borrow.Author.Tests.{eqb-true, eqb-false}
-use lib.Dec.{eqb}
-use lib.ListN.{length, get_or, drop, set}
-use lib.Seq.{get_or-set_same, get_or-set_other}
+use lib.ListN.{length, drop, set}
 use Rattle.facts.specs.graph_access_crate.Words.{tabulate}
 use Rattle.facts.proofs.Folds.{tabulate_next, tabulate-none}
 use Rattle.keep_record.proofs.Rows.{tabulate-length}
 use Rattle.entry_order.proofs.Filling.{Filling, fill_start, fill-same, fill_step, fill_end, fill_done}
-
-pub zero_more : (chain : List ℕ) (i : ℕ) → i < length chain → ((k : ℕ) → k < i → get_or chain k 0 ≡ 0) → (k : ℕ) → k < i + 1 → get_or (set chain i 0) k 0 ≡ 0
-zero_more chain i h z k l = go (eqb k i) refl
-  where
-    go : (b : Bool) → eqb k i ≡ b → get_or (set chain i 0) k 0 ≡ 0
-    go true e = rw (eqb-true k i e) (get_or-set_same chain i 0 0 h)
-    go false e = let d = eqb-false k i e in get_or-set_other chain i k 0 0 d ∙ z k (omega (arith, d, l))
 
 module _ (count : ℕ) (plan₀ : List ℕ) where
   abbrev all : List ℕ

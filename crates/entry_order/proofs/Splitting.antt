@@ -151,6 +151,11 @@ pub count_is : (numbers : List ℕ) (h : Header) → h ≡ header_in numbers →
 unfolding graph_in
 count_is numbers h e = ap (λ (x : Header). x.entries) e
 
+pub count_room : (numbers : List ℕ) (h : Header) → h ≡ header_in numbers → (a b c : ℕ)
+    → ((header_in numbers).modules + (header_in numbers).entries ≤ a) × ((header_in numbers).entries ≤ b) × ((header_in numbers).entries ≤ c)
+    → ((header_in numbers).modules + h.entries ≤ a) × (h.entries ≤ b) × (h.entries ≤ c)
+count_room numbers h e a b c r = rw e r
+
 pub count_turned : (numbers : List ℕ) (h : Header) → h ≡ header_in numbers → (r : ℕ) (plan₀ plan : List ℕ)
     → (r ≡ length (user_entries (graph_in numbers))) × (r ≤ h.entries) × (take h.entries plan ≡ user_entries (graph_in numbers) ++ dynamic_entries (graph_in numbers))
     → Untouched 0 h.entries plan₀ plan × Entries (graph_in numbers) plan h.entries

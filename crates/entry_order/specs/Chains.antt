@@ -1,5 +1,5 @@
 -- Lists of entries chained by module, so that the entries of one module are found without a search.
-use Rattle.std.specs.Prelude.{ℕ, zero, suc, ◌+◌, ◌-◌, ◌<◌, ◌≤◌, ◌≡◌, Bool, true, false, List, eqb, length, get_or, take}
+use Rattle.std.specs.Prelude.{ℕ, zero, suc, ◌+◌, ◌-◌, ◌<◌, ◌≤◌, ◌≡◌, true, false, List, eqb, length, get_or, take}
 use Rattle.facts.specs.graph_crate.Check.{Graph}
 use Rattle.entry_order.specs.Order.{those, module_of_entry}
 

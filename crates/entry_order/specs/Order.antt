@@ -1,5 +1,5 @@
 -- Entries in the order in which a run takes them (000, `include_statements`: `self.entries` is a map by module, in the order of first mention).
-use Rattle.std.specs.Prelude.{ℕ, zero, suc, Bool, true, false, not, List, [], ◌∷◌, ◌++◌, eqb}
+use Rattle.std.specs.Prelude.{ℕ, Bool, true, false, not, List, [], ◌∷◌, ◌++◌, eqb}
 use Rattle.facts.specs.graph_crate.Check.{Graph}
 use Rattle.facts.specs.graph_access_crate.Names.{entry_module, entry_kind}
 use Rattle.facts.specs.graph_access_crate.Words.{tabulate, entry_of}

@@ -4,7 +4,7 @@
 -- The entries are written by `entry_sizes::order_entries`, live modules by `tree_shaking`, dead entries by `entry_liveness::next_live`, modules
 -- on a cycle by `cycles::find_cycles`, helpers by `passes::collect_helpers` before the runtime stage. A try that finds an entry dead marks the same
 -- import records whenever it happens, so one word an entry is enough.
-use Rattle.std.specs.Prelude.{ℕ, ◌+◌, ◌*◌, ◌<◌, ◌≤◌, ◌≡◌, Bool, true, false, ◌&&◌, List, eqb, ltb, length, get_or}
+use Rattle.std.specs.Prelude.{ℕ, ◌+◌, ◌*◌, ◌<◌, ◌≤◌, ◌≡◌, Bool, ◌&&◌, List, eqb, ltb, length, get_or}
 use Rattle.facts.specs.graph_format_crate.declared.Header.{Header}
 
 abbrev pub live_at : Header → ℕ

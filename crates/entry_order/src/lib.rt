@@ -20,11 +20,7 @@ fn clear(chain: &mut [usize], count: usize)
     requires { count ≤ length chain.old }
     ensures { (i : ℕ) → i < count → get_or chain.new i 0 ≡ 0 }
 {
-    let mut i: usize = 0;
-    while i < count {
-        chain[i] = 0;
-        i += 1;
-    }
+    chain[..count].fill(0);
 }
 
 // Chains the first `count` entries of a list by module.
@@ -36,9 +32,7 @@ pub fn link(numbers: &[u32], tables: &[usize], list: &[usize], count: usize, cha
     let h = facts::graph_crate::header_of(numbers);
     let modules = h.modules;
     clear(chain, modules);
-    let mut i = count;
-    while i > 0 {
-        i -= 1;
+    for i in (0..count).rev() {
         let owner = entries::entry_module(numbers, tables, EntryIdx(list[i]));
         let u = owner.0;
         chain[modules + i] = chain[u];
@@ -89,14 +83,12 @@ pub fn group(
 {
     link(numbers, tables, list, count, chain);
     let mut n: usize = 0;
-    let mut i: usize = 0;
-    while i < count {
+    for i in 0..count {
         let m = entries::entry_module(numbers, tables, EntryIdx(list[i]));
         let u = m.0;
         if chain[u] == i + 1 {
             n = append_module(numbers, list, count, chain, m, out, n);
         }
-        i += 1;
     }
 }
 
@@ -115,15 +107,13 @@ fn copy_kind(
     ensures { (result ≡ at + length (those (of_kind (graph_in numbers.now) dynamic) (take count list.now))) × (plan.new ≡ take at plan.old ++ (those (of_kind (graph_in numbers.now) dynamic) (take count list.now) ++ drop result plan.old)) }
 {
     let mut to = at;
-    let mut i: usize = 0;
-    while i < count {
+    for i in 0..count {
         let e = facts::rows_crate::wide(list[i]);
         let is_dynamic = entries::entry_kind(numbers, tables, EntryIdx(e)) == 2;
         if is_dynamic == dynamic {
             plan[to] = e;
             to += 1;
         }
-        i += 1;
     }
     to
 }
@@ -133,10 +123,8 @@ fn number(plan: &mut [usize], count: usize)
     requires { count ≤ length plan.old }
     ensures { plan.new ≡ tabulate (λ e. e) 0 count ++ drop count plan.old }
 {
-    let mut e: usize = 0;
-    while e < count {
+    for e in 0..count {
         plan[e] = e;
-        e += 1;
     }
 }
 

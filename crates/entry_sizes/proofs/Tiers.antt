@@ -1,13 +1,13 @@
 -- The rows of a tier: local arrays of zeros are long enough, and hold no graph yet.
-use Prim.Native.Nat.{ℕ, ◌+◌, ◌*◌, ◌<◌, ◌≤◌}
+use Prim.Native.Nat.{ℕ, ◌+◌, ◌*◌, ◌≤◌}
 use mathlib.Core.Path.{◌≡◌}
-use mathlib.Core.Bool.{Bool, true, false, ◌&&◌}
+use mathlib.Core.Bool.{Bool, true, ◌&&◌}
 use mathlib.Core.List.{List}
 use native.Mathlib.Nat.{mul-le-mul, mul-le-mul_right}
 use native.Mathlib.Omega.{arith}
 use borrow.Author.Tests.{leb-true}
 use lib.Dec.{leb}
-use lib.ListN.{length, get_or, replicate, length-replicate}
+use lib.ListN.{length, replicate, length-replicate}
 use Rattle.bit_row.proofs.Cleared.{zeros_unset}
 use Rattle.determine_side_effects.specs.graph_format_crate.declared.Header.{Header}
 use Rattle.determine_side_effects.proofs.tables_crate.Zeros.{zeros_everywhere}

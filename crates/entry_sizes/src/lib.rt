@@ -3,7 +3,7 @@
 // graph is built again with room for 1,024.
 #![tactic(auto)]
 
-ghost use Rattle.std.specs.Prelude.{◌≡◌, ℕ, ◌<◌, ◌≤◌, ◌&&◌, leb, length, get_or};
+ghost use Rattle.std.specs.Prelude.{◌≡◌, ℕ, ◌+◌, ◌*◌, ◌<◌, ◌≤◌, ◌&&◌, leb, length, get_or};
 ghost use Rattle.determine_side_effects.specs.graph_tables_crate.Tables.{header_in};
 ghost use Rattle.determine_side_effects.specs.graph_crate.Check.{graph_in};
 ghost use Rattle.determine_side_effects.specs.graph_crate.Loaded.{Loaded};
@@ -14,26 +14,36 @@ ghost use Rattle.dynamic_entries.specs.Parts.{Cleared, Parted, Orders};
 use determine_side_effects::graph_format_crate::Header;
 use dynamic_entries::{Ordered, order_in};
 
-// Sorts the dynamic entries with rows for a small graph.
-fn order_small(numbers: &[u32], tables: &[usize], users: usize, plan: &mut [usize]) -> Ordered
+// Sorts the dynamic entries of a graph of at most M modules and entries, with rows for them: V bytes for a bit each, C successors for each, S for all,
+// E bytes for an edge from each to each, and a chain of K words.
+fn order_with<
+    const C: usize,
+    const M: usize,
+    const V: usize,
+    const S: usize,
+    const E: usize,
+    const K: usize,
+>(numbers: &[u32], tables: &[usize], users: usize, plan: &mut [usize]) -> Ordered
     requires loaded { Loaded numbers.now tables.now }
-    requires numbers_bound { ((header_in numbers.now).modules ≤ 16) × ((header_in numbers.now).entries ≤ 16) }
+    requires numbers_bound { ((header_in numbers.now).modules ≤ M) × ((header_in numbers.now).entries ≤ M) }
+    requires room { (0 < C) × (C ≤ 1024) × (M ≤ 1024) × (M ≤ 8 * V) × (M * C ≤ S) × (M * M ≤ 8 * E) × (M + M ≤ K) }
+    requires few { (V < 4294967296) × (S < 4294967296) × (E < 4294967296) × (K < 4294967296) }
     requires parted { Parted (graph_in numbers.now) plan.old users × Cleared (graph_in numbers.now) plan.old }
-    ensures { Orders (graph_in numbers.now) 16 users plan.old plan.new result }
+    ensures { Orders (graph_in numbers.now) C users plan.old plan.new result }
 {
-    let mut visited = [0u8; 2];
-    let mut nodes = [0usize; 16];
-    let mut outs = [0usize; 16];
-    let mut succs = [0u16; 256];
-    let mut edges = [0u8; 32];
-    let mut order = [0usize; 16];
-    let mut chain = [0usize; 32];
-    let mut list = [0u32; 16];
+    let mut visited = [0u8; V];
+    let mut nodes = [0usize; M];
+    let mut outs = [0usize; M];
+    let mut succs = [0u16; S];
+    let mut edges = [0u8; E];
+    let mut order = [0usize; M];
+    let mut chain = [0usize; K];
+    let mut list = [0u32; M];
     order_in(
         numbers,
         tables,
         users,
-        16,
+        C,
         &mut visited,
         &mut nodes,
         &mut outs,
@@ -46,120 +56,20 @@ fn order_small(numbers: &[u32], tables: &[usize], users: usize, plan: &mut [usiz
     )
 }
 
-// The same with rows for a graph of middle size, and room for every module as a successor of each.
-fn order_middle(numbers: &[u32], tables: &[usize], users: usize, plan: &mut [usize]) -> Ordered
+// Parts the entries of a graph of at most M modules and entries, with a chain of K words.
+fn split_with<const M: usize, const K: usize>(
+    numbers: &[u32],
+    tables: &[usize],
+    plan: &mut [usize],
+) -> usize
     requires loaded { Loaded numbers.now tables.now }
-    requires numbers_bound { ((header_in numbers.now).modules ≤ 128) × ((header_in numbers.now).entries ≤ 128) }
-    requires parted { Parted (graph_in numbers.now) plan.old users × Cleared (graph_in numbers.now) plan.old }
-    ensures { Orders (graph_in numbers.now) 128 users plan.old plan.new result }
-{
-    let mut visited = [0u8; 16];
-    let mut nodes = [0usize; 128];
-    let mut outs = [0usize; 128];
-    let mut succs = [0u16; 16384];
-    let mut edges = [0u8; 2048];
-    let mut order = [0usize; 128];
-    let mut chain = [0usize; 256];
-    let mut list = [0u32; 128];
-    order_in(
-        numbers,
-        tables,
-        users,
-        128,
-        &mut visited,
-        &mut nodes,
-        &mut outs,
-        &mut succs,
-        &mut edges,
-        &mut order,
-        &mut chain,
-        &mut list,
-        plan,
-    )
-}
-
-// The same with rows for the largest graph.
-fn order_large(numbers: &[u32], tables: &[usize], users: usize, plan: &mut [usize]) -> Ordered
-    requires loaded { Loaded numbers.now tables.now }
-    requires parted { Parted (graph_in numbers.now) plan.old users × Cleared (graph_in numbers.now) plan.old }
-    ensures { Orders (graph_in numbers.now) 16 users plan.old plan.new result }
-{
-    let mut visited = [0u8; 128];
-    let mut nodes = [0usize; 1024];
-    let mut outs = [0usize; 1024];
-    let mut succs = [0u16; 16384];
-    let mut edges = [0u8; 131072];
-    let mut order = [0usize; 1024];
-    let mut chain = [0usize; 2048];
-    let mut list = [0u32; 1024];
-    order_in(
-        numbers,
-        tables,
-        users,
-        16,
-        &mut visited,
-        &mut nodes,
-        &mut outs,
-        &mut succs,
-        &mut edges,
-        &mut order,
-        &mut chain,
-        &mut list,
-        plan,
-    )
-}
-
-// The same with room for every module as a successor of each.
-fn order_full(numbers: &[u32], tables: &[usize], users: usize, plan: &mut [usize]) -> Ordered
-    requires loaded { Loaded numbers.now tables.now }
-    requires parted { Parted (graph_in numbers.now) plan.old users × Cleared (graph_in numbers.now) plan.old }
-    ensures { Orders (graph_in numbers.now) 1024 users plan.old plan.new result }
-{
-    let mut visited = [0u8; 128];
-    let mut nodes = [0usize; 1024];
-    let mut outs = [0usize; 1024];
-    let mut succs = [0u16; 1048576];
-    let mut edges = [0u8; 131072];
-    let mut order = [0usize; 1024];
-    let mut chain = [0usize; 2048];
-    let mut list = [0u32; 1024];
-    order_in(
-        numbers,
-        tables,
-        users,
-        1024,
-        &mut visited,
-        &mut nodes,
-        &mut outs,
-        &mut succs,
-        &mut edges,
-        &mut order,
-        &mut chain,
-        &mut list,
-        plan,
-    )
-}
-
-// Parts the entries with rows for a small graph.
-fn split_small(numbers: &[u32], tables: &[usize], plan: &mut [usize]) -> usize
-    requires loaded { Loaded numbers.now tables.now }
-    requires numbers_bound { ((header_in numbers.now).modules ≤ 16) × ((header_in numbers.now).entries ≤ 16) }
+    requires numbers_bound { ((header_in numbers.now).modules ≤ M) × ((header_in numbers.now).entries ≤ M) }
+    requires room { (M + M ≤ K) × (K < 4294967296) }
     requires cleared { Cleared (graph_in numbers.now) plan.old }
     ensures { Parted (graph_in numbers.now) plan.new result × Cleared (graph_in numbers.now) plan.new }
 {
-    let mut chain = [0usize; 32];
-    let mut list = [0u32; 16];
-    entry_order::split_entries(numbers, tables, &mut chain, &mut list, plan)
-}
-
-// The same with rows for the largest graph.
-fn split_large(numbers: &[u32], tables: &[usize], plan: &mut [usize]) -> usize
-    requires loaded { Loaded numbers.now tables.now }
-    requires cleared { Cleared (graph_in numbers.now) plan.old }
-    ensures { Parted (graph_in numbers.now) plan.new result × Cleared (graph_in numbers.now) plan.new }
-{
-    let mut chain = [0usize; 2048];
-    let mut list = [0u32; 1024];
+    let mut chain = [0usize; K];
+    let mut list = [0u32; M];
     entry_order::split_entries(numbers, tables, &mut chain, &mut list, plan)
 }
 
@@ -180,11 +90,11 @@ fn order_few(numbers: &[u32], tables: &[usize], h: Header, plan: &mut [usize]) -
     requires cleared { Cleared (graph_in numbers.now) plan.old }
     ensures { Planned (graph_in numbers.now) plan.new result × Unlived (graph_in numbers.now) plan.new }
 {
-    let users = split_small(numbers, tables, plan);
+    let users = split_with::<16, 32>(numbers, tables, plan);
     if users == h.entries {
         return users;
     }
-    order_small(numbers, tables, users, plan);
+    order_with::<16, 16, 2, 256, 32, 32>(numbers, tables, users, plan);
     users
 }
 
@@ -203,18 +113,18 @@ fn order_larger(
     if again > 0 {
         return order_larger(numbers, tables, h, plan, again - 1);
     }
-    let users = split_large(numbers, tables, plan);
+    let users = split_with::<1024, 2048>(numbers, tables, plan);
     if users == h.entries {
         return users;
     }
     if is_within(h, 128) {
-        order_middle(numbers, tables, users, plan);
+        order_with::<128, 128, 16, 16384, 2048, 256>(numbers, tables, users, plan);
         return users;
     }
-    match order_large(numbers, tables, users, plan) {
+    match order_with::<16, 1024, 128, 16384, 131072, 2048>(numbers, tables, users, plan) {
         Ordered::Done => users,
         Ordered::Full => {
-            order_full(numbers, tables, users, plan);
+            order_with::<1024, 1024, 128, 1048576, 131072, 2048>(numbers, tables, users, plan);
             users
         }
     }

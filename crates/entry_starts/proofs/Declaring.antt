@@ -16,12 +16,13 @@ use Rattle.determine_side_effects.specs.facts_crate.declared.Fact.TheVariants.{S
 use Rattle.determine_side_effects.specs.facts_crate.Facts.{statement_fact, Good}
 use Rattle.determine_side_effects.specs.Effects.{last_verdicts}
 use Rattle.keep_record.specs.declared.Line.{Line}
-use Rattle.keep_record.specs.declared.Added.TheVariants.{Lines, Full}
 use Rattle.keep_record.specs.Held.{lines_of}
 use Rattle.worklist.specs.Drain.{drained_all}
 use Rattle.entry_starts.specs.Starts.{declared}
 use Rattle.entry_starts.specs.Working.{Working, Started}
 use Rattle.entry_starts.proofs.Together.{Along, along_start, along_step, along_full, along_done, along_as}
+use Rattle.std.specs.Prelude.{Ok}
+use Rattle.keep_record.specs.Held.{no_room}
 
 -- those from number i on
 unfoldable pub declared_from : Graph → ℕ → ℕ → List Fact
@@ -52,15 +53,15 @@ module _ (g : Graph) (s n : ℕ) (size : n ≡ length (declaring_statements (sym
 
   module _ (base : ℕ) (facts : List Fact) (before : List Line) (p m row : List ℕ) (c i : ℕ) (a : Along g base (drained_all g (last_verdicts g) base facts before) (declared_from g s i) p m row c) where
     pub declaring-step : i < n → (o : ModuleIdx) (x : StmtIdx) → o.0 ≡ owner (symbol_of g s) → x.0 ≡ only (get_or (declaring_statements (symbol_of g s)) i [])
-        → (p' m' row' : List ℕ) (d : ℕ) → Started g base (Statement o x ∷ []) (lines_of c row) p' m' row' (Lines d)
+        → (p' m' row' : List ℕ) (d : ℕ) → Started g base (Statement o x ∷ []) (lines_of c row) p' m' row' (Ok d)
         → Along g base (drained_all g (last_verdicts g) base facts before) (declared_from g s (i + 1)) p' m' row' d
     declaring-step h o x e q p' m' row' d t = along_step g base _ _ _ p m row c (along_as g base _ _ _ p m row c (declared-next i h o x e q) a) p' m' row' d t
 
     pub declaring-full : i < n → (o : ModuleIdx) (x : StmtIdx) → o.0 ≡ owner (symbol_of g s) → x.0 ≡ only (get_or (declaring_statements (symbol_of g s)) i [])
-        → (p' m' row' : List ℕ) → Started g base (Statement o x ∷ []) (lines_of c row) p' m' row' Full → Started g base facts before p' m' row' Full
+        → (p' m' row' : List ℕ) → Started g base (Statement o x ∷ []) (lines_of c row) p' m' row' no_room → Started g base facts before p' m' row' no_room
     declaring-full h o x e q p' m' row' t = along_full g base facts before _ _ p m row c (along_as g base _ _ _ p m row c (declared-next i h o x e q) a) p' m' row' t
 
-    pub declaring-done : n ≤ i → Started g base facts before p m row (Lines c)
+    pub declaring-done : n ≤ i → Started g base facts before p m row (Ok c)
     declaring-done h = along_done g base facts before p m row c (along_as g base _ _ _ p m row c (declared_over i h) a)
 
   pub declaring_start : (base : ℕ) (p m row : List ℕ) (c : ℕ) → Working g base p m row c

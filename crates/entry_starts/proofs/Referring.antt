@@ -14,25 +14,26 @@ use Rattle.determine_side_effects.specs.facts_crate.declared.Fact.{Fact}
 use Rattle.determine_side_effects.specs.facts_crate.Facts.{module_fact, checked_fact, bailout_fact}
 use Rattle.determine_side_effects.specs.Effects.{last_verdicts}
 use Rattle.keep_record.specs.declared.Line.{Line}
-use Rattle.keep_record.specs.declared.Added.{Added}
-use Rattle.keep_record.specs.declared.Added.TheVariants.{Lines, Full}
 use Rattle.keep_record.specs.Held.{lines_of, Grown}
 use Rattle.worklist.specs.Drain.{drained_all}
 use Rattle.entry_starts.specs.Starts.{declared, reference_starts, references_starts, module_starts, user_starts}
 use Rattle.entry_starts.specs.Working.{Working, Started}
 use Rattle.entry_starts.proofs.Together.{Along, along_start, along_step, along_full, along_as, started_none, started_then, started_full}
+use Rattle.std.specs.Prelude.{Result, Ok}
+use Rattle.keep_record.specs.declared.Full.{Full}
+use Rattle.keep_record.specs.Held.{no_room}
 
 -- what starts nothing
-pub started_nothing : (g : Graph) (base : ℕ) (facts : List Fact) → facts ≡ [] → (p m row : List ℕ) (c : ℕ) → Working g base p m row c → Started g base facts (lines_of c row) p m row (Lines c)
-started_nothing g base facts e p m row c w = subst (λ (fs : List Fact). Started g base fs (lines_of c row) p m row (Lines c)) (sym e) (started_none g base p m row c w)
+pub started_nothing : (g : Graph) (base : ℕ) (facts : List Fact) → facts ≡ [] → (p m row : List ℕ) (c : ℕ) → Working g base p m row c → Started g base facts (lines_of c row) p m row (Ok c)
+started_nothing g base facts e p m row c w = subst (λ (fs : List Fact). Started g base fs (lines_of c row) p m row (Ok c)) (sym e) (started_none g base p m row c w)
 
 -- facts said in another way
-pub started_as : (g : Graph) (base : ℕ) (xs ys : List Fact) → xs ≡ ys → (before : List Line) (p m row : List ℕ) (r : Added) → Started g base xs before p m row r → Started g base ys before p m row r
+pub started_as : (g : Graph) (base : ℕ) (xs ys : List Fact) → xs ≡ ys → (before : List Line) (p m row : List ℕ) (r : Result ℕ Full) → Started g base xs before p m row r → Started g base ys before p m row r
 started_as g base xs ys e before p m row r s = subst (λ (fs : List Fact). Started g base fs before p m row r) e s
 
 -- the last ones of a loop's whole, behind the loop
 pub along_last : (g : Graph) (base : ℕ) (facts : List Fact) (before : List Line) (left : List Fact) (p m row : List ℕ) (c : ℕ) → Along g base (drained_all g (last_verdicts g) base facts before) left p m row c
-    → (p' m' row' : List ℕ) (r : Added) → Started g base left (lines_of c row) p' m' row' r → Started g base facts before p' m' row' r
+    → (p' m' row' : List ℕ) (r : Result ℕ Full) → Started g base left (lines_of c row) p' m' row' r → Started g base facts before p' m' row' r
 along_last g base facts before left p m row c a p' m' row' r s = record { grown = subst (λ (l : List Line). Grown g base l m' row' r) a.on s.grown; linked = s.linked }
 
 -- a reference, by whether its owner is normal
@@ -46,12 +47,12 @@ module _ (g : Graph) (s o : ℕ) (is : o ≡ owner (symbol_of g s)) where
   reference_is e = let z : normal g (owner (symbol_of g s)) ≡ true = ap (normal g) (sym is) ∙ e in rw (z, reference_starts)
 
   -- its statements and its checked use were started
-  pub reference_then : normal g o ≡ true → (base : ℕ) (before : List Line) (p m row p' m' row' : List ℕ) (d : ℕ) (r : Added) → Started g base (declared g s) before p m row (Lines d)
+  pub reference_then : normal g o ≡ true → (base : ℕ) (before : List Line) (p m row p' m' row' : List ℕ) (d : ℕ) (r : Result ℕ Full) → Started g base (declared g s) before p m row (Ok d)
       → Started g base (checked_fact s 2 ∷ []) (lines_of d row) p' m' row' r → Started g base (reference_starts g s) before p' m' row' r
   reference_then e base before p m row p' m' row' d r a b = started_as g base _ _ (reference_is e) before p' m' row' r (started_then g base _ _ before p m row p' m' row' d r a b)
 
-  pub reference_full : normal g o ≡ true → (base : ℕ) (before : List Line) (p m row : List ℕ) → Started g base (declared g s) before p m row Full → Started g base (reference_starts g s) before p m row Full
-  reference_full e base before p m row a = started_as g base _ _ (reference_is e) before p m row Full (started_full g base _ (checked_fact s 2 ∷ []) before p m row a)
+  pub reference_full : normal g o ≡ true → (base : ℕ) (before : List Line) (p m row : List ℕ) → Started g base (declared g s) before p m row no_room → Started g base (reference_starts g s) before p m row no_room
+  reference_full e base before p m row a = started_as g base _ _ (reference_is e) before p m row no_room (started_full g base _ (checked_fact s 2 ∷ []) before p m row a)
 
 -- a module
 module _ (g : Graph) (m : ℕ) where
@@ -68,12 +69,12 @@ module _ (g : Graph) (m : ℕ) where
   user_is e = rw (e, user_starts)
 
   -- its bailout and what it starts as an entry were started
-  pub user_then : normal g m ≡ true → (base : ℕ) (before : List Line) (p marks row p' m' row' : List ℕ) (d : ℕ) (r : Added) → Started g base (bailout_fact m ∷ []) before p marks row (Lines d)
+  pub user_then : normal g m ≡ true → (base : ℕ) (before : List Line) (p marks row p' m' row' : List ℕ) (d : ℕ) (r : Result ℕ Full) → Started g base (bailout_fact m ∷ []) before p marks row (Ok d)
       → Started g base (module_starts g m) (lines_of d row) p' m' row' r → Started g base (user_starts g m) before p' m' row' r
   user_then e base before p marks row p' m' row' d r a b = started_as g base _ _ (user_is e) before p' m' row' r (started_then g base _ _ before p marks row p' m' row' d r a b)
 
-  pub user_full : normal g m ≡ true → (base : ℕ) (before : List Line) (p marks row : List ℕ) → Started g base (bailout_fact m ∷ []) before p marks row Full → Started g base (user_starts g m) before p marks row Full
-  user_full e base before p marks row a = started_as g base _ _ (user_is e) before p marks row Full (started_full g base _ (module_starts g m) before p marks row a)
+  pub user_full : normal g m ≡ true → (base : ℕ) (before : List Line) (p marks row : List ℕ) → Started g base (bailout_fact m ∷ []) before p marks row no_room → Started g base (user_starts g m) before p marks row no_room
+  user_full e base before p marks row a = started_as g base _ _ (user_is e) before p marks row no_room (started_full g base _ (module_starts g m) before p marks row a)
 
 -- what a module starts from its reference k on
 unfoldable pub referred_from : Graph → ℕ → ℕ → List Fact
@@ -96,14 +97,14 @@ module _ (g : Graph) (m n : ℕ) (size : n ≡ length (entry_references (module_
       rw (q, append_assoc (reference_starts g s))
 
   module _ (base : ℕ) (facts : List Fact) (before : List Line) (p marks row : List ℕ) (c k : ℕ) (a : Along g base (drained_all g (last_verdicts g) base facts before) (referred_from g m k) p marks row c) where
-    pub referring-step : k < n → (s : ℕ) → s ≡ only (get_or (entry_references (module_of g m)) k []) → (p' m' row' : List ℕ) (d : ℕ) → Started g base (reference_starts g s) (lines_of c row) p' m' row' (Lines d)
+    pub referring-step : k < n → (s : ℕ) → s ≡ only (get_or (entry_references (module_of g m)) k []) → (p' m' row' : List ℕ) (d : ℕ) → Started g base (reference_starts g s) (lines_of c row) p' m' row' (Ok d)
         → Along g base (drained_all g (last_verdicts g) base facts before) (referred_from g m (k + 1)) p' m' row' d
     referring-step h s e p' m' row' d t = along_step g base _ _ _ p marks row c (along_as g base _ _ _ p marks row c (referred_next k h s e) a) p' m' row' d t
 
-    pub referring-full : k < n → (s : ℕ) → s ≡ only (get_or (entry_references (module_of g m)) k []) → (p' m' row' : List ℕ) → Started g base (reference_starts g s) (lines_of c row) p' m' row' Full → Started g base facts before p' m' row' Full
+    pub referring-full : k < n → (s : ℕ) → s ≡ only (get_or (entry_references (module_of g m)) k []) → (p' m' row' : List ℕ) → Started g base (reference_starts g s) (lines_of c row) p' m' row' no_room → Started g base facts before p' m' row' no_room
     referring-full h s e p' m' row' t = along_full g base facts before _ _ p marks row c (along_as g base _ _ _ p marks row c (referred_next k h s e) a) p' m' row' t
 
-    pub referring-last : n ≤ k → (p' m' row' : List ℕ) (r : Added) → Started g base (module_fact m ∷ []) (lines_of c row) p' m' row' r → Started g base facts before p' m' row' r
+    pub referring-last : n ≤ k → (p' m' row' : List ℕ) (r : Result ℕ Full) → Started g base (module_fact m ∷ []) (lines_of c row) p' m' row' r → Started g base facts before p' m' row' r
     referring-last h p' m' row' r t = along_last g base facts before _ p marks row c (along_as g base _ _ _ p marks row c (referred_over k h) a) p' m' row' r t
 
   pub referring_start : normal g m ≡ true → (base : ℕ) (p marks row : List ℕ) (c : ℕ) → Working g base p marks row c

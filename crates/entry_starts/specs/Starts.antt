@@ -1,5 +1,5 @@
 -- What an entry starts (docs/RULES.md, Steps 1 and 4; 000:316-339; 003:43-62).
-use Rattle.std.specs.Prelude.{ℕ, zero, suc, Bool, true, false, List, [], ◌∷◌, ◌++◌, map}
+use Rattle.std.specs.Prelude.{ℕ, true, false, List, [], ◌∷◌, ◌++◌, map}
 use Rattle.determine_side_effects.specs.graph_crate.Check.{Graph}
 use Rattle.determine_side_effects.specs.graph_access_crate.Names.{owner, declaring_statements, entry_references, only}
 use Rattle.determine_side_effects.specs.graph_access_crate.Words.{module_of, symbol_of, normal}

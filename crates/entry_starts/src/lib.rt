@@ -14,7 +14,7 @@ ghost use Rattle.entry_starts.specs.Working.{Working, Started};
 use determine_side_effects::facts_crate::{Fact, Reason};
 use determine_side_effects::graph_access_crate::{modules, symbols};
 use determine_side_effects::index_crate::{ModuleIdx, SymbolIdx};
-use keep_record::{Added, Stage};
+use keep_record::{Full, Stage};
 
 // Starts one fact.
 pub fn start_one(
@@ -25,7 +25,7 @@ pub fn start_one(
     lines: &mut [u32],
     stage: Stage,
     fact: Fact,
-) -> Added
+) -> Result<usize, Full>
     requires prepared { Prepared numbers.now tables.now }
     requires working { Working (graph_in numbers.now) stage.base partners.old marks.old lines.old stage.count }
     requires good { Good (graph_in numbers.now) fact }
@@ -43,7 +43,7 @@ fn include_declaring_statements(
     lines: &mut [u32],
     count: usize,
     s: SymbolIdx,
-) -> Added
+) -> Result<usize, Full>
     requires prepared { Prepared numbers.now tables.now }
     requires working { Working (graph_in numbers.now) 0 partners.old marks.old lines.old count }
     requires s_bound { s.0 < (header_in numbers.now).symbols }
@@ -52,10 +52,9 @@ fn include_declaring_statements(
     let owner = symbols::owner(numbers, tables, s);
     let declaring = symbols::declaring_count(numbers, tables, s);
     let mut total = count;
-    let mut i: usize = 0;
-    while i < declaring {
+    for i in 0..declaring {
         let fact = Fact::Statement(owner, symbols::declaring(numbers, tables, s, i));
-        match start_one(
+        total = start_one(
             numbers,
             tables,
             partners,
@@ -66,17 +65,9 @@ fn include_declaring_statements(
                 count: total,
             },
             fact,
-        ) {
-            Added::Full => {
-                return Added::Full;
-            }
-            Added::Lines(n) => {
-                total = n;
-            }
-        }
-        i += 1;
+        )?;
     }
-    Added::Lines(total)
+    Ok(total)
 }
 
 // Starts what an entry reference starts.
@@ -88,7 +79,7 @@ fn include_reference(
     lines: &mut [u32],
     count: usize,
     s: SymbolIdx,
-) -> Added
+) -> Result<usize, Full>
     requires prepared { Prepared numbers.now tables.now }
     requires working { Working (graph_in numbers.now) 0 partners.old marks.old lines.old count }
     requires s_bound { s.0 < (header_in numbers.now).symbols }
@@ -96,20 +87,18 @@ fn include_reference(
 {
     let owner = symbols::owner(numbers, tables, s);
     if !modules::is_normal(numbers, tables, owner) {
-        return Added::Lines(count);
+        return Ok(count);
     }
-    match include_declaring_statements(numbers, tables, partners, marks, lines, count, s) {
-        Added::Full => Added::Full,
-        Added::Lines(n) => start_one(
-            numbers,
-            tables,
-            partners,
-            marks,
-            lines,
-            Stage { base: 0, count: n },
-            Fact::CheckedUse(s, Reason { bits: 2 }),
-        ),
-    }
+    let n = include_declaring_statements(numbers, tables, partners, marks, lines, count, s)?;
+    start_one(
+        numbers,
+        tables,
+        partners,
+        marks,
+        lines,
+        Stage { base: 0, count: n },
+        Fact::CheckedUse(s, Reason { bits: 2 }),
+    )
 }
 
 // Starts what a module that is an entry starts.
@@ -121,29 +110,20 @@ pub fn include_entry(
     lines: &mut [u32],
     count: usize,
     m: ModuleIdx,
-) -> Added
+) -> Result<usize, Full>
     requires prepared { Prepared numbers.now tables.now }
     requires working { Working (graph_in numbers.now) 0 partners.old marks.old lines.old count }
     requires m_bound { m.0 < (header_in numbers.now).modules }
     ensures { Started (graph_in numbers.now) 0 (module_starts (graph_in numbers.now) m.0) (lines_of count lines.old) partners.new marks.new lines.new result }
 {
     if !modules::is_normal(numbers, tables, m) {
-        return Added::Lines(count);
+        return Ok(count);
     }
     let references = modules::entry_reference_count(numbers, tables, m);
     let mut total = count;
-    let mut k: usize = 0;
-    while k < references {
+    for k in 0..references {
         let s = modules::entry_reference(numbers, tables, m, k);
-        match include_reference(numbers, tables, partners, marks, lines, total, s) {
-            Added::Full => {
-                return Added::Full;
-            }
-            Added::Lines(n) => {
-                total = n;
-            }
-        }
-        k += 1;
+        total = include_reference(numbers, tables, partners, marks, lines, total, s)?;
     }
     start_one(
         numbers,
@@ -168,16 +148,16 @@ pub fn include_user_entry(
     lines: &mut [u32],
     count: usize,
     m: ModuleIdx,
-) -> Added
+) -> Result<usize, Full>
     requires prepared { Prepared numbers.now tables.now }
     requires working { Working (graph_in numbers.now) 0 partners.old marks.old lines.old count }
     requires m_bound { m.0 < (header_in numbers.now).modules }
     ensures { Started (graph_in numbers.now) 0 (user_starts (graph_in numbers.now) m.0) (lines_of count lines.old) partners.new marks.new lines.new result }
 {
     if !modules::is_normal(numbers, tables, m) {
-        return Added::Lines(count);
+        return Ok(count);
     }
-    match start_one(
+    let n = start_one(
         numbers,
         tables,
         partners,
@@ -185,8 +165,6 @@ pub fn include_user_entry(
         lines,
         Stage { base: 0, count },
         Fact::Bailout(m),
-    ) {
-        Added::Full => Added::Full,
-        Added::Lines(n) => include_entry(numbers, tables, partners, marks, lines, n, m),
-    }
+    )?;
+    include_entry(numbers, tables, partners, marks, lines, n, m)
 }

@@ -1,11 +1,7 @@
 -- Facts and their numbers (docs/RULES.md, Facts).
-use Rattle.std.specs.Prelude.{ℕ, ◌+◌, ◌*◌, ◌-◌, ◌<◌, ◌≡◌, Bool, true, false, List, [], ◌∷◌, eqb, length}
+use Rattle.std.specs.Prelude.{ℕ, ◌+◌, ◌*◌, ◌-◌, ◌<◌, ◌≡◌, true, false, eqb, length}
 use Rattle.graph_access.specs.graph_crate.Check.{Graph}
 use Rattle.graph_access.specs.graph_tables_crate.Tables.{first_of}
-use Rattle.graph_access.specs.index_crate.declared.ModuleIdx.{ModuleIdx}
-use Rattle.graph_access.specs.index_crate.declared.SymbolIdx.{SymbolIdx}
-use Rattle.graph_access.specs.index_crate.declared.StmtIdx.{StmtIdx}
-use Rattle.facts.specs.declared.Reason.{Reason}
 use Rattle.facts.specs.declared.Fact.{Fact}
 use Rattle.facts.specs.declared.Fact.TheVariants.{Module, Statement, Use, CheckedUse, Forward, Bailout}
 use Rattle.graph_access.specs.Words.{statement_list, normal}

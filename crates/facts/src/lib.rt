@@ -14,7 +14,7 @@ use graph_access::index_crate::{ModuleIdx, StmtIdx, SymbolIdx};
 use graph_access::statements;
 pub use graph_access::{
     graph_crate, graph_entries_crate, graph_format_crate, graph_tables_crate, index_crate,
-    rows_crate, tables_crate,
+    refusal_crate, rows_crate, tables_crate,
 };
 
 // Why a symbol is used: Normal 1, EntryExport 2, ReExportDynamicExports 4, JsonDefaultExportSelfReference 8,
@@ -36,6 +36,7 @@ pub enum Fact {
 }
 
 // Bit k of a number.
+#[tactic(auto, unfolding(graph_access::specs::Words::flag))]
 pub fn flag(x: usize, k: usize) -> bool
     requires { k < 32 }
     ensures { result ≡ flag_of k x }
@@ -94,6 +95,7 @@ pub fn second_part(fact: Fact) -> usize
 }
 
 // The fact of a kind and two parts.
+#[tactic(auto, unfolding(crate::specs::Facts::fact_of))]
 pub fn fact_of(kind: usize, a: usize, b: usize) -> Fact
     ensures { result ≡ fact_of kind a b }
 {
@@ -116,6 +118,7 @@ pub fn fact_of(kind: usize, a: usize, b: usize) -> Fact
 }
 
 // How many marks there are.
+#[tactic(auto, using(graph_access::proofs::StatementNumbers::small))]
 pub fn mark_count(numbers: &[u32], tables: &[usize]) -> usize
     requires { Loaded numbers.now tables.now }
     ensures { result ≡ mark_count (graph_in numbers.now) }
@@ -125,6 +128,7 @@ pub fn mark_count(numbers: &[u32], tables: &[usize]) -> usize
 }
 
 // The number of a fact's mark.
+#[tactic(auto, using(graph_access::proofs::StatementNumbers::small))]
 pub fn mark_of(numbers: &[u32], tables: &[usize], fact: Fact) -> usize
     requires loaded { Loaded numbers.now tables.now }
     requires good { Good (graph_in numbers.now) fact }

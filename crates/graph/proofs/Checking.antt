@@ -1,16 +1,14 @@
 -- The answer of the check, by its parts.
 -- Accepted numbers stand for `graph_in numbers` (`check-graph`).
-use Prim.Native.Nat.{ℕ, zero, suc, ◌+◌, ◌-◌, ◌*◌, ◌<◌, ◌≤◌}
-use mathlib.Core.Path.{◌≡◌, refl, ap, ◌∙◌, sym}
-use mathlib.Core.List.{List, [], ◌∷◌, ◌++◌, map}
+use Prim.Native.Nat.{ℕ, ◌+◌, ◌<◌, ◌≤◌}
+use mathlib.Core.Path.{◌≡◌, ap, ◌∙◌, sym}
+use mathlib.Core.List.{List, [], ◌∷◌}
 use native.Mathlib.Nat.{zero-add}
 use native.Mathlib.Omega.{arith}
 use borrow.Author.Tests.{lt-ltb, le-ltb}
 use lib.ListN.{length, get_or, take}
 use lib.Seq.{get_or-take}
-use Rattle.graph_entries.specs.rows_crate.declared.Walk.{Walk}
-use Rattle.graph_entries.specs.rows_crate.declared.Walk.TheVariants.{At, Fault}
-use Rattle.graph_entries.specs.rows_crate.Walk.{Parsed, got, fault, and_then, value, cells, walk_of, Item}
+use Rattle.graph_entries.specs.rows_crate.Walk.{Parsed, got, fault, cells, walk_of, Item}
 use Rattle.graph_entries.proofs.rows_crate.Walks.{at_got, fault_is}
 use Rattle.graph_entries.proofs.rows_crate.Cells.{Cells, cells_got, then_got}
 use Rattle.graph_entries.proofs.rows_crate.Items.{got_same, rows_end, plain_plain}
@@ -18,9 +16,11 @@ use Rattle.graph_entries.specs.graph_format_crate.declared.Header.{Header}
 use Rattle.graph_entries.specs.graph_format_crate.Format.{header_rules, header_of, modules_at, symbols_at, statements_at, entries_at}
 use Rattle.graph_entries.specs.graph_tables_crate.Tables.{items_of, end_of, header_in, modules_read, modules_in, symbols_read, symbols_in, statements_read, statements_in, entries_read, entries_in}
 use Rattle.graph_entries.proofs.Parts.{then_fault, then_at}
-use Rattle.graph.specs.declared.Checked.TheVariants.{Accepted, Refused}
 use Rattle.graph.specs.Check.{Graph, helpers_at, graph_at, walked, later_rules, check_of, answer_of, graph_in, HeaderRead, OnceAccepted}
 use native.Mathlib.Nat.{one-mul}
+use Rattle.std.specs.Prelude.{Result, Ok, Err}
+use Rattle.graph_entries.specs.refusal_crate.declared.Refusal.{Refusal}
+use Rattle.graph_entries.specs.refusal_crate.declared.Refusal.TheVariants.{WrongLength}
 
 -- the header's numbers are the first seven
 module _ (numbers : List ℕ) {head : List ℕ} {q : ℕ} (e : cells header_rules numbers 0 ≡ got head q) where
@@ -67,9 +67,9 @@ module _ (numbers : List ℕ) {head : List ℕ} {q : ℕ} (e : cells header_rule
   unfolding walked
   walked_is = then_at _ e ∙ rw (header_same, ends_at_seven)
 
-pub check_stop_header : (numbers : List ℕ) {n p : ℕ} → walk_of (cells header_rules numbers 0) ≡ Fault n p → answer_of (check_of numbers) ≡ Refused n p
+pub check_stop_header : (numbers : List ℕ) {why : Refusal} → walk_of (cells header_rules numbers 0) ≡ Err why → answer_of (check_of numbers) ≡ Err why
 unfolding answer_of check_of walked
-check_stop_header numbers {n} {p} e = ap answer_of (then_fault _ (then_fault _ (fault_is _ n p e)))
+check_stop_header numbers {why} e = ap answer_of (then_fault _ (then_fault _ (fault_is _ why e)))
 
 -- the parts of a graph that was read are the parts of the graph that the numbers stand for
 itself : {A : Type 0} (x : Parsed (List A)) {xs : List A} {q : ℕ} → x ≡ got xs q → (xs ≡ items_of x) × (q ≡ end_of x)
@@ -122,22 +122,22 @@ module _ (numbers : List ℕ) (h : Header) (good : HeaderRead numbers h) where
   pub bounded : (h.modules ≤ 1024) × (h.symbols ≤ 16384) × (h.statements ≤ 16384) × (h.entries ≤ 1024)
   bounded = rw good.is (few_modules numbers header_got.1, few_symbols numbers header_got.1, few_statements numbers header_got.1, few_entries numbers header_got.1)
 
-  pub check_stop_parts : {n p : ℕ} → walk_of (graph_at h numbers 7) ≡ Fault n p → answer_of (check_of numbers) ≡ Refused n p
+  pub check_stop_parts : {why : Refusal} → walk_of (graph_at h numbers 7) ≡ Err why → answer_of (check_of numbers) ≡ Err why
   unfolding answer_of check_of
-  check_stop_parts {n} {p} e = ap answer_of (then_fault _ (whole ∙ fault_is _ n p e))
+  check_stop_parts {why} e = ap answer_of (then_fault _ (whole ∙ fault_is _ why e))
 
-  module _ {q : ℕ} (e : walk_of (graph_at h numbers 7) ≡ At q) where
+  module _ {q : ℕ} (e : walk_of (graph_at h numbers 7) ≡ Ok q) where
     the-graph : walked numbers ≡ got (graph_in numbers) q
     the-graph =
         let t = at_got _ q e in
         whole ∙ t.1 ∙ ap (λ g. got g q) (graph_is numbers (ap (λ x. graph_at x numbers 7) (sym good.is) ∙ t.1))
 
-    pub check-stop-later : {n p : ℕ} → walk_of (later_rules (graph_in numbers)) ≡ Fault n p → answer_of (check_of numbers) ≡ Refused n p
+    pub check-stop-later : {why : Refusal} → walk_of (later_rules (graph_in numbers)) ≡ Err why → answer_of (check_of numbers) ≡ Err why
     unfolding answer_of check_of
-    check-stop-later {n} {p} f = ap answer_of (then_at _ the-graph ∙ then_fault _ (fault_is _ n p f))
+    check-stop-later {why} f = ap answer_of (then_at _ the-graph ∙ then_fault _ (fault_is _ why f))
 
-    module _ {o : ℕ} (f : walk_of (later_rules (graph_in numbers)) ≡ At o) where
-      over-is : q < length numbers → check_of numbers ≡ fault 4 q
+    module _ {o : ℕ} (f : walk_of (later_rules (graph_in numbers)) ≡ Ok o) where
+      over-is : q < length numbers → check_of numbers ≡ fault (WrongLength q)
       unfolding check_of
       over-is l = then_at _ the-graph ∙ then_at _ (at_got _ o f).1 ∙ rw (lt-ltb q (length numbers) l)
 
@@ -145,17 +145,17 @@ module _ (numbers : List ℕ) (h : Header) (good : HeaderRead numbers h) where
       unfolding check_of
       check-graph l = then_at _ the-graph ∙ then_at _ (at_got _ o f).1 ∙ rw (le-ltb q (length numbers) l)
 
-      pub check-over : q < length numbers → answer_of (check_of numbers) ≡ Refused 4 q
+      pub check-over : q < length numbers → answer_of (check_of numbers) ≡ Err (WrongLength q)
       unfolding answer_of
       check-over l = ap answer_of (over-is l)
 
-      pub check-good : length numbers ≤ q → answer_of (check_of numbers) ≡ Accepted
+      pub check-good : length numbers ≤ q → answer_of (check_of numbers) ≡ Ok tt
       unfolding answer_of
       check-good l = ap answer_of (check-graph l)
 
 -- nothing is asked of numbers that are refused
-pub once_refused : {n p : ℕ} (X : Type 0) → OnceAccepted (Refused n p) X
+pub once_refused : {why : Refusal} (X : Type 0) → OnceAccepted (Err why) X
 once_refused X = record { known = λ e. absurd (refused-not e) }
   where
-    refused-not : {n p : ℕ} → Refused n p ≡ Accepted → ⊥
-    refused-not e = let z : ◌≡◌ {A = ℕ} 0 1 = cc in omega arith
+    refused-not : {why : Refusal} → ◌≡◌ {A = Result Unit Refusal} (Err why) (Ok tt) → ⊥
+    refused-not e = cc

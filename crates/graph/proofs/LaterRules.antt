@@ -10,7 +10,6 @@ use borrow.Author.Tests.{lt-ltb, le-ltb, eq-eqb, ne_eqb}
 use lib.Dec.{eqb}
 use lib.Seq.{drop-cons}
 use lib.ListN.{length, get_or, drop, drop_of_length-le}
-use Rattle.graph_entries.specs.rows_crate.declared.Walk.TheVariants.{At, Fault}
 use Rattle.graph_entries.specs.rows_crate.Walk.{Parsed, got, fault, and_then, walk_of, Item, no_item}
 use Rattle.graph_entries.proofs.rows_crate.Walks.{at_got, fault_is}
 use Rattle.graph_entries.specs.graph_format_crate.declared.Header.{Header}
@@ -19,6 +18,9 @@ use Rattle.graph_entries.specs.graph_tables_crate.Tables.{header_in, modules_in,
 use Rattle.graph_entries.specs.graph_tables_crate.Places.{ModuleTable, SymbolTable}
 use Rattle.graph_entries.proofs.graph_tables_crate.Facts.{its-read, symbol-read}
 use Rattle.graph.specs.Check.{graph_in, each, runtime_normal, owns_namespace, root_is_root, later_rules}
+use Rattle.std.specs.Prelude.{Ok, Err}
+use Rattle.graph_entries.specs.refusal_crate.declared.Refusal.{Refusal}
+use Rattle.graph_entries.specs.refusal_crate.declared.Refusal.TheVariants.{OutOfRange}
 
 -- the walk over all items, from item i on
 module _ (test : ℕ → Item → Bool) (offset i : ℕ) (xs : List Item) where
@@ -26,7 +28,7 @@ module _ (test : ℕ → Item → Bool) (offset i : ℕ) (xs : List Item) where
   unfolding each
   each_go h e = rw (drop-cons xs i no_item h, e, each) (ap (λ k. each test offset (i + 1) (drop k xs)) (sym (add-one i)))
 
-  each_stop : i < length xs → test i (get_or xs i no_item) ≡ false → each test offset i (drop i xs) ≡ fault 3 ((get_or xs i no_item).place + offset)
+  each_stop : i < length xs → test i (get_or xs i no_item) ≡ false → each test offset i (drop i xs) ≡ fault (OutOfRange ((get_or xs i no_item).place + offset))
   unfolding each
   each_stop h e = rw (drop-cons xs i no_item h, e, each)
 
@@ -39,11 +41,11 @@ module _ (test : ℕ → Item → Bool) (offset i : ℕ) (xs : List Item) {whole
   pub all_go : {b : Bool} → i < length xs → b ≡ test i (get_or xs i no_item) → b ≡ true → each test offset (i + 1) (drop (i + 1) xs) ≡ whole
   all_go h e t = sym (each_go test offset i xs h (sym e ∙ t)) ∙ left
 
-  pub all_stop : {b : Bool} {place : ℕ} → i < length xs → b ≡ test i (get_or xs i no_item) → b ≡ false → place ≡ (get_or xs i no_item).place → Fault 3 (place + offset) ≡ walk_of whole
+  pub all_stop : {b : Bool} {place : ℕ} → i < length xs → b ≡ test i (get_or xs i no_item) → b ≡ false → place ≡ (get_or xs i no_item).place → Err (OutOfRange (place + offset)) ≡ walk_of whole
   unfolding walk_of
-  all_stop h e t p = ap (λ q. Fault 3 (q + offset)) p ∙ ap walk_of (sym (each_stop test offset i xs h (sym e ∙ t)) ∙ left)
+  all_stop h e t p = ap (λ q. Err (OutOfRange (q + offset))) p ∙ ap walk_of (sym (each_stop test offset i xs h (sym e ∙ t)) ∙ left)
 
-  pub all_end : length xs ≤ i → At 0 ≡ walk_of whole
+  pub all_end : length xs ≤ i → Ok 0 ≡ walk_of whole
   unfolding walk_of
   all_end h = ap walk_of (sym (each_end test offset i xs h) ∙ left)
 
@@ -95,19 +97,19 @@ root_same symbols s x r q e f = rw (sym e, f)
 
 -- all of them
 module _ (numbers : List ℕ) where
-  pub later_none : false ≡ runtime_normal (graph_in numbers) → Fault 3 1 ≡ walk_of (later_rules (graph_in numbers))
+  pub later_none : false ≡ runtime_normal (graph_in numbers) → Err (OutOfRange 1) ≡ walk_of (later_rules (graph_in numbers))
   unfolding later_rules walk_of
   later_none e = rw (sym e, later_rules, walk_of)
 
   abbrev owned : Parsed ℕ
   owned = each (owns_namespace (symbols_in numbers)) 7 0 (modules_in numbers)
 
-  pub later_stop : {n p : ℕ} → true ≡ runtime_normal (graph_in numbers) → walk_of (each (owns_namespace (symbols_in numbers)) 7 0 (modules_in numbers)) ≡ Fault n p
-      → Fault n p ≡ walk_of (later_rules (graph_in numbers))
+  pub later_stop : {why : Refusal} → true ≡ runtime_normal (graph_in numbers) → walk_of (each (owns_namespace (symbols_in numbers)) 7 0 (modules_in numbers)) ≡ Err why
+      → Err why ≡ walk_of (later_rules (graph_in numbers))
   unfolding later_rules graph_in and_then walk_of
-  later_stop {n} {p} e w = let f = fault_is owned n p w in rw (sym e, f, later_rules, and_then, walk_of)
+  later_stop {why} e w = let f = fault_is owned why w in rw (sym e, f, later_rules, and_then, walk_of)
 
-  pub later_go : {q : ℕ} → true ≡ runtime_normal (graph_in numbers) → walk_of (each (owns_namespace (symbols_in numbers)) 7 0 (modules_in numbers)) ≡ At q
+  pub later_go : {q : ℕ} → true ≡ runtime_normal (graph_in numbers) → walk_of (each (owns_namespace (symbols_in numbers)) 7 0 (modules_in numbers)) ≡ Ok q
       → walk_of (each (root_is_root (symbols_in numbers)) 2 0 (symbols_in numbers)) ≡ walk_of (later_rules (graph_in numbers))
   unfolding later_rules graph_in and_then
   later_go {q} e w = let f = at_got owned q w in rw (sym e, f.1, later_rules, and_then)

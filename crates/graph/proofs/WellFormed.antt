@@ -13,9 +13,10 @@ use Rattle.graph_entries.proofs.rows_crate.Items.{many-length, rows_each, plain_
 use Rattle.graph_entries.specs.graph_format_crate.Format.{header_rules}
 use Rattle.graph_entries.specs.graph_tables_crate.Tables.{items_of, header_in, modules_in, symbols_in}
 use Rattle.graph_entries.proofs.Parts.{then_at}
-use Rattle.graph.specs.declared.Checked.TheVariants.{Accepted}
 use Rattle.graph.specs.Check.{Graph, helpers_at, graph_at, walked, each, runtime_normal, owns_namespace, root_is_root, later_rules, check_of, answer_of, graph_in}
 use Rattle.graph.proofs.Checking.{walked_is, graph_is, once_refused}
+use Rattle.std.specs.Prelude.{Ok}
+use Rattle.graph_entries.specs.refusal_crate.declared.Refusal.TheVariants.{WrongLength}
 
 -- where all items were walked, each of them passed
 each_first : (test : ℕ → Item → Bool) (offset i : ℕ) (x : Item) (xs : List Item) {n p : ℕ} → each test offset i (x ∷ xs) ≡ got n p
@@ -35,16 +36,16 @@ each_all test offset i (x ∷ xs) e (suc k) h =
     let z : i + suc k ≡ i + 1 + k = omega arith in
     ap (λ j. test j (get_or xs k no_item)) z ∙ each_all test offset (i + 1) xs (each_first test offset i x xs e).1 k (omega arith)
 
-answered : (x : Parsed Graph) → answer_of x ≡ Accepted → (g : Graph) × (q : ℕ) × (x ≡ got g q)
+answered : (x : Parsed Graph) → answer_of x ≡ Ok tt → (g : Graph) × (q : ℕ) × (x ≡ got g q)
 unfolding answer_of
 answered (got g q) e = (g, q, refl)
-answered (fault n p) e = absurd ((once_refused ⊥).known e)
+answered (fault why) e = absurd ((once_refused ⊥).known e)
 
 -- the part behind one that is known
 then_rest : {A B : Type 0} (x : Parsed A) (k : A → ℕ → Parsed B) {a : A} {p : ℕ} {b : B} {q : ℕ} → x ≡ got a p → and_then x k ≡ got b q → k a p ≡ got b q
 then_rest x k e f = sym (then_at k e) ∙ f
 
-module _ (numbers : List ℕ) (ok : answer_of (check_of numbers) ≡ Accepted) where
+module _ (numbers : List ℕ) (ok : answer_of (check_of numbers) ≡ Ok tt) where
   whole : (g : Graph) × (q : ℕ) × (check_of numbers ≡ got g q)
   whole = answered (check_of numbers) ok
 
@@ -66,7 +67,7 @@ module _ (numbers : List ℕ) (ok : answer_of (check_of numbers) ≡ Accepted) w
   ended : (b : Bool) → ltb parts_got.0 (length numbers) ≡ b → check_of numbers ≡ got (graph_in numbers) parts_got.0
   unfolding check_of
   ended true u =
-      let f : check_of numbers ≡ fault 4 parts_got.0 = then_at _ parts_got.1 ∙ then_at _ accepted_later.2 ∙ rw u in
+      let f : check_of numbers ≡ fault (WrongLength parts_got.0) = then_at _ parts_got.1 ∙ then_at _ accepted_later.2 ∙ rw u in
       absurd (no_fault (sym f ∙ whole.2))
   ended false u = then_at _ parts_got.1 ∙ then_at _ accepted_later.2 ∙ rw u
 

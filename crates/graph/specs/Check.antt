@@ -1,13 +1,12 @@
 -- What `check` answers: the first fault from the left, then the rules that read a later number, then numbers left over.
-use Rattle.std.specs.Prelude.{ℕ, zero, suc, ◌+◌, ◌-◌, ◌≡◌, Bool, true, false, List, [], ◌∷◌, map, ltb, leb, eqb, length, get_or}
-use Rattle.graph.specs.declared.Checked.{Checked}
-use Rattle.graph.specs.declared.Checked.TheVariants.{Accepted, Refused}
-use Rattle.graph_entries.specs.rows_crate.declared.Walk.{Walk}
-use Rattle.graph_entries.specs.rows_crate.declared.Walk.TheVariants.{At, Fault}
-use Rattle.graph_entries.specs.rows_crate.Walk.{Parsed, got, fault, and_then, Rule, cells, many, firsts, plain_row, Item, no_item, walk_of, onward}
+use Rattle.std.specs.Prelude.{ℕ, ◌+◌, ◌-◌, ◌≡◌, Bool, true, false, List, [], ◌∷◌, ltb, eqb, length, get_or}
+use Rattle.graph_entries.specs.rows_crate.Walk.{Parsed, got, fault, and_then, cells, many, firsts, plain_row, Item, no_item, walk_of, onward}
 use Rattle.graph_entries.specs.graph_format_crate.declared.Header.{Header}
 use Rattle.graph_entries.specs.graph_format_crate.Format.{header_rules, header_of, modules_at, symbols_at, statements_at, entries_at, kind_of}
 use Rattle.graph_entries.specs.graph_tables_crate.Tables.{items_of, header_in, modules_in, symbols_in, statements_in, entries_in}
+use Rattle.std.specs.Prelude.{Result, Ok, Err}
+use Rattle.graph_entries.specs.refusal_crate.declared.Refusal.{Refusal}
+use Rattle.graph_entries.specs.refusal_crate.declared.Refusal.TheVariants.{OutOfRange, WrongLength}
 
 -- the decoded graph: the header's numbers, the helper symbols, the modules, the symbols, the statements by module, the entries
 pub record Graph : Type 0 where
@@ -39,7 +38,7 @@ walked numbers = and_then (cells header_rules numbers 0) (λ h q. graph_at (head
 -- the number `offset` behind its first.
 unfoldable pub each : (ℕ → Item → Bool) → ℕ → ℕ → List Item → Parsed ℕ
 each test offset i [] = got i 0
-each test offset i (x ∷ xs) = elim (test i x) [ true ↦ each test offset (i + 1) xs | false ↦ fault 3 (x.place + offset) ]
+each test offset i (x ∷ xs) = elim (test i x) [ true ↦ each test offset (i + 1) xs | false ↦ fault (OutOfRange (x.place + offset)) ]
 
 -- the runtime module is a normal one
 unfoldable pub runtime_normal : Graph → Bool
@@ -65,18 +64,18 @@ unfoldable pub later_rules : Graph → Parsed ℕ
 later_rules g =
     elim (runtime_normal g) [
       | true ↦ and_then (each (owns_namespace g.symbols) 7 0 g.modules) (λ i p. each (root_is_root g.symbols) 2 0 g.symbols)
-      | false ↦ fault 3 1
+      | false ↦ fault (OutOfRange 1)
     ]
 
 unfoldable pub check_of : List ℕ → Parsed Graph
 check_of numbers =
     and_then (walked numbers)
-    (λ g q. and_then (later_rules g) (λ i p. elim (ltb q (length numbers)) [ true ↦ fault 4 q | false ↦ got g q ]))
+    (λ g q. and_then (later_rules g) (λ i p. elim (ltb q (length numbers)) [ true ↦ fault (WrongLength q) | false ↦ got g q ]))
 
 -- the answer without the graph
-unfoldable pub answer_of : Parsed Graph → Checked
-answer_of (got g q) = Accepted
-answer_of (fault n p) = Refused n p
+unfoldable pub answer_of : Parsed Graph → Result Unit Refusal
+answer_of (got g q) = Ok tt
+answer_of (fault why) = Err why
 
 -- the graph that the numbers stand for, where they are accepted
 unfoldable pub graph_in : List ℕ → Graph
@@ -91,23 +90,23 @@ graph_in numbers =
     }
 
 -- where reading ends that begins at the statements, and at the symbols
-unfoldable pub tail_walk : List ℕ → ℕ → Walk
+unfoldable pub tail_walk : List ℕ → ℕ → Result ℕ Refusal
 tail_walk numbers at =
     onward (walk_of (statements_at (header_in numbers) (modules_in numbers) numbers at)) (λ q. walk_of (entries_at (header_in numbers) (modules_in numbers) numbers q))
 
-unfoldable pub body_walk : List ℕ → ℕ → Walk
+unfoldable pub body_walk : List ℕ → ℕ → Result ℕ Refusal
 body_walk numbers at = onward (walk_of (symbols_at (header_in numbers) (modules_in numbers) numbers at)) (λ q. tail_walk numbers q)
 
 -- what is known of a walk that has not ended in a fault
-pub record OnceRead (r : Walk) (X : Type 0) : Type 0 where
-  pub known : (q : ℕ) → r ≡ At q → X
+pub record OnceRead (r : Result ℕ Refusal) (X : Type 0) : Type 0 where
+  pub known : (q : ℕ) → r ≡ Ok q → X
 
 -- of numbers that are accepted
-pub record OnceAccepted (r : Checked) (X : Type 0) : Type 0 where
-  pub known : r ≡ Accepted → X
+pub record OnceAccepted (r : Result Unit Refusal) (X : Type 0) : Type 0 where
+  pub known : r ≡ Ok tt → X
 
 -- the header has been read without a fault, and this is it
 pub record HeaderRead (numbers : List ℕ) (h : Header) : Type 0 where
   pub end : ℕ
-  pub read : walk_of (cells header_rules numbers 0) ≡ At end
+  pub read : walk_of (cells header_rules numbers 0) ≡ Ok end
   pub is : h ≡ header_in numbers

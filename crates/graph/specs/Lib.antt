@@ -9,3 +9,4 @@ pub use Rattle.graph_entries.specs.graph_format_crate
 pub use Rattle.graph_entries.specs.graph_tables_crate
 pub use Rattle.graph_entries.specs.rows_crate
 pub use Rattle.graph_entries.specs.tables_crate
+pub use Rattle.graph_entries.specs.refusal_crate

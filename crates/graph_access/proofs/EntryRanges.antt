@@ -16,6 +16,7 @@ use Rattle.graph.specs.graph_format_crate.Format.{kind_of, statements_of, import
 use Rattle.graph.specs.graph_tables_crate.Tables.{header_in, modules_in, entries_in}
 use Rattle.graph.specs.graph_tables_crate.Places.{EntryTable}
 use Rattle.graph_access.proofs.OfEntries.{module_got, record_got, entry_read, related-read}
+use Rattle.graph.specs.refusal_crate.declared.Refusal.TheVariants.{OutOfRange}
 
 -- a related statement: its module is normal, its record resolved, each number within its limit
 pub record RelatedGood (modules : List Item) (count : ℕ) (row : List ℕ) : Type 0 where
@@ -33,7 +34,7 @@ module_normal h ms numbers at {x} {q} e =
     go t.0 t.1 (eqb (kind_of (get_or ms t.0 no_item)) 1) refl t.3
   where
     go : (y p : ℕ) (b : Bool) → eqb (kind_of (get_or ms y no_item)) 1 ≡ b
-        → (elim (eqb (kind_of (get_or ms y no_item)) 1) [ true ↦ got y p | false ↦ fault 3 at ]) ≡ got x q → kind_of (get_or ms x no_item) ≡ 1
+        → (elim (eqb (kind_of (get_or ms y no_item)) 1) [ true ↦ got y p | false ↦ fault (OutOfRange at) ]) ≡ got x q → kind_of (get_or ms x no_item) ≡ 1
     go y p true u w =
         let s = (got_same (rw u at w)).0 in
         ap (λ z. kind_of (get_or ms z no_item)) (sym s) ∙ eqb-true _ _ u
@@ -46,7 +47,7 @@ record_resolved import_records numbers at {x} {q} e =
     go t.0 t.1 (eqb (get_or (get_or import_records t.0 []) 0 0) 0) refl t.3
   where
     go : (y p : ℕ) (b : Bool) → eqb (get_or (get_or import_records y []) 0 0) 0 ≡ b
-        → (elim (eqb (get_or (get_or import_records y []) 0 0) 0) [ true ↦ fault 3 at | false ↦ got y p ]) ≡ got x q → get_or (get_or import_records x []) 0 0 ≡ 0 → ⊥
+        → (elim (eqb (get_or (get_or import_records y []) 0 0) 0) [ true ↦ fault (OutOfRange at) | false ↦ got y p ]) ≡ got x q → get_or (get_or import_records x []) 0 0 ≡ 0 → ⊥
     go y p true u w = absurd (no_fault (rw u at w))
     go y p false u w =
         let s = (got_same (rw u at w)).0 in

@@ -1,5 +1,5 @@
 -- Every index in an accepted graph is in range, by the words of the decoded graph.
-use Prim.Native.Nat.{ℕ, zero, suc, ◌+◌, ◌-◌, ◌<◌, ◌≤◌}
+use Prim.Native.Nat.{ℕ, zero, suc, ◌+◌, ◌<◌, ◌≤◌}
 use mathlib.Core.Path.{◌≡◌, refl, ap, ◌∙◌, sym}
 use mathlib.Core.Bool.{Bool, true, false}
 use mathlib.Core.List.{List, [], ◌∷◌}
@@ -19,7 +19,7 @@ use Rattle.graph.proofs.LaterRules.{namespace_fits}
 use Rattle.graph.proofs.WellFormed.{helper_count, helper-same, helper-below}
 use Rattle.graph_access.specs.Lists.{module_widths, module_limits, symbol_limits}
 use Rattle.graph_access.specs.Words.{root_of}
-use Rattle.graph_access.specs.Names.{kind, effects, wrapper, namespace, statement_count, scan_effects, import_records, dependencies, named_imports, own_exports, entry_references, common_js_export_symbols, resolved_exports, common_js_namespaces, only, import_record_target, export_symbol, namespace_symbol, namespace_module, owner, alias_namespace, export_chain, declaring_statements, written_property_statements, statement_import_records, references, module_helpers, helper_number, helper_statement, entry_module, entry_kind, related, related_module, related_statement, related_import_record, unreachable}
+use Rattle.graph_access.specs.Names.{kind, effects, wrapper, namespace, statement_count, scan_effects, import_records, dependencies, named_imports, own_exports, entry_references, common_js_export_symbols, resolved_exports, common_js_namespaces, only, import_record_target, export_symbol, namespace_symbol, namespace_module, owner, alias_namespace, export_chain, declaring_statements, written_property_statements, statement_import_records, references, module_helpers, helper_number, helper_statement, entry_module, entry_kind, related, related_module, related_statement, related_import_record}
 use Rattle.graph_access.proofs.Ranges.{module_list_below, symbol_list_below, wrapper_below as wrapper-is, owner_below as owner-is, root_below as root_is, alias_below as alias-is}
 use Rattle.graph_access.proofs.OfStatements.{its-read as statement-read}
 use Rattle.graph_access.proofs.StatementRanges.{record_below, ReferenceGood, reference_good}

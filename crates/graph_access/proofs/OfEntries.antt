@@ -13,6 +13,7 @@ use Rattle.graph.specs.graph_format_crate.declared.Header.{Header}
 use Rattle.graph.specs.graph_format_crate.Format.{kind_of, statements_of, import_records_of, related_module_at, related_import_record_at, related_at, entry_at, entries_at}
 use Rattle.graph.specs.graph_tables_crate.Tables.{header_in, modules_in, entries_read, entries_in}
 use Rattle.graph.specs.graph_tables_crate.Places.{EntryTable}
+use Rattle.graph.specs.refusal_crate.declared.Refusal.TheVariants.{OutOfRange}
 
 -- a number that was read, where a test behind it may have refused it
 tested : (r : Rule) (numbers : List ℕ) (at : ℕ) (test : ℕ → ℕ → Parsed ℕ) {x q : ℕ} → ((y p : ℕ) → test y p ≡ got x q → (y ≡ x) × (p ≡ q))
@@ -30,7 +31,7 @@ unfolding related_module_at
 module_got h ms numbers at {x} {q} e = tested _ numbers at _ (λ y p. go y p (eqb (kind_of (get_or ms y no_item)) 1) refl) e
   where
     go : (y p : ℕ) (b : Bool) → eqb (kind_of (get_or ms y no_item)) 1 ≡ b
-        → (elim (eqb (kind_of (get_or ms y no_item)) 1) [ true ↦ got y p | false ↦ fault 3 at ]) ≡ got x q → (y ≡ x) × (p ≡ q)
+        → (elim (eqb (kind_of (get_or ms y no_item)) 1) [ true ↦ got y p | false ↦ fault (OutOfRange at) ]) ≡ got x q → (y ≡ x) × (p ≡ q)
     go y p true u w = got_same (rw u at w)
     go y p false u w = absurd (no_fault (rw u at w))
 
@@ -39,7 +40,7 @@ unfolding related_import_record_at
 record_got import_records numbers at {x} {q} e = tested _ numbers at _ (λ y p. go y p (eqb (get_or (get_or import_records y []) 0 0) 0) refl) e
   where
     go : (y p : ℕ) (b : Bool) → eqb (get_or (get_or import_records y []) 0 0) 0 ≡ b
-        → (elim (eqb (get_or (get_or import_records y []) 0 0) 0) [ true ↦ fault 3 at | false ↦ got y p ]) ≡ got x q → (y ≡ x) × (p ≡ q)
+        → (elim (eqb (get_or (get_or import_records y []) 0 0) 0) [ true ↦ fault (OutOfRange at) | false ↦ got y p ]) ≡ got x q → (y ≡ x) × (p ≡ q)
     go y p true u w = absurd (no_fault (rw u at w))
     go y p false u w = got_same (rw u at w)
 

@@ -1,5 +1,5 @@
 -- The lists of a module and of a symbol.
-use Prim.Native.Nat.{ℕ, ◌+◌, ◌-◌, ◌<◌}
+use Prim.Native.Nat.{ℕ, ◌+◌, ◌<◌}
 use mathlib.Core.List.{List, [], ◌∷◌}
 use lib.ListN.{get_or}
 use Rattle.graph.specs.rows_crate.Walk.{no_item, any}

@@ -17,3 +17,4 @@ pub use Rattle.graph.specs.graph_tables_crate
 pub use Rattle.graph.specs.rows_crate
 pub use Rattle.graph.specs.tables_crate
 pub use Rattle.index.specs as index_crate
+pub use Rattle.graph.specs.refusal_crate

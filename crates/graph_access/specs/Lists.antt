@@ -1,5 +1,5 @@
 -- Where the lists of an item stand.
-use Rattle.std.specs.Prelude.{ℕ, zero, suc, ◌+◌, ◌*◌, ◌<◌, ◌≤◌, ◌≡◌, List, [], ◌∷◌, length, get_or}
+use Rattle.std.specs.Prelude.{ℕ, zero, suc, ◌+◌, ◌*◌, ◌<◌, ◌≤◌, List, [], ◌∷◌, length, get_or}
 use Rattle.graph.specs.rows_crate.Walk.{any}
 use Rattle.graph.specs.graph_format_crate.declared.Header.{Header}
 

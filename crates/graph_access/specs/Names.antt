@@ -1,5 +1,5 @@
 -- The numbers and lists of the decoded graph by name, in the order of the file (docs/GRAPH.md). "+1" is as there: 0 stands for none.
-use Rattle.std.specs.Prelude.{ℕ, List, [], ◌∷◌, get_or, drop}
+use Rattle.std.specs.Prelude.{ℕ, List, [], get_or, drop}
 use Rattle.graph.specs.rows_crate.Walk.{Item}
 
 -- A module: its twelve numbers (wrapper and namespace +1),

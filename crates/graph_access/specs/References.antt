@@ -1,5 +1,5 @@
 -- How references stand in the numbers: a kind, then its parts (docs/GRAPH.md, Statement).
-use Rattle.std.specs.Prelude.{ℕ, zero, suc, ◌+◌, ◌<◌, ◌≤◌, ◌≡◌, List, [], ◌∷◌, Bool, true, false, eqb, length, get_or}
+use Rattle.std.specs.Prelude.{ℕ, ◌+◌, ◌<◌, ◌≤◌, ◌≡◌, List, [], ◌∷◌, true, false, eqb, length, get_or}
 
 -- how many numbers the reference at p has: kind 0 two, kind 1 one, kind 2 four and those depended on, kind 3 five
 unfoldable pub reference_width : List ℕ → ℕ → ℕ

@@ -1,5 +1,5 @@
 -- Words for the parts of a decoded graph, and for the bits of a number.
-use Rattle.std.specs.Prelude.{ℕ, zero, suc, ◌+◌, ◌/◌, ◌%◌, ◌^◌, Bool, true, false, List, [], ◌∷◌, eqb, length, get_or}
+use Rattle.std.specs.Prelude.{ℕ, zero, suc, ◌+◌, ◌/◌, ◌%◌, ◌^◌, Bool, true, false, List, [], ◌∷◌, eqb, get_or}
 use Rattle.graph.specs.rows_crate.Walk.{Item, no_item}
 use Rattle.graph.specs.Check.{Graph}
 use Rattle.graph_access.specs.Names.{kind}

@@ -20,6 +20,7 @@ pub struct RelatedStmt {
 }
 
 // Number i of the two leading numbers of an entry.
+#[tactic(auto, using(crate::proofs::OfEntries::number_inside, crate::proofs::OfEntries::number_same), unfolding(crate::specs::Words::entry_of, graph::specs::Check::graph_in))]
 fn number(numbers: &[u32], tables: &[usize], e: EntryIdx, i: usize) -> usize
     requires loaded { Loaded numbers.now tables.now }
     requires e_bound { (e.0 < (header_in numbers.now).entries) × (i < 2) }
@@ -32,6 +33,7 @@ fn number(numbers: &[u32], tables: &[usize], e: EntryIdx, i: usize) -> usize
 }
 
 // Its module.
+#[tactic(auto, using(crate::proofs::Indexes::entry_module_below), unfolding(crate::specs::Names::entry_module))]
 pub fn entry_module(numbers: &[u32], tables: &[usize], e: EntryIdx) -> ModuleIdx
     requires loaded { Loaded numbers.now tables.now }
     requires e_bound { e.0 < (header_in numbers.now).entries }
@@ -41,6 +43,7 @@ pub fn entry_module(numbers: &[u32], tables: &[usize], e: EntryIdx) -> ModuleIdx
 }
 
 // Its kind: 0 UserDefined, 1 EmittedUserDefined, 2 DynamicImport.
+#[tactic(auto, using(crate::proofs::Indexes::entry_kind_below), unfolding(crate::specs::Names::entry_kind))]
 pub fn entry_kind(numbers: &[u32], tables: &[usize], e: EntryIdx) -> usize
     requires loaded { Loaded numbers.now tables.now }
     requires e_bound { e.0 < (header_in numbers.now).entries }
@@ -50,6 +53,7 @@ pub fn entry_kind(numbers: &[u32], tables: &[usize], e: EntryIdx) -> usize
 }
 
 // How many related statements it has.
+#[tactic(auto, using(crate::proofs::OfEntries::count_inside, crate::proofs::OfEntries::count_same), unfolding(crate::specs::Names::related, crate::specs::Words::entry_of, graph::specs::Check::graph_in))]
 pub fn related_count(numbers: &[u32], tables: &[usize], e: EntryIdx) -> usize
     requires loaded { Loaded numbers.now tables.now }
     requires e_bound { e.0 < (header_in numbers.now).entries }
@@ -80,6 +84,7 @@ pub fn related_number(
 }
 
 // Related statement k.
+#[tactic(auto, using(crate::proofs::Indexes::related_here), unfolding(crate::specs::Names::related_module, crate::specs::Names::related_statement, crate::specs::Names::related_import_record, crate::specs::Names::unreachable))]
 pub fn related_statement(numbers: &[u32], tables: &[usize], e: EntryIdx, k: usize) -> RelatedStmt
     requires loaded { Loaded numbers.now tables.now }
     requires e_bound { (e.0 < (header_in numbers.now).entries) × (k < length (related (entry_of (graph_in numbers.now) e.0))) }

@@ -8,6 +8,7 @@ ghost use Rattle.graph_access.specs.Names.{only};
 use index::SymbolIdx;
 
 // The symbol of helper k.
+#[tactic(auto, using(crate::proofs::Indexes::helper_there, crate::proofs::Indexes::helper_is, crate::proofs::Indexes::helper_symbol_below))]
 pub fn helper_symbol(numbers: &[u32], tables: &[usize], k: usize) -> SymbolIdx
     requires loaded { Loaded numbers.now tables.now }
     requires k_bound { k < (header_in numbers.now).helpers }

@@ -4,7 +4,8 @@
 // The crates below, for the crates above, which list this one alone.
 pub use graph as graph_crate;
 pub use graph::{
-    graph_entries_crate, graph_format_crate, graph_tables_crate, rows_crate, tables_crate,
+    graph_entries_crate, graph_format_crate, graph_tables_crate, refusal_crate, rows_crate,
+    tables_crate,
 };
 pub use index as index_crate;
 

@@ -11,11 +11,9 @@ fn list_place(numbers: &[u32], at: usize, widths: &[usize], j: usize) -> usize
     requires { Inside numbers.now at widths.now j }
     ensures { result ≡ place_of numbers.now at widths.now j }
 {
-    let mut i: usize = 0;
     let mut p = at;
-    while i < j {
+    for i in 0..j {
         p = p + 1 + widths[i] * graph::rows_crate::wide(numbers[p]);
-        i += 1;
     }
     p
 }

@@ -30,6 +30,7 @@ pub const IS_EXPORT_STAR: usize = 0;
 pub const TOP_LEVEL_PURE_DYNAMIC_IMPORT: usize = 1;
 
 // Number i of the twelve leading numbers of a module.
+#[tactic(auto, using(graph::proofs::tables_crate::Sections::inside), unfolding(crate::specs::Words::module_of, graph::specs::Check::graph_in))]
 fn number(numbers: &[u32], tables: &[usize], m: ModuleIdx, i: usize) -> usize
     requires loaded { Loaded numbers.now tables.now }
     requires m_bound { (m.0 < (header_in numbers.now).modules) × (i < 12) }
@@ -44,6 +45,7 @@ fn number(numbers: &[u32], tables: &[usize], m: ModuleIdx, i: usize) -> usize
 }
 
 // How many rows list j of a module has.
+#[tactic(auto, using(graph::proofs::tables_crate::Sections::inside, crate::proofs::Indexes::module_list_few), unfolding(crate::specs::Words::module_of, graph::specs::Check::graph_in))]
 fn list_length(numbers: &[u32], tables: &[usize], m: ModuleIdx, j: usize) -> usize
     requires loaded { Loaded numbers.now tables.now }
     requires m_bound { (m.0 < (header_in numbers.now).modules) × (j < 10) }
@@ -58,6 +60,7 @@ fn list_length(numbers: &[u32], tables: &[usize], m: ModuleIdx, j: usize) -> usi
 }
 
 // Number `column` of row k of list j of a module.
+#[tactic(auto, using(graph::proofs::tables_crate::Sections::inside), unfolding(crate::specs::Words::module_of, graph::specs::Check::graph_in))]
 fn list_number(
     numbers: &[u32],
     tables: &[usize],
@@ -81,6 +84,7 @@ fn list_number(
 }
 
 // Whether a module is a normal one.
+#[tactic(auto, unfolding(crate::specs::Words::normal, crate::specs::Names::kind))]
 pub fn is_normal(numbers: &[u32], tables: &[usize], m: ModuleIdx) -> bool
     requires loaded { Loaded numbers.now tables.now }
     requires m_bound { m.0 < (header_in numbers.now).modules }
@@ -90,6 +94,7 @@ pub fn is_normal(numbers: &[u32], tables: &[usize], m: ModuleIdx) -> bool
 }
 
 // Its verdict on side effects, as the graph gives it.
+#[tactic(auto, using(crate::proofs::Indexes::effects_below), unfolding(crate::specs::Names::effects))]
 pub fn effects(numbers: &[u32], tables: &[usize], m: ModuleIdx) -> usize
     requires loaded { Loaded numbers.now tables.now }
     requires m_bound { m.0 < (header_in numbers.now).modules }
@@ -99,6 +104,7 @@ pub fn effects(numbers: &[u32], tables: &[usize], m: ModuleIdx) -> usize
 }
 
 // Its kind of exports: 0 Esm, 1 CommonJs, 2 other.
+#[tactic(auto, unfolding(crate::specs::Names::exports))]
 pub fn exports(numbers: &[u32], tables: &[usize], m: ModuleIdx) -> usize
     requires loaded { Loaded numbers.now tables.now }
     requires m_bound { m.0 < (header_in numbers.now).modules }
@@ -108,6 +114,7 @@ pub fn exports(numbers: &[u32], tables: &[usize], m: ModuleIdx) -> usize
 }
 
 // Its type: 0 Js, 1 Jsx, 2 Json, 3 other.
+#[tactic(auto, unfolding(crate::specs::Names::module_type))]
 pub fn module_type(numbers: &[u32], tables: &[usize], m: ModuleIdx) -> usize
     requires loaded { Loaded numbers.now tables.now }
     requires m_bound { m.0 < (header_in numbers.now).modules }
@@ -117,6 +124,7 @@ pub fn module_type(numbers: &[u32], tables: &[usize], m: ModuleIdx) -> usize
 }
 
 // Its flags.
+#[tactic(auto, unfolding(crate::specs::Names::flags))]
 pub fn flags(numbers: &[u32], tables: &[usize], m: ModuleIdx) -> usize
     requires loaded { Loaded numbers.now tables.now }
     requires m_bound { m.0 < (header_in numbers.now).modules }
@@ -126,6 +134,7 @@ pub fn flags(numbers: &[u32], tables: &[usize], m: ModuleIdx) -> usize
 }
 
 // How it is wrapped: 0 not, 1 Cjs, 2 Esm.
+#[tactic(auto, unfolding(crate::specs::Names::wrap))]
 pub fn wrap(numbers: &[u32], tables: &[usize], m: ModuleIdx) -> usize
     requires loaded { Loaded numbers.now tables.now }
     requires m_bound { m.0 < (header_in numbers.now).modules }
@@ -135,6 +144,7 @@ pub fn wrap(numbers: &[u32], tables: &[usize], m: ModuleIdx) -> usize
 }
 
 // 1 more than its wrapper, or 0.
+#[tactic(auto, using(crate::proofs::Indexes::wrapper_below), unfolding(crate::specs::Names::wrapper))]
 pub fn wrapper(numbers: &[u32], tables: &[usize], m: ModuleIdx) -> usize
     requires loaded { Loaded numbers.now tables.now }
     requires m_bound { m.0 < (header_in numbers.now).modules }
@@ -144,6 +154,7 @@ pub fn wrapper(numbers: &[u32], tables: &[usize], m: ModuleIdx) -> usize
 }
 
 // 1 more than its namespace, or 0.
+#[tactic(auto, using(crate::proofs::Indexes::namespace_below), unfolding(crate::specs::Names::namespace))]
 pub fn namespace(numbers: &[u32], tables: &[usize], m: ModuleIdx) -> usize
     requires loaded { Loaded numbers.now tables.now }
     requires m_bound { m.0 < (header_in numbers.now).modules }
@@ -153,6 +164,7 @@ pub fn namespace(numbers: &[u32], tables: &[usize], m: ModuleIdx) -> usize
 }
 
 // How many CommonJS modules it re-exports.
+#[tactic(auto, unfolding(crate::specs::Names::reexport_count))]
 pub fn reexport_count(numbers: &[u32], tables: &[usize], m: ModuleIdx) -> usize
     requires loaded { Loaded numbers.now tables.now }
     requires m_bound { m.0 < (header_in numbers.now).modules }
@@ -171,6 +183,7 @@ pub fn statement_count(numbers: &[u32], tables: &[usize], m: ModuleIdx) -> usize
 }
 
 // Its verdict at scan time.
+#[tactic(auto, using(crate::proofs::Indexes::scan_effects_below), unfolding(crate::specs::Names::scan_effects))]
 pub fn scan_effects(numbers: &[u32], tables: &[usize], m: ModuleIdx) -> usize
     requires loaded { Loaded numbers.now tables.now }
     requires m_bound { m.0 < (header_in numbers.now).modules }
@@ -180,6 +193,7 @@ pub fn scan_effects(numbers: &[u32], tables: &[usize], m: ModuleIdx) -> usize
 }
 
 // How many statements it had at scan time.
+#[tactic(auto, unfolding(crate::specs::Names::scan_statement_count))]
 pub fn scan_statement_count(numbers: &[u32], tables: &[usize], m: ModuleIdx) -> usize
     requires loaded { Loaded numbers.now tables.now }
     requires m_bound { m.0 < (header_in numbers.now).modules }
@@ -189,6 +203,7 @@ pub fn scan_statement_count(numbers: &[u32], tables: &[usize], m: ModuleIdx) -> 
 }
 
 // How many import records it has.
+#[tactic(auto, unfolding(crate::specs::Names::import_records))]
 pub fn import_record_count(numbers: &[u32], tables: &[usize], m: ModuleIdx) -> usize
     requires loaded { Loaded numbers.now tables.now }
     requires m_bound { m.0 < (header_in numbers.now).modules }
@@ -198,6 +213,7 @@ pub fn import_record_count(numbers: &[u32], tables: &[usize], m: ModuleIdx) -> u
 }
 
 // 1 more than the module that an import record is resolved to, or 0.
+#[tactic(auto, using(crate::proofs::Indexes::record_target_below), unfolding(crate::specs::Names::import_records, crate::specs::Lists::module_widths, crate::specs::Names::import_record_target))]
 pub fn import_record_target(
     numbers: &[u32],
     tables: &[usize],
@@ -212,6 +228,7 @@ pub fn import_record_target(
 }
 
 // The kind of an import record: 0 Import, 1 require, 2 DynamicImport.
+#[tactic(auto, unfolding(crate::specs::Names::import_records, crate::specs::Lists::module_widths, crate::specs::Names::import_record_kind))]
 pub fn import_record_kind(
     numbers: &[u32],
     tables: &[usize],
@@ -226,6 +243,7 @@ pub fn import_record_kind(
 }
 
 // The bits of an import record.
+#[tactic(auto, unfolding(crate::specs::Names::import_records, crate::specs::Lists::module_widths, crate::specs::Names::import_record_bits))]
 pub fn import_record_bits(
     numbers: &[u32],
     tables: &[usize],
@@ -240,6 +258,7 @@ pub fn import_record_bits(
 }
 
 // How many dependencies it has.
+#[tactic(auto, unfolding(crate::specs::Names::dependencies))]
 pub fn dependency_count(numbers: &[u32], tables: &[usize], m: ModuleIdx) -> usize
     requires loaded { Loaded numbers.now tables.now }
     requires m_bound { m.0 < (header_in numbers.now).modules }
@@ -249,6 +268,7 @@ pub fn dependency_count(numbers: &[u32], tables: &[usize], m: ModuleIdx) -> usiz
 }
 
 // Dependency k.
+#[tactic(auto, using(crate::proofs::Indexes::dependency_below), unfolding(crate::specs::Names::dependencies, crate::specs::Lists::module_widths, crate::specs::Names::only))]
 pub fn dependency(numbers: &[u32], tables: &[usize], m: ModuleIdx, k: usize) -> ModuleIdx
     requires loaded { Loaded numbers.now tables.now }
     requires m_bound { (m.0 < (header_in numbers.now).modules) × (k < length (dependencies (module_of (graph_in numbers.now) m.0))) }
@@ -258,6 +278,7 @@ pub fn dependency(numbers: &[u32], tables: &[usize], m: ModuleIdx, k: usize) -> 
 }
 
 // How many named imports it has.
+#[tactic(auto, unfolding(crate::specs::Names::named_imports))]
 pub fn named_import_count(numbers: &[u32], tables: &[usize], m: ModuleIdx) -> usize
     requires loaded { Loaded numbers.now tables.now }
     requires m_bound { m.0 < (header_in numbers.now).modules }
@@ -267,6 +288,7 @@ pub fn named_import_count(numbers: &[u32], tables: &[usize], m: ModuleIdx) -> us
 }
 
 // Named import k.
+#[tactic(auto, using(crate::proofs::Indexes::named_import_below), unfolding(crate::specs::Names::named_imports, crate::specs::Lists::module_widths, crate::specs::Names::only))]
 pub fn named_import(numbers: &[u32], tables: &[usize], m: ModuleIdx, k: usize) -> SymbolIdx
     requires loaded { Loaded numbers.now tables.now }
     requires m_bound { (m.0 < (header_in numbers.now).modules) × (k < length (named_imports (module_of (graph_in numbers.now) m.0))) }
@@ -276,6 +298,7 @@ pub fn named_import(numbers: &[u32], tables: &[usize], m: ModuleIdx, k: usize) -
 }
 
 // How many exports of its own it has.
+#[tactic(auto, unfolding(crate::specs::Names::own_exports))]
 pub fn own_export_count(numbers: &[u32], tables: &[usize], m: ModuleIdx) -> usize
     requires loaded { Loaded numbers.now tables.now }
     requires m_bound { m.0 < (header_in numbers.now).modules }
@@ -285,6 +308,7 @@ pub fn own_export_count(numbers: &[u32], tables: &[usize], m: ModuleIdx) -> usiz
 }
 
 // Own export k.
+#[tactic(auto, using(crate::proofs::Indexes::own_export_below), unfolding(crate::specs::Names::own_exports, crate::specs::Lists::module_widths, crate::specs::Names::only))]
 pub fn own_export(numbers: &[u32], tables: &[usize], m: ModuleIdx, k: usize) -> SymbolIdx
     requires loaded { Loaded numbers.now tables.now }
     requires m_bound { (m.0 < (header_in numbers.now).modules) × (k < length (own_exports (module_of (graph_in numbers.now) m.0))) }
@@ -294,6 +318,7 @@ pub fn own_export(numbers: &[u32], tables: &[usize], m: ModuleIdx, k: usize) -> 
 }
 
 // How many CommonJS export symbols (K5) it has.
+#[tactic(auto, unfolding(crate::specs::Names::common_js_export_symbols))]
 pub fn export_symbol_count(numbers: &[u32], tables: &[usize], m: ModuleIdx) -> usize
     requires loaded { Loaded numbers.now tables.now }
     requires m_bound { m.0 < (header_in numbers.now).modules }
@@ -303,6 +328,7 @@ pub fn export_symbol_count(numbers: &[u32], tables: &[usize], m: ModuleIdx) -> u
 }
 
 // CommonJS export symbol k.
+#[tactic(auto, using(crate::proofs::Indexes::export_symbol_below), unfolding(crate::specs::Names::common_js_export_symbols, crate::specs::Lists::module_widths, crate::specs::Names::only))]
 pub fn export_symbol(numbers: &[u32], tables: &[usize], m: ModuleIdx, k: usize) -> SymbolIdx
     requires loaded { Loaded numbers.now tables.now }
     requires m_bound { (m.0 < (header_in numbers.now).modules) × (k < length (common_js_export_symbols (module_of (graph_in numbers.now) m.0))) }
@@ -312,6 +338,7 @@ pub fn export_symbol(numbers: &[u32], tables: &[usize], m: ModuleIdx, k: usize) 
 }
 
 // How many resolved exports it has.
+#[tactic(auto, unfolding(crate::specs::Names::resolved_exports))]
 pub fn resolved_export_count(numbers: &[u32], tables: &[usize], m: ModuleIdx) -> usize
     requires loaded { Loaded numbers.now tables.now }
     requires m_bound { m.0 < (header_in numbers.now).modules }
@@ -321,6 +348,7 @@ pub fn resolved_export_count(numbers: &[u32], tables: &[usize], m: ModuleIdx) ->
 }
 
 // The name of resolved export k.
+#[tactic(auto, unfolding(crate::specs::Names::resolved_exports, crate::specs::Lists::module_widths, crate::specs::Names::export_name))]
 pub fn resolved_export_name(numbers: &[u32], tables: &[usize], m: ModuleIdx, k: usize) -> usize
     requires loaded { Loaded numbers.now tables.now }
     requires m_bound { (m.0 < (header_in numbers.now).modules) × (k < length (resolved_exports (module_of (graph_in numbers.now) m.0))) }
@@ -330,6 +358,7 @@ pub fn resolved_export_name(numbers: &[u32], tables: &[usize], m: ModuleIdx, k: 
 }
 
 // The symbol of resolved export k.
+#[tactic(auto, using(crate::proofs::Indexes::resolved_export_below), unfolding(crate::specs::Names::resolved_exports, crate::specs::Lists::module_widths, crate::specs::Names::export_symbol))]
 pub fn resolved_export_symbol(
     numbers: &[u32],
     tables: &[usize],
@@ -344,6 +373,7 @@ pub fn resolved_export_symbol(
 }
 
 // How many CommonJS namespaces it lists.
+#[tactic(auto, unfolding(crate::specs::Names::common_js_namespaces))]
 pub fn commonjs_namespace_count(numbers: &[u32], tables: &[usize], m: ModuleIdx) -> usize
     requires loaded { Loaded numbers.now tables.now }
     requires m_bound { m.0 < (header_in numbers.now).modules }
@@ -353,6 +383,7 @@ pub fn commonjs_namespace_count(numbers: &[u32], tables: &[usize], m: ModuleIdx)
 }
 
 // The symbol of CommonJS namespace k.
+#[tactic(auto, using(crate::proofs::Indexes::namespace_row_below), unfolding(crate::specs::Names::common_js_namespaces, crate::specs::Lists::module_widths, crate::specs::Names::namespace_symbol))]
 pub fn commonjs_namespace_symbol(
     numbers: &[u32],
     tables: &[usize],
@@ -381,6 +412,7 @@ pub fn commonjs_namespace_module(
 }
 
 // How many enum members it lists.
+#[tactic(auto, unfolding(crate::specs::Names::enum_members))]
 pub fn enum_member_count(numbers: &[u32], tables: &[usize], m: ModuleIdx) -> usize
     requires loaded { Loaded numbers.now tables.now }
     requires m_bound { m.0 < (header_in numbers.now).modules }
@@ -390,6 +422,7 @@ pub fn enum_member_count(numbers: &[u32], tables: &[usize], m: ModuleIdx) -> usi
 }
 
 // The symbol name of enum member k.
+#[tactic(auto, unfolding(crate::specs::Names::enum_members, crate::specs::Lists::module_widths, crate::specs::Names::enum_name))]
 pub fn enum_name(numbers: &[u32], tables: &[usize], m: ModuleIdx, k: usize) -> usize
     requires loaded { Loaded numbers.now tables.now }
     requires m_bound { (m.0 < (header_in numbers.now).modules) × (k < length (enum_members (module_of (graph_in numbers.now) m.0))) }
@@ -399,6 +432,7 @@ pub fn enum_name(numbers: &[u32], tables: &[usize], m: ModuleIdx, k: usize) -> u
 }
 
 // The member of enum member k.
+#[tactic(auto, unfolding(crate::specs::Names::enum_members, crate::specs::Lists::module_widths, crate::specs::Names::enum_member))]
 pub fn enum_member(numbers: &[u32], tables: &[usize], m: ModuleIdx, k: usize) -> usize
     requires loaded { Loaded numbers.now tables.now }
     requires m_bound { (m.0 < (header_in numbers.now).modules) × (k < length (enum_members (module_of (graph_in numbers.now) m.0))) }
@@ -408,6 +442,7 @@ pub fn enum_member(numbers: &[u32], tables: &[usize], m: ModuleIdx, k: usize) ->
 }
 
 // How many entry references it has.
+#[tactic(auto, unfolding(crate::specs::Names::entry_references))]
 pub fn entry_reference_count(numbers: &[u32], tables: &[usize], m: ModuleIdx) -> usize
     requires loaded { Loaded numbers.now tables.now }
     requires m_bound { m.0 < (header_in numbers.now).modules }
@@ -417,6 +452,7 @@ pub fn entry_reference_count(numbers: &[u32], tables: &[usize], m: ModuleIdx) ->
 }
 
 // Its entry reference k.
+#[tactic(auto, using(crate::proofs::Indexes::entry_reference_below), unfolding(crate::specs::Names::entry_references, crate::specs::Lists::module_widths, crate::specs::Names::only))]
 pub fn entry_reference(numbers: &[u32], tables: &[usize], m: ModuleIdx, k: usize) -> SymbolIdx
     requires loaded { Loaded numbers.now tables.now }
     requires m_bound { (m.0 < (header_in numbers.now).modules) × (k < length (entry_references (module_of (graph_in numbers.now) m.0))) }
@@ -426,6 +462,7 @@ pub fn entry_reference(numbers: &[u32], tables: &[usize], m: ModuleIdx, k: usize
 }
 
 // Whether its resolved export k is from CommonJS: 0 or 1.
+#[tactic(auto, unfolding(crate::specs::Names::resolved_exports, crate::specs::Lists::module_widths, crate::specs::Names::export_from_common_js))]
 pub fn resolved_export_from_commonjs(
     numbers: &[u32],
     tables: &[usize],
@@ -440,6 +477,7 @@ pub fn resolved_export_from_commonjs(
 }
 
 // How many helpers its statements need, one row for each statement that needs one.
+#[tactic(auto, unfolding(crate::specs::Names::module_helpers))]
 pub fn helper_count(numbers: &[u32], tables: &[usize], m: ModuleIdx) -> usize
     requires loaded { Loaded numbers.now tables.now }
     requires m_bound { m.0 < (header_in numbers.now).modules }
@@ -449,6 +487,7 @@ pub fn helper_count(numbers: &[u32], tables: &[usize], m: ModuleIdx) -> usize
 }
 
 // The helper of row k.
+#[tactic(auto, using(crate::proofs::Indexes::helper_row_below), unfolding(crate::specs::Names::module_helpers, crate::specs::Lists::module_widths, crate::specs::Names::helper_number))]
 pub fn helper(numbers: &[u32], tables: &[usize], m: ModuleIdx, k: usize) -> usize
     requires loaded { Loaded numbers.now tables.now }
     requires m_bound { (m.0 < (header_in numbers.now).modules) × (k < length (module_helpers (module_of (graph_in numbers.now) m.0))) }

@@ -46,6 +46,7 @@ pub fn number_of(numbers: &[u32], tables: &[usize], m: ModuleIdx, i: StmtIdx) ->
 }
 
 // Its bits.
+#[tactic(auto, using(crate::proofs::StatementParts::bits_there, crate::proofs::StatementParts::bits_are))]
 pub fn bits(numbers: &[u32], tables: &[usize], m: ModuleIdx, i: StmtIdx) -> usize
     requires loaded { Loaded numbers.now tables.now }
     requires m_bound { (m.0 < (header_in numbers.now).modules) × (i.0 < length (statement_list (graph_in numbers.now) m.0)) }
@@ -104,6 +105,7 @@ pub fn first_reference(numbers: &[u32], tables: &[usize], m: ModuleIdx, i: StmtI
 }
 
 // How many numbers the reference at p has.
+#[tactic(auto, using(crate::proofs::ReadReferences::width_0, crate::proofs::ReadReferences::width_1, crate::proofs::ReadReferences::width_2, crate::proofs::ReadReferences::width_other, crate::proofs::ReadReferences::kind_inside, crate::proofs::ReadReferences::count_inside))]
 pub fn reference_width(numbers: &[u32], p: usize) -> usize
     requires { p + reference_width numbers.now p ≤ length numbers.now }
     ensures { result ≡ reference_width numbers.now p }

@@ -18,6 +18,7 @@ pub const SAFE: usize = 1;
 pub const COMMONJS: usize = 2;
 
 // Number i of the six leading numbers of a symbol.
+#[tactic(auto, using(graph::proofs::tables_crate::Sections::inside), unfolding(crate::specs::Words::symbol_of, graph::specs::Check::graph_in))]
 fn number(numbers: &[u32], tables: &[usize], s: SymbolIdx, i: usize) -> usize
     requires loaded { Loaded numbers.now tables.now }
     requires s_bound { (s.0 < (header_in numbers.now).symbols) × (i < 6) }
@@ -32,6 +33,7 @@ fn number(numbers: &[u32], tables: &[usize], s: SymbolIdx, i: usize) -> usize
 }
 
 // How many elements list j of a symbol has.
+#[tactic(auto, using(graph::proofs::tables_crate::Sections::inside, crate::proofs::Indexes::symbol_list_few), unfolding(crate::specs::Words::symbol_of, graph::specs::Check::graph_in))]
 fn list_length(numbers: &[u32], tables: &[usize], s: SymbolIdx, j: usize) -> usize
     requires loaded { Loaded numbers.now tables.now }
     requires s_bound { (s.0 < (header_in numbers.now).symbols) × (j < 3) }
@@ -46,6 +48,7 @@ fn list_length(numbers: &[u32], tables: &[usize], s: SymbolIdx, j: usize) -> usi
 }
 
 // Element k of list j of a symbol.
+#[tactic(auto, using(graph::proofs::tables_crate::Sections::inside), unfolding(crate::specs::Words::symbol_of, graph::specs::Check::graph_in))]
 fn list_number(numbers: &[u32], tables: &[usize], s: SymbolIdx, j: usize, k: usize) -> usize
     requires loaded { Loaded numbers.now tables.now }
     requires s_bound { (s.0 < (header_in numbers.now).symbols) × (j < 3) × (k < length (get_or (symbol_of (graph_in numbers.now) s.0).rows j [])) }
@@ -61,6 +64,7 @@ fn list_number(numbers: &[u32], tables: &[usize], s: SymbolIdx, j: usize, k: usi
 }
 
 // The module that owns it.
+#[tactic(auto, using(crate::proofs::Indexes::owner_below), unfolding(crate::specs::Names::owner))]
 pub fn owner(numbers: &[u32], tables: &[usize], s: SymbolIdx) -> ModuleIdx
     requires loaded { Loaded numbers.now tables.now }
     requires s_bound { s.0 < (header_in numbers.now).symbols }
@@ -70,6 +74,7 @@ pub fn owner(numbers: &[u32], tables: &[usize], s: SymbolIdx) -> ModuleIdx
 }
 
 // Its name.
+#[tactic(auto, unfolding(crate::specs::Names::symbol_name))]
 pub fn name(numbers: &[u32], tables: &[usize], s: SymbolIdx) -> usize
     requires loaded { Loaded numbers.now tables.now }
     requires s_bound { s.0 < (header_in numbers.now).symbols }
@@ -79,6 +84,7 @@ pub fn name(numbers: &[u32], tables: &[usize], s: SymbolIdx) -> usize
 }
 
 // Its canonical symbol: the one place where roots are followed (L9).
+#[tactic(auto, using(crate::proofs::Indexes::root_below), unfolding(crate::specs::Words::root_of, crate::specs::Words::symbol_of))]
 pub fn root(numbers: &[u32], tables: &[usize], s: SymbolIdx) -> SymbolIdx
     requires loaded { Loaded numbers.now tables.now }
     requires s_bound { s.0 < (header_in numbers.now).symbols }
@@ -88,6 +94,7 @@ pub fn root(numbers: &[u32], tables: &[usize], s: SymbolIdx) -> SymbolIdx
 }
 
 // 1 more than its alias namespace, or 0.
+#[tactic(auto, using(crate::proofs::Indexes::alias_below), unfolding(crate::specs::Names::alias_namespace))]
 pub fn alias_namespace(numbers: &[u32], tables: &[usize], s: SymbolIdx) -> usize
     requires loaded { Loaded numbers.now tables.now }
     requires s_bound { s.0 < (header_in numbers.now).symbols }
@@ -97,6 +104,7 @@ pub fn alias_namespace(numbers: &[u32], tables: &[usize], s: SymbolIdx) -> usize
 }
 
 // Its alias name.
+#[tactic(auto, unfolding(crate::specs::Names::alias_name))]
 pub fn alias_name(numbers: &[u32], tables: &[usize], s: SymbolIdx) -> usize
     requires loaded { Loaded numbers.now tables.now }
     requires s_bound { s.0 < (header_in numbers.now).symbols }
@@ -106,6 +114,7 @@ pub fn alias_name(numbers: &[u32], tables: &[usize], s: SymbolIdx) -> usize
 }
 
 // Its bits as a constant.
+#[tactic(auto, unfolding(crate::specs::Names::constant_bits))]
 pub fn constant_bits(numbers: &[u32], tables: &[usize], s: SymbolIdx) -> usize
     requires loaded { Loaded numbers.now tables.now }
     requires s_bound { s.0 < (header_in numbers.now).symbols }
@@ -115,6 +124,7 @@ pub fn constant_bits(numbers: &[u32], tables: &[usize], s: SymbolIdx) -> usize
 }
 
 // How many symbols its export chain has.
+#[tactic(auto, unfolding(crate::specs::Names::export_chain))]
 pub fn export_chain_count(numbers: &[u32], tables: &[usize], s: SymbolIdx) -> usize
     requires loaded { Loaded numbers.now tables.now }
     requires s_bound { s.0 < (header_in numbers.now).symbols }
@@ -124,6 +134,7 @@ pub fn export_chain_count(numbers: &[u32], tables: &[usize], s: SymbolIdx) -> us
 }
 
 // Symbol k of its export chain.
+#[tactic(auto, using(crate::proofs::Indexes::chain_below), unfolding(crate::specs::Names::export_chain, crate::specs::Names::only))]
 pub fn export_chain(numbers: &[u32], tables: &[usize], s: SymbolIdx, k: usize) -> SymbolIdx
     requires loaded { Loaded numbers.now tables.now }
     requires s_bound { (s.0 < (header_in numbers.now).symbols) × (k < length (export_chain (symbol_of (graph_in numbers.now) s.0))) }
@@ -133,6 +144,7 @@ pub fn export_chain(numbers: &[u32], tables: &[usize], s: SymbolIdx, k: usize) -
 }
 
 // How many statements declare it.
+#[tactic(auto, unfolding(crate::specs::Names::declaring_statements))]
 pub fn declaring_count(numbers: &[u32], tables: &[usize], s: SymbolIdx) -> usize
     requires loaded { Loaded numbers.now tables.now }
     requires s_bound { s.0 < (header_in numbers.now).symbols }
@@ -142,6 +154,7 @@ pub fn declaring_count(numbers: &[u32], tables: &[usize], s: SymbolIdx) -> usize
 }
 
 // Declaring statement k, one of its owner.
+#[tactic(auto, using(crate::proofs::Indexes::declared_below), unfolding(crate::specs::Names::declaring_statements, crate::specs::Names::only))]
 pub fn declaring(numbers: &[u32], tables: &[usize], s: SymbolIdx, k: usize) -> StmtIdx
     requires loaded { Loaded numbers.now tables.now }
     requires s_bound { (s.0 < (header_in numbers.now).symbols) × (k < length (declaring_statements (symbol_of (graph_in numbers.now) s.0))) }
@@ -151,6 +164,7 @@ pub fn declaring(numbers: &[u32], tables: &[usize], s: SymbolIdx, k: usize) -> S
 }
 
 // How many statements write a property of it.
+#[tactic(auto, unfolding(crate::specs::Names::written_property_statements))]
 pub fn written_count(numbers: &[u32], tables: &[usize], s: SymbolIdx) -> usize
     requires loaded { Loaded numbers.now tables.now }
     requires s_bound { s.0 < (header_in numbers.now).symbols }
@@ -160,6 +174,7 @@ pub fn written_count(numbers: &[u32], tables: &[usize], s: SymbolIdx) -> usize
 }
 
 // Statement k of those that write a property of it, one of its owner.
+#[tactic(auto, using(crate::proofs::Indexes::written_below), unfolding(crate::specs::Names::written_property_statements, crate::specs::Names::only))]
 pub fn written(numbers: &[u32], tables: &[usize], s: SymbolIdx, k: usize) -> StmtIdx
     requires loaded { Loaded numbers.now tables.now }
     requires s_bound { (s.0 < (header_in numbers.now).symbols) × (k < length (written_property_statements (symbol_of (graph_in numbers.now) s.0))) }

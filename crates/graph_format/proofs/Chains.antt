@@ -1,30 +1,30 @@
 -- Walks one behind another: each goes on from where the one before it ended, or has its fault.
-use Prim.Native.Nat.{ℕ, zero, suc, ◌+◌, ◌<◌, ◌≤◌}
+use Prim.Native.Nat.{ℕ, ◌<◌}
 use mathlib.Core.Path.{◌≡◌, refl, ap, ◌∙◌, sym}
 use mathlib.Core.List.{List, [], ◌∷◌, ◌++◌, map}
 use native.Mathlib.Omega.{arith}
-use lib.ListN.{length, get_or}
-use Rattle.rows.specs.declared.Walk.{Walk}
-use Rattle.rows.specs.declared.Walk.TheVariants.{At, Fault}
-use Rattle.rows.specs.Walk.{Parsed, got, fault, and_then, Rule, value, count, below, number, cells, ListRule, list, lists, plain_row, Item, item, walk_of, onward}
-use Rattle.rows.proofs.Walks.{cells_cons, lists_cons, walk_then, walk-map, onward_at, onward_fault, at_got, fault_is}
+use lib.ListN.{length}
+use Rattle.rows.specs.Walk.{got, fault, and_then, Rule, below, number, cells, ListRule, list, lists, plain_row, item, walk_of, onward}
+use Rattle.rows.proofs.Walks.{cells_cons, lists_cons, walk-map, onward_at, onward_fault, at_got, fault_is}
 use Rattle.rows.proofs.Cells.{Cells, cells_got}
+use Rattle.std.specs.Prelude.{Result, Ok, Err}
+use Rattle.rows.specs.refusal_crate.declared.Refusal.{Refusal}
 
 -- a walk that ends where another does ends as that one
-pub onward_end : (w : Walk) → onward w (λ q. At q) ≡ w
+pub onward_end : (w : Result ℕ Refusal) → onward w (λ q. Ok q) ≡ w
 unfolding onward
-onward_end (At q) = refl
-onward_end (Fault n p) = refl
+onward_end (Ok q) = refl
+onward_end (Err why) = refl
 
-onward_onward : (w : Walk) (f g : ℕ → Walk) → onward (onward w f) g ≡ onward w (λ q. onward (f q) g)
+onward_onward : (w : Result ℕ Refusal) (f g : ℕ → Result ℕ Refusal) → onward (onward w f) g ≡ onward w (λ q. onward (f q) g)
 unfolding onward
-onward_onward (At q) f g = refl
-onward_onward (Fault n p) f g = refl
+onward_onward (Ok q) f g = refl
+onward_onward (Err why) f g = refl
 
-onward_same : (w : Walk) (f g : ℕ → Walk) → ((q : ℕ) → f q ≡ g q) → onward w f ≡ onward w g
+onward_same : (w : Result ℕ Refusal) (f g : ℕ → Result ℕ Refusal) → ((q : ℕ) → f q ≡ g q) → onward w f ≡ onward w g
 unfolding onward
-onward_same (At q) f g h = h q
-onward_same (Fault n p) f g h = refl
+onward_same (Ok q) f g h = h q
+onward_same (Err why) f g h = refl
 
 pub cells-append : (xs ys : List Rule) (numbers : List ℕ) (at : ℕ)
     → walk_of (cells (xs ++ ys) numbers at) ≡ onward (walk_of (cells xs numbers at)) (λ q. walk_of (cells ys numbers q))
@@ -50,32 +50,32 @@ lists-append (a ∷ xs) ys numbers at =
 
 -- one number, then the others
 module _ (r : Rule) (rs : List Rule) (numbers : List ℕ) (at : ℕ) where
-  pub cells_go : {q : ℕ} → walk_of (number r numbers at) ≡ At q → walk_of (cells (r ∷ rs) numbers at) ≡ walk_of (cells rs numbers q)
+  pub cells_go : {q : ℕ} → walk_of (number r numbers at) ≡ Ok q → walk_of (cells (r ∷ rs) numbers at) ≡ walk_of (cells rs numbers q)
   cells_go e = cells_cons r rs numbers at ∙ onward_at _ e
 
-  pub cells_stop : {n p : ℕ} → walk_of (number r numbers at) ≡ Fault n p → walk_of (cells (r ∷ rs) numbers at) ≡ Fault n p
+  pub cells_stop : {why : Refusal} → walk_of (number r numbers at) ≡ Err why → walk_of (cells (r ∷ rs) numbers at) ≡ Err why
   cells_stop e = cells_cons r rs numbers at ∙ onward_fault _ e
 
 -- a row of numbers below their limits, then the others
 module _ (columns : List ℕ) (rs : List Rule) (numbers : List ℕ) (at : ℕ) where
-  pub row_go : {q : ℕ} → walk_of (plain_row columns numbers [] at) ≡ At q → walk_of (cells (map (λ l. below l) columns ++ rs) numbers at) ≡ walk_of (cells rs numbers q)
+  pub row_go : {q : ℕ} → walk_of (plain_row columns numbers [] at) ≡ Ok q → walk_of (cells (map (λ l. below l) columns ++ rs) numbers at) ≡ walk_of (cells rs numbers q)
   unfolding plain_row
   row_go e = cells-append (map (λ l. below l) columns) rs numbers at ∙ onward_at _ e
 
-  pub row_stop : {n p : ℕ} → walk_of (plain_row columns numbers [] at) ≡ Fault n p → walk_of (cells (map (λ l. below l) columns ++ rs) numbers at) ≡ Fault n p
+  pub row_stop : {why : Refusal} → walk_of (plain_row columns numbers [] at) ≡ Err why → walk_of (cells (map (λ l. below l) columns ++ rs) numbers at) ≡ Err why
   unfolding plain_row
   row_stop e = cells-append (map (λ l. below l) columns) rs numbers at ∙ onward_fault _ e
 
 -- numbers that were read are there
-pub cells_inside : (r : Rule) (rs : List Rule) (numbers : List ℕ) (at : ℕ) {q : ℕ} → walk_of (cells (r ∷ rs) numbers at) ≡ At q → at < length numbers
+pub cells_inside : (r : Rule) (rs : List Rule) (numbers : List ℕ) (at : ℕ) {q : ℕ} → walk_of (cells (r ∷ rs) numbers at) ≡ Ok q → at < length numbers
 cells_inside r rs numbers at {q} e = let g = at_got (cells (r ∷ rs) numbers at) q e in omega (arith, (cells_got (r ∷ rs) numbers at g.1).inside 0 (omega arith))
 
 -- one list, then the others
 module _ (r : ListRule) (rs : List ListRule) (numbers : List ℕ) (at : ℕ) where
-  pub lists_go : {q : ℕ} → walk_of (list r numbers at) ≡ At q → walk_of (lists (r ∷ rs) numbers at) ≡ walk_of (lists rs numbers q)
+  pub lists_go : {q : ℕ} → walk_of (list r numbers at) ≡ Ok q → walk_of (lists (r ∷ rs) numbers at) ≡ walk_of (lists rs numbers q)
   lists_go e = lists_cons r rs numbers at ∙ onward_at _ e
 
-  pub lists_stop : {n p : ℕ} → walk_of (list r numbers at) ≡ Fault n p → walk_of (lists (r ∷ rs) numbers at) ≡ Fault n p
+  pub lists_stop : {why : Refusal} → walk_of (list r numbers at) ≡ Err why → walk_of (lists (r ∷ rs) numbers at) ≡ Err why
   lists_stop e = lists_cons r rs numbers at ∙ onward_fault _ e
 
 pub lists_one : (r : ListRule) (numbers : List ℕ) (at : ℕ) → walk_of (lists (r ∷ []) numbers at) ≡ walk_of (list r numbers at)
@@ -84,19 +84,19 @@ lists_one r numbers at = lists_cons r [] numbers at ∙ onward_end _
 
 -- some lists, then the others
 module _ (xs ys : List ListRule) (numbers : List ℕ) (at : ℕ) where
-  pub group_go : {q : ℕ} → walk_of (lists xs numbers at) ≡ At q → walk_of (lists (xs ++ ys) numbers at) ≡ walk_of (lists ys numbers q)
+  pub group_go : {q : ℕ} → walk_of (lists xs numbers at) ≡ Ok q → walk_of (lists (xs ++ ys) numbers at) ≡ walk_of (lists ys numbers q)
   group_go e = lists-append xs ys numbers at ∙ onward_at _ e
 
-  pub group_stop : {n p : ℕ} → walk_of (lists xs numbers at) ≡ Fault n p → walk_of (lists (xs ++ ys) numbers at) ≡ Fault n p
+  pub group_stop : {why : Refusal} → walk_of (lists xs numbers at) ≡ Err why → walk_of (lists (xs ++ ys) numbers at) ≡ Err why
   group_stop e = lists-append xs ys numbers at ∙ onward_fault _ e
 
 -- an item: its leading numbers, then its lists
 module _ (rules : List Rule) (rest : List ℕ → List ListRule) (numbers : List ℕ) (at : ℕ) where
-  pub item_stop : {n p : ℕ} → walk_of (cells rules numbers at) ≡ Fault n p → walk_of (item rules rest numbers at) ≡ Fault n p
+  pub item_stop : {why : Refusal} → walk_of (cells rules numbers at) ≡ Err why → walk_of (item rules rest numbers at) ≡ Err why
   unfolding item walk_of and_then
-  item_stop {n} {p} e = ap walk_of (halted (fault_is (cells rules numbers at) n p e))
+  item_stop {why} e = ap walk_of (halted (fault_is (cells rules numbers at) why e))
     where
-      halted : cells rules numbers at ≡ fault n p → item rules rest numbers at ≡ fault n p
+      halted : cells rules numbers at ≡ fault why → item rules rest numbers at ≡ fault why
       halted f = rw (f, item, and_then)
 
   item_got : {q : ℕ} {h : List ℕ} → cells rules numbers at ≡ got h q → walk_of (item rules rest numbers at) ≡ walk_of (lists (rest h) numbers q)
@@ -104,6 +104,6 @@ module _ (rules : List Rule) (rest : List ℕ → List ListRule) (numbers : List
   item_got {q} {h} e = rw (e, item, and_then) (walk-map (lists (rest h) numbers q) (λ ls. record { place = at; head = h; rows = ls }))
 
   -- what its leading numbers are, and that its lists go by them
-  pub item_go : {q : ℕ} → walk_of (cells rules numbers at) ≡ At q
+  pub item_go : {q : ℕ} → walk_of (cells rules numbers at) ≡ Ok q
       → (h : List ℕ) × Cells rules numbers at h q × (walk_of (item rules rest numbers at) ≡ walk_of (lists (rest h) numbers q))
   item_go {q} e = let g = at_got (cells rules numbers at) q e in (g.0, cells_got rules numbers at g.1, item_got g.1)

@@ -1,20 +1,18 @@
 -- A module: its numbers, then its lists, by the count of its statements.
 -- A statement in the same way.
-use Prim.Native.Nat.{ℕ, zero, suc, ◌+◌, ◌<◌, ◌≤◌}
-use mathlib.Core.Path.{◌≡◌, refl, ap, ◌∙◌, sym}
-use mathlib.Core.Bool.{Bool, true, false}
-use mathlib.Core.List.{List, [], ◌∷◌, ◌++◌}
+use Prim.Native.Nat.{ℕ, ◌+◌, ◌<◌}
+use mathlib.Core.Path.{◌≡◌, ap, ◌∙◌, sym}
+use mathlib.Core.List.{List, [], ◌∷◌}
 use native.Mathlib.Omega.{arith}
 use lib.Dec.{eqb}
 use lib.ListN.{length, get_or, drop}
-use Rattle.rows.specs.declared.Walk.{Walk}
-use Rattle.rows.specs.declared.Walk.TheVariants.{At, Fault}
-use Rattle.rows.specs.Walk.{Parsed, got, fault, Rule, value, below, any, number, cells, ListRule, list, lists, item, walk_of}
-use Rattle.rows.proofs.Cells.{Cells}
+use Rattle.rows.specs.Walk.{Rule, value, below, any, cells, lists, walk_of}
 use Rattle.graph_format.specs.declared.Header.{Header}
 use Rattle.graph_format.specs.declared.Left.{Left}
-use Rattle.graph_format.specs.Format.{module_rules, namespace_limit, least_statements, statement_limit, module_lists, module_at, statement_at, statement_lists, reference_list}
+use Rattle.graph_format.specs.Format.{module_rules, namespace_limit, least_statements, statement_limit, module_lists, module_at, statement_at, statement_lists}
 use Rattle.graph_format.proofs.Chains.{item_go, item_stop}
+use Rattle.std.specs.Prelude.{Ok, Err}
+use Rattle.rows.specs.refusal_crate.declared.Refusal.{Refusal}
 
 -- the rules of a module's numbers from its namespace on, with the limits that the code has
 pub counts_are : (h : Header) (numbers : List ℕ) (left : Left) (at q : ℕ) {kind highest least limit : ℕ} → kind ≡ get_or numbers at 0 → highest ≡ namespace_limit kind h.symbols
@@ -28,15 +26,15 @@ module _ (h : Header) (numbers : List ℕ) (left : Left) (at : ℕ) where
   abbrev pub module_head : List Rule
   module_head = module_rules h (get_or numbers at 0) left.statements (eqb left.modules 1)
 
-  pub module_stop : {n p : ℕ} → walk_of (cells module_head numbers at) ≡ Fault n p → walk_of (module_at h numbers left at) ≡ Fault n p
+  pub module_stop : {why : Refusal} → walk_of (cells module_head numbers at) ≡ Err why → walk_of (module_at h numbers left at) ≡ Err why
   unfolding module_at
   module_stop e = item_stop module_head _ numbers at e
 
-  pub module_inside : {q : ℕ} → walk_of (cells module_head numbers at) ≡ At q → at + 9 < length numbers
+  pub module_inside : {q : ℕ} → walk_of (cells module_head numbers at) ≡ Ok q → at + 9 < length numbers
   unfolding module_rules
   module_inside e = (item_go module_head (λ head. []) numbers at e).1.inside 9 (omega arith)
 
-  pub module_go : {q count : ℕ} → walk_of (cells module_head numbers at) ≡ At q → count ≡ get_or numbers (at + 9) 0
+  pub module_go : {q count : ℕ} → walk_of (cells module_head numbers at) ≡ Ok q → count ≡ get_or numbers (at + 9) 0
       → walk_of (module_at h numbers left at) ≡ walk_of (lists (module_lists h numbers count) numbers q)
   unfolding module_at module_rules
   module_go {q} {count} e f =
@@ -46,11 +44,11 @@ module _ (h : Header) (numbers : List ℕ) (left : Left) (at : ℕ) where
 
 -- a statement: its bits, then its lists
 module _ (h : Header) (import_records : ℕ) (numbers : List ℕ) (i at : ℕ) where
-  pub statement_stop : {n p : ℕ} → walk_of (cells (below 32 ∷ []) numbers at) ≡ Fault n p → walk_of (statement_at h import_records numbers i at) ≡ Fault n p
+  pub statement_stop : {why : Refusal} → walk_of (cells (below 32 ∷ []) numbers at) ≡ Err why → walk_of (statement_at h import_records numbers i at) ≡ Err why
   unfolding statement_at
   statement_stop e = item_stop (below 32 ∷ []) _ numbers at e
 
-  pub statement_go : {q : ℕ} → walk_of (cells (below 32 ∷ []) numbers at) ≡ At q
+  pub statement_go : {q : ℕ} → walk_of (cells (below 32 ∷ []) numbers at) ≡ Ok q
       → walk_of (statement_at h import_records numbers i at) ≡ walk_of (lists (statement_lists h numbers import_records) numbers q)
   unfolding statement_at
   statement_go e = (item_go (below 32 ∷ []) (λ head. statement_lists h numbers import_records) numbers at e).2

@@ -1,21 +1,19 @@
 -- A reference: its kind, then its parts by its kind.
-use Prim.Native.Nat.{ℕ, zero, suc, ◌+◌, ◌<◌, ◌≤◌}
-use mathlib.Core.Path.{◌≡◌, refl, ap, ◌∙◌, sym}
+use Prim.Native.Nat.{ℕ, ◌<◌}
+use mathlib.Core.Path.{◌≡◌, ap, ◌∙◌, sym}
 use mathlib.Core.Logic.{◌≢◌}
-use mathlib.Core.List.{List, [], ◌∷◌, ◌++◌, map}
-use native.Mathlib.Omega.{arith}
+use mathlib.Core.List.{List, [], ◌∷◌, map}
 use borrow.Author.Tests.{eq-eqb, ne_eqb}
-use lib.Dec.{eqb}
 use lib.ListN.{length, get_or}
-use Rattle.rows.specs.declared.Walk.{Walk}
-use Rattle.rows.specs.declared.Walk.TheVariants.{At, Fault}
-use Rattle.rows.specs.Walk.{Parsed, got, fault, and_then, Rule, value, count, below, number, cells, many, firsts, ListRule, list, plain, walk_of, onward}
-use Rattle.rows.proofs.Walks.{walk_then, walk-map, onward_at, onward_fault, at_got, list_go, list_stop, clash}
-use Rattle.rows.proofs.Cells.{Number, number_got}
-use Rattle.graph_format.specs.Format.{depended_at, parts_at, member_rules, reference_at, reference_list}
+use Rattle.rows.specs.Walk.{got, Rule, count, below, number, cells, many, firsts, ListRule, list, plain, walk_of, onward}
+use Rattle.rows.proofs.Walks.{walk_then, walk-map, onward_at, onward_fault, at_got, list_go, clash}
+use Rattle.rows.proofs.Cells.{number_got}
+use Rattle.graph_format.specs.Format.{depended_at, parts_at, member_rules, reference_at}
+use Rattle.std.specs.Prelude.{Ok, Err}
+use Rattle.rows.specs.refusal_crate.declared.Refusal.{Refusal}
 
 -- a number that was read is there
-pub number_inside : (r : Rule) (numbers : List ℕ) (at : ℕ) {q : ℕ} → walk_of (number r numbers at) ≡ At q → at < length numbers
+pub number_inside : (r : Rule) (numbers : List ℕ) (at : ℕ) {q : ℕ} → walk_of (number r numbers at) ≡ Ok q → at < length numbers
 number_inside r numbers at {q} e = (number_got r numbers at (at_got _ q e).1).inside
 
 module _ (symbols : ℕ) (numbers : List ℕ) (at : ℕ) where
@@ -25,10 +23,10 @@ module _ (symbols : ℕ) (numbers : List ℕ) (at : ℕ) where
       walk_then (cells (below symbols ∷ below 2 ∷ []) numbers at) _ _
       (λ parts q e. walk-map (list (plain numbers (symbols ∷ [])) numbers q) (λ ds. get_or parts 0 0 ∷ get_or parts 1 0 ∷ map (λ d. get_or d 0 0) ds))
 
-  pub depended_stop : {n p : ℕ} → walk_of (cells (below symbols ∷ below 2 ∷ []) numbers at) ≡ Fault n p → walk_of (depended_at symbols numbers at) ≡ Fault n p
+  pub depended_stop : {why : Refusal} → walk_of (cells (below symbols ∷ below 2 ∷ []) numbers at) ≡ Err why → walk_of (depended_at symbols numbers at) ≡ Err why
   depended_stop e = depended_is ∙ onward_fault _ e
 
-  pub depended_go : {q : ℕ} → walk_of (cells (below symbols ∷ below 2 ∷ []) numbers at) ≡ At q
+  pub depended_go : {q : ℕ} → walk_of (cells (below symbols ∷ below 2 ∷ []) numbers at) ≡ Ok q
       → walk_of (depended_at symbols numbers at) ≡ walk_of (list (plain numbers (symbols ∷ [])) numbers q)
   depended_go e = depended_is ∙ onward_at _ e
 
@@ -50,11 +48,11 @@ module _ (kind symbols : ℕ) (numbers : List ℕ) (at : ℕ) where
   parts_member d₀ d₁ d₂ = rw (ne_eqb kind 0 d₀, ne_eqb kind 1 d₁, ne_eqb kind 2 d₂, parts_at)
 
 module _ (symbols : ℕ) (numbers seen : List ℕ) (at : ℕ) where
-  pub reference_stop : {n p : ℕ} → walk_of (number (below 4) numbers at) ≡ Fault n p → walk_of (reference_at symbols numbers seen at) ≡ Fault n p
+  pub reference_stop : {why : Refusal} → walk_of (number (below 4) numbers at) ≡ Err why → walk_of (reference_at symbols numbers seen at) ≡ Err why
   unfolding reference_at walk_of
-  reference_stop {n} {p} e = walk_then (number (below 4) numbers at) _ (λ q. Fault n p) (λ a q f. absurd (clash (sym (ap walk_of f) ∙ e))) ∙ onward_fault _ e
+  reference_stop {why} e = walk_then (number (below 4) numbers at) _ (λ q. Err why) (λ a q f. absurd (clash (sym (ap walk_of f) ∙ e))) ∙ onward_fault _ e
 
-  pub reference_go : {q kind : ℕ} → walk_of (number (below 4) numbers at) ≡ At q → kind ≡ get_or numbers at 0
+  pub reference_go : {q kind : ℕ} → walk_of (number (below 4) numbers at) ≡ Ok q → kind ≡ get_or numbers at 0
       → walk_of (reference_at symbols numbers seen at) ≡ walk_of (parts_at kind symbols numbers q)
   unfolding reference_at
   reference_go {q} {kind} e k =
@@ -64,6 +62,6 @@ module _ (symbols : ℕ) (numbers seen : List ℕ) (at : ℕ) where
 
 -- a list, by its count
 module _ (rule : ListRule) (numbers : List ℕ) (at : ℕ) where
-  pub list_by : {q n : ℕ} → walk_of (number (count 16384 0 rule.counts) numbers at) ≡ At q → n ≡ get_or numbers at 0
+  pub list_by : {q n : ℕ} → walk_of (number (count 16384 0 rule.counts) numbers at) ≡ Ok q → n ≡ get_or numbers at 0
       → walk_of (list rule numbers at) ≡ walk_of (many rule.row firsts n [] q)
   list_by {q} {n} e k = let g = at_got (number (count 16384 0 rule.counts) numbers at) q e in ap walk_of (list_go rule numbers at g.1 ((number_got _ numbers at g.1).same ∙ sym k))

@@ -1,8 +1,9 @@
 -- The graph file (docs/GRAPH.md): what stands where, and within which limits.
-use Rattle.std.specs.Prelude.{ℕ, zero, suc, ◌+◌, ◌-◌, Bool, true, false, List, [], ◌∷◌, ◌++◌, map, ltb, leb, eqb, length, get_or}
+use Rattle.std.specs.Prelude.{ℕ, ◌+◌, ◌-◌, Bool, true, false, List, [], ◌∷◌, ◌++◌, map, ltb, eqb, length, get_or}
 use Rattle.graph_format.specs.declared.Header.{Header}
 use Rattle.graph_format.specs.declared.Left.{Left}
 use Rattle.rows.specs.Walk.{Parsed, got, fault, and_then, Rule, value, count, below, any, number, cells, many, ListRule, list, plain_row, plain, distinct, Item, no_item, item}
+use Rattle.rows.specs.refusal_crate.declared.Refusal.TheVariants.{OutOfRange}
 
 -- Header: options, runtime module, counts of modules, symbols, statements, entries, helpers; then the helper symbols.
 unfoldable pub header_rules : List Rule
@@ -181,12 +182,12 @@ statements_at h modules numbers at = many (module_statements h modules numbers) 
 unfoldable pub related_module_at : Header → List Item → List ℕ → ℕ → Parsed ℕ
 related_module_at h modules numbers at =
     and_then (number (below h.modules) numbers at)
-    (λ m q. elim (eqb (kind_of (get_or modules m no_item)) 1) [ true ↦ got m q | false ↦ fault 3 at ])
+    (λ m q. elim (eqb (kind_of (get_or modules m no_item)) 1) [ true ↦ got m q | false ↦ fault (OutOfRange at) ])
 
 unfoldable pub related_import_record_at : List (List ℕ) → List ℕ → ℕ → Parsed ℕ
 related_import_record_at import_records numbers at =
     and_then (number (below (length import_records)) numbers at)
-    (λ r q. elim (eqb (get_or (get_or import_records r []) 0 0) 0) [ true ↦ fault 3 at | false ↦ got r q ])
+    (λ r q. elim (eqb (get_or (get_or import_records r []) 0 0) 0) [ true ↦ fault (OutOfRange at) | false ↦ got r q ])
 
 unfoldable pub related_at : Header → List Item → List ℕ → List ℕ → ℕ → Parsed (List ℕ)
 related_at h modules numbers seen at =

@@ -3,3 +3,4 @@
 pub mod Format
 -- The crates below, for the crates above.
 pub use Rattle.rows.specs as rows_crate
+pub use Rattle.rows.specs.refusal_crate

@@ -7,7 +7,6 @@ use native.Mathlib.Omega.{arith}
 use borrow.Author.Count.{below_more}
 use lib.ListN.{length, get_or, set, get_or-append}
 use lib.Seq.{get_or-set_same, get_or-set_other, get_or_at}
-use Rattle.tables.specs.rows_crate.declared.Walk.TheVariants.{At, Fault}
 use Rattle.tables.specs.rows_crate.Walk.{got, many, walk_of, Item, no_item}
 use Rattle.tables.proofs.rows_crate.Walks.{fault_is}
 use Rattle.tables.proofs.rows_crate.Many.{Going, going_start, going_step, going_stop, going_done}
@@ -21,6 +20,8 @@ use Rattle.tables.specs.Layout.{sizes, start_of, first_statements, statement_pla
 use Rattle.tables.proofs.Sections.{start_next, section_has, word_kept, kept_none, kept_both, kept_less, kept_set, laid_kept}
 use Rattle.graph_tables.proofs.Facts.{nine_fits, modules_long}
 use Rattle.graph_tables.proofs.Sections.{placed_section}
+use Rattle.std.specs.Prelude.{Ok, Err}
+use Rattle.tables.specs.refusal_crate.declared.Refusal.{Refusal}
 
 -- one module more
 pub first_step : (ms : List Item) (m : ℕ) → m < length ms → first_of ms (m + 1) ≡ first_of ms m + statements_of (get_or ms m no_item)
@@ -157,12 +158,12 @@ module _ {h : Header} {ms : List Item} {numbers : List ℕ} {at₀ : ℕ} {befor
           }
 
   -- after a fault nothing is said of the sections
-  pub outer_stop : {n p : ℕ} {later : List ℕ} → m < h.modules → walk_of (module_statements h ms numbers m q) ≡ Fault n p → Kept (start_of h at_statements + first) tables later
-      → (Fault n p ≡ walk_of (statements_at h ms numbers at₀)) × StatementsFilled ms (statements_at h ms numbers at₀) (first_statements later) (statement_places later) × Kept (start_of h at_first_statements) before later
+  pub outer_stop : {why : Refusal} {later : List ℕ} → m < h.modules → walk_of (module_statements h ms numbers m q) ≡ Err why → Kept (start_of h at_statements + first) tables later
+      → (Err why ≡ walk_of (statements_at h ms numbers at₀)) × StatementsFilled ms (statements_at h ms numbers at₀) (first_statements later) (statement_places later) × Kept (start_of h at_first_statements) before later
   unfolding statements_at
-  outer_stop {n} {p} l e q' =
+  outer_stop {why} l e q' =
       let w = going_stop _ _ _ _ _ o.going l e in
-      (w, rw (fault_is _ n p (sym w)) tt, kept_both o.kept (kept_less (omega (arith, apart h)) q'))
+      (w, rw (fault_is _ why (sym w)) tt, kept_both o.kept (kept_less (omega (arith, apart h)) q'))
 
   module _ (t : Laid h at_verdicts before) (fit : (j : ℕ) → first_of ms j ≤ h.statements) (few : h.modules ≤ length ms) (l : h.modules ≤ m) where
     laid : Laid h at_verdicts tables
@@ -183,7 +184,7 @@ module _ {h : Header} {ms : List Item} {numbers : List ℕ} {at₀ : ℕ} {befor
         let u : first_of ms j + length (get_or done j []) ≤ h.statements = omega (arith, o.longs j c, first_step ms j (omega (arith, c, few, o.going.low)), fit (j + 1)) in
         placed_section laid 3 (omega arith) (first_of ms j) (get_or done j []) u (o.places j c)
 
-    pub outer-end : (At q ≡ walk_of (statements_at h ms numbers at₀)) × StatementsFilled ms (statements_at h ms numbers at₀) (first_statements tables) (statement_places tables) × Kept (start_of h at_first_statements) before tables
+    pub outer-end : (Ok q ≡ walk_of (statements_at h ms numbers at₀)) × StatementsFilled ms (statements_at h ms numbers at₀) (first_statements tables) (statement_places tables) × Kept (start_of h at_first_statements) before tables
     unfolding walk_of
     outer-end = (sym (ap walk_of done_all), rw done_all (record { firsts = firsts; places = places }), o.kept)
 

@@ -1,21 +1,20 @@
 -- What is known of a module that was read, and where its numbers stand.
 -- The same of a symbol.
-use Prim.Native.Nat.{ℕ, zero, suc, ◌+◌, ◌-◌, ◌*◌, ◌<◌, ◌≤◌}
-use mathlib.Core.Path.{◌≡◌, refl, ap, ◌∙◌, sym}
-use mathlib.Core.List.{List, [], ◌∷◌, ◌++◌, map}
-use native.Mathlib.Nat.{add-zero, zero-add}
+use Prim.Native.Nat.{ℕ, ◌+◌, ◌-◌, ◌*◌, ◌<◌, ◌≤◌}
+use mathlib.Core.Path.{◌≡◌, refl, ap, sym}
+use mathlib.Core.List.{List, [], ◌∷◌, map}
 use native.Mathlib.Omega.{arith}
 use lib.Dec.{eqb}
 use mathlib.Core.Bool.{Bool, true, false}
 use lib.ListN.{length, get_or}
-use Rattle.tables.specs.rows_crate.Walk.{Parsed, got, fault, and_then, list, lists, plain, below, Item, no_item, item}
-use Rattle.tables.proofs.rows_crate.Cells.{then_got, Cells}
-use Rattle.tables.proofs.rows_crate.Items.{One, many-length, many_each, ItemRead, item_got, ListRead, list_got, rows_each, plain_plain, lists_first}
+use Rattle.tables.specs.rows_crate.Walk.{got, plain, below, Item, no_item}
+use Rattle.tables.proofs.rows_crate.Cells.{Cells}
+use Rattle.tables.proofs.rows_crate.Items.{many-length, many_each, ItemRead, item_got, ListRead, list_got, rows_each, plain_plain, lists_first}
 use Rattle.tables.specs.graph_format_crate.declared.Header.{Header}
 use Rattle.tables.specs.graph_format_crate.declared.Left.{Left}
-use Rattle.tables.specs.graph_format_crate.Format.{header_of, module_at, less_module, modules_at, statement_limit, module_rules, import_lists, export_lists, name_lists, module_lists, import_records_of, statements_of, symbol_rules, symbol_lists, symbol_at, symbols_at}
-use Rattle.graph_tables.specs.Tables.{header_in, items_of, modules_read, modules_in, symbols_read, symbols_in}
-use Rattle.graph_tables.specs.Places.{Placed, ModuleTable, SymbolTable}
+use Rattle.tables.specs.graph_format_crate.Format.{module_at, less_module, modules_at, statement_limit, module_rules, import_lists, module_lists, import_records_of, statements_of, symbol_rules, symbol_lists, symbol_at, symbols_at}
+use Rattle.graph_tables.specs.Tables.{header_in, modules_read, modules_in, symbols_read, symbols_in}
+use Rattle.graph_tables.specs.Places.{ModuleTable, SymbolTable}
 
 -- a module that was read at its place
 pub record ModuleRead (h : Header) (numbers : List ℕ) (x : Item) : Type 0 where

@@ -6,13 +6,14 @@ use native.Mathlib.Omega.{arith}
 use borrow.Author.Count.{below_more}
 use lib.ListN.{length, get_or, set, get_or-append}
 use lib.Seq.{get_or-set_same, get_or-set_other, get_or_at}
-use Rattle.tables.specs.rows_crate.declared.Walk.TheVariants.{At, Fault}
 use Rattle.tables.specs.rows_crate.Walk.{Parsed, got, many, walk_of, Item, no_item}
 use Rattle.tables.proofs.rows_crate.Walks.{fault_is}
 use Rattle.tables.proofs.rows_crate.Many.{Going, going_start, going_step, going_stop, going_done}
 use Rattle.tables.specs.Layout.{Kept}
 use Rattle.tables.proofs.Sections.{kept_none, kept_set}
 use Rattle.graph_tables.specs.Places.{Filled}
+use Rattle.std.specs.Prelude.{Ok, Err}
+use Rattle.tables.specs.refusal_crate.declared.Refusal.{Refusal}
 
 -- the last of the items, and those before it
 module _ (done : List Item) (x : Item) (k : ℕ) (long : length done ≡ k) where
@@ -53,13 +54,13 @@ module _ {S : Type 0} {step : S → ℕ → Parsed Item} {next : S → Item → 
       now-at = rw z (get_or-set_same table (base + k) q 0 (filling_inside room h) ∙ sym is ∙ ap (λ y. y.place) (sym (last done x k f.going.long)))
 
   -- after a fault nothing is said of the places
-  pub filling_stop : {n p : ℕ} → k < count → walk_of (step s q) ≡ Fault n p
-      → (Fault n p ≡ walk_of (many step next count s₀ at₀)) × Filled (many step next count s₀ at₀) base table × Kept base before table
-  filling_stop {n} {p} h e =
+  pub filling_stop : {why : Refusal} → k < count → walk_of (step s q) ≡ Err why
+      → (Err why ≡ walk_of (many step next count s₀ at₀)) × Filled (many step next count s₀ at₀) base table × Kept base before table
+  filling_stop {why} h e =
       let w = going_stop step next count s₀ at₀ f.going h e in
-      (w, rw (fault_is (many step next count s₀ at₀) n p (sym w)) tt, f.kept)
+      (w, rw (fault_is (many step next count s₀ at₀) why (sym w)) tt, f.kept)
 
-  pub filling_end : count ≤ k → (At q ≡ walk_of (many step next count s₀ at₀)) × Filled (many step next count s₀ at₀) base table × Kept base before table
+  pub filling_end : count ≤ k → (Ok q ≡ walk_of (many step next count s₀ at₀)) × Filled (many step next count s₀ at₀) base table × Kept base before table
   unfolding walk_of
   filling_end h =
       let w = going_done step next count s₀ at₀ f.going h in

@@ -1,29 +1,29 @@
 -- Reading one item, by its leading numbers.
-use Prim.Native.Nat.{ℕ, zero, suc, ◌+◌, ◌-◌, ◌*◌, ◌<◌, ◌≤◌}
-use mathlib.Core.Path.{◌≡◌, refl, ap, ◌∙◌, sym}
-use mathlib.Core.List.{List, [], ◌∷◌, ◌++◌, map}
+use Prim.Native.Nat.{ℕ, ◌<◌}
+use mathlib.Core.Path.{◌≡◌, ap, ◌∙◌, sym}
+use mathlib.Core.List.{List}
 use native.Mathlib.Nat.{add-zero}
 use native.Mathlib.Omega.{arith}
 use lib.ListN.{length, get_or}
-use Rattle.tables.specs.rows_crate.declared.Walk.{Walk}
-use Rattle.tables.specs.rows_crate.declared.Walk.TheVariants.{At, Fault}
-use Rattle.tables.specs.rows_crate.Walk.{Parsed, got, fault, and_then, Rule, ListRule, cells, list, lists, walk_of, Item, no_item, item}
-use Rattle.tables.proofs.rows_crate.Walks.{at_got, fault_is, walk-map}
-use Rattle.tables.proofs.rows_crate.Cells.{Cells, cells_got}
-use Rattle.tables.proofs.rows_crate.Items.{ItemRead, item_got}
+use Rattle.tables.specs.rows_crate.Walk.{got, fault, and_then, Rule, ListRule, cells, lists, walk_of, Item, no_item, item}
+use Rattle.tables.proofs.rows_crate.Walks.{fault_is, walk-map}
+use Rattle.tables.proofs.rows_crate.Cells.{cells_got}
+use Rattle.tables.proofs.rows_crate.Items.{item_got}
 use Rattle.tables.specs.graph_format_crate.declared.Header.{Header}
 use Rattle.tables.specs.graph_format_crate.Format.{symbol_rules, symbol_lists, symbol_at, statements_of}
+use Rattle.std.specs.Prelude.{Err}
+use Rattle.tables.specs.refusal_crate.declared.Refusal.{Refusal}
 
 module _ (rules : List Rule) (rest : List ℕ → List ListRule) (numbers : List ℕ) (at : ℕ) where
   pub item_go : {head : List ℕ} {q : ℕ} → cells rules numbers at ≡ got head q → walk_of (item rules rest numbers at) ≡ walk_of (lists (rest head) numbers q)
   unfolding item and_then
   item_go {head} {q} e = rw (e, item, and_then) (walk-map (lists (rest head) numbers q) (λ ls. record { place = at; head = head; rows = ls }))
 
-  pub item_stop : {n p : ℕ} → walk_of (cells rules numbers at) ≡ Fault n p → walk_of (item rules rest numbers at) ≡ Fault n p
+  pub item_stop : {why : Refusal} → walk_of (cells rules numbers at) ≡ Err why → walk_of (item rules rest numbers at) ≡ Err why
   unfolding item and_then walk_of
-  item_stop {n} {p} e = ap walk_of (stopped (fault_is _ n p e))
+  item_stop {why} e = ap walk_of (stopped (fault_is _ why e))
     where
-      stopped : cells rules numbers at ≡ fault n p → item rules rest numbers at ≡ fault n p
+      stopped : cells rules numbers at ≡ fault why → item rules rest numbers at ≡ fault why
       stopped f = rw (f, item, and_then)
 
   pub item_place : {x : Item} {q : ℕ} → item rules rest numbers at ≡ got x q → x.place ≡ at
@@ -31,7 +31,7 @@ module _ (rules : List Rule) (rest : List ℕ → List ListRule) (numbers : List
 
 -- a symbol, by its owner
 module _ (h : Header) (ms : List Item) (numbers : List ℕ) (i at : ℕ) where
-  pub symbol_stop : {n p : ℕ} → walk_of (cells (symbol_rules h) numbers at) ≡ Fault n p → walk_of (symbol_at h ms numbers i at) ≡ Fault n p
+  pub symbol_stop : {why : Refusal} → walk_of (cells (symbol_rules h) numbers at) ≡ Err why → walk_of (symbol_at h ms numbers i at) ≡ Err why
   unfolding symbol_at
   symbol_stop e = item_stop _ _ numbers at e
 

@@ -7,3 +7,4 @@ pub mod Places
 pub use Rattle.tables.specs as tables_crate
 pub use Rattle.tables.specs.graph_format_crate
 pub use Rattle.tables.specs.rows_crate
+pub use Rattle.tables.specs.refusal_crate

@@ -10,7 +10,7 @@ Placed base items table = (i : ℕ) → i < length items → get_or table (base 
 -- of items that were read
 abbrev pub Filled : Parsed (List Item) → ℕ → List ℕ → Type 0
 Filled (got items q) base table = Placed base items table
-Filled (fault n p) base table = Unit {0}
+Filled (fault why) base table = Unit {0}
 
 -- the table of the modules, once they are read without a fault
 pub record ModuleTable (numbers table : List ℕ) : Type 0 where
@@ -33,7 +33,7 @@ pub record StatementsPlaced (modules : List Item) (statements : List (List Item)
 
 abbrev pub StatementsFilled : List Item → Parsed (List (List Item)) → List ℕ → List ℕ → Type 0
 StatementsFilled modules (got statements q) first table = StatementsPlaced modules statements first table
-StatementsFilled modules (fault n p) first table = Unit {0}
+StatementsFilled modules (fault why) first table = Unit {0}
 
 pub record StatementTable (numbers first table : List ℕ) : Type 0 where
   pub end : ℕ

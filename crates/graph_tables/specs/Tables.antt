@@ -1,5 +1,6 @@
 -- The parts of a graph, and tables of where each module, symbol, statement and entry begins.
 use Rattle.std.specs.Prelude.{ℕ, zero, suc, ◌+◌, List, [], ◌∷◌, take}
+use Rattle.tables.specs.refusal_crate.Number.{place_of}
 use Rattle.tables.specs.rows_crate.Walk.{Parsed, got, fault, Item}
 use Rattle.tables.specs.graph_format_crate.declared.Header.{Header}
 use Rattle.tables.specs.graph_format_crate.Format.{header_of, modules_at, symbols_at, statements_at, entries_at, statements_of}
@@ -7,11 +8,11 @@ use Rattle.tables.specs.graph_format_crate.Format.{header_of, modules_at, symbol
 -- what was read, and nothing where there was a fault; where reading ended
 unfoldable pub items_of : {A : Type 0} → Parsed (List A) → List A
 items_of (got xs q) = xs
-items_of (fault n p) = []
+items_of (fault why) = []
 
 unfoldable pub end_of : {A : Type 0} → Parsed A → ℕ
 end_of (got x q) = q
-end_of (fault n p) = p
+end_of (fault why) = place_of why
 
 -- the header of a graph; its modules, behind the header and the helper symbols; and each part behind the one before it
 unfoldable pub header_in : List ℕ → Header

@@ -11,8 +11,8 @@ ghost use Rattle.tables.specs.Layout.{start_of, Laid, Kept, module_places, first
 // The crates below, for the crates above, which list this one alone.
 pub use tables as tables_crate;
 use tables::graph_format_crate::{Header, Left};
-use tables::rows_crate::Walk;
-pub use tables::{graph_format_crate, rows_crate};
+use tables::refusal_crate::Refusal;
+pub use tables::{graph_format_crate, refusal_crate, rows_crate};
 use tables::{FIRST_STATEMENT_OF, MODULES, STATEMENTS, SYMBOLS};
 
 // Number i of the twelve leading numbers of module m.
@@ -52,73 +52,63 @@ pub fn import_record_number(
 }
 
 // Reads the modules from `at` on, and fills their section.
-pub fn modules(numbers: &[u32], at: usize, h: Header, tables: &mut [usize]) -> Walk
+pub fn modules(
+    numbers: &[u32],
+    at: usize,
+    h: Header,
+    tables: &mut [usize],
+) -> Result<usize, Refusal>
     requires laid { Laid h at_verdicts tables.old }
     requires symbols_bound { (h.symbols < 4294967296) × (h.modules < 4294967296) × (h.statements < 4294967296) }
     ensures { (result ≡ walk_of (modules_at h numbers.now at)) × Filled (modules_at h numbers.now at) (start_of h at_modules) tables.new × Kept (start_of h at_modules) tables.old tables.new }
 {
     let base = tables[MODULES];
-    let mut k: usize = 0;
     let mut q = at;
     let mut left = h.statements;
-    while k < h.modules {
+    for k in 0..h.modules {
         let rest = Left {
             statements: left,
             modules: h.modules - k,
         };
-        match tables::graph_format_crate::module(numbers, q, h, rest) {
-            Walk::Fault(n, p) => {
-                return Walk::Fault(n, p);
-            }
-            Walk::At(next) => {
-                tables[base + k] = q;
-                left = left - tables::rows_crate::wide(numbers[q + 9]);
-                q = next;
-            }
-        }
-        k += 1;
+        let next = tables::graph_format_crate::module(numbers, q, h, rest)?;
+        tables[base + k] = q;
+        left = left - tables::rows_crate::wide(numbers[q + 9]);
+        q = next;
     }
-    Walk::At(q)
+    Ok(q)
 }
 
 // A symbol.
-fn symbol(numbers: &[u32], module_at: &[usize], at: usize, h: Header) -> Walk
+fn symbol(numbers: &[u32], module_at: &[usize], at: usize, h: Header) -> Result<usize, Refusal>
     requires module_table { ModuleTable numbers.now module_at.now }
     requires h_value { (h ≡ header_in numbers.now) × (h.symbols < 4294967296) }
     ensures { result ≡ walk_of (symbol_at h (modules_in numbers.now) numbers.now 0 at) }
 {
-    match tables::graph_format_crate::symbol_head(numbers, at, h) {
-        Walk::Fault(n, p) => Walk::Fault(n, p),
-        Walk::At(a) => {
-            let owner = tables::rows_crate::wide(numbers[at]);
-            let count = module_number(numbers, module_at, owner, 9);
-            tables::graph_format_crate::symbol_lists(numbers, a, h, count)
-        }
-    }
+    let a = tables::graph_format_crate::symbol_head(numbers, at, h)?;
+    let owner = tables::rows_crate::wide(numbers[at]);
+    let count = module_number(numbers, module_at, owner, 9);
+    tables::graph_format_crate::symbol_lists(numbers, a, h, count)
 }
 
 // Reads the symbols from `at` on, and fills their section.
-pub fn symbols(numbers: &[u32], at: usize, h: Header, tables: &mut [usize]) -> Walk
+pub fn symbols(
+    numbers: &[u32],
+    at: usize,
+    h: Header,
+    tables: &mut [usize],
+) -> Result<usize, Refusal>
     requires laid { Laid h at_verdicts tables.old × ModuleTable numbers.now (module_places tables.old) }
     requires h_value { (h ≡ header_in numbers.now) × (h.symbols < 4294967296) }
     ensures { (result ≡ walk_of (symbols_at h (modules_in numbers.now) numbers.now at)) × Filled (symbols_at h (modules_in numbers.now) numbers.now at) (start_of h at_symbols) tables.new × Kept (start_of h at_symbols) tables.old tables.new }
 {
     let base = tables[SYMBOLS];
-    let mut k: usize = 0;
     let mut q = at;
-    while k < h.symbols {
-        match symbol(numbers, tables::section(tables, MODULES), q, h) {
-            Walk::Fault(n, p) => {
-                return Walk::Fault(n, p);
-            }
-            Walk::At(next) => {
-                tables[base + k] = q;
-                q = next;
-            }
-        }
-        k += 1;
+    for k in 0..h.symbols {
+        let next = symbol(numbers, tables::section(tables, MODULES), q, h)?;
+        tables[base + k] = q;
+        q = next;
     }
-    Walk::At(q)
+    Ok(q)
 }
 
 // Number i of the six leading numbers of symbol s.
@@ -140,52 +130,41 @@ fn module_statements(
     imports: usize,
     first: usize,
     tables: &mut [usize],
-) -> Walk
+) -> Result<usize, Refusal>
     requires { first + count ≤ length tables.old }
     ensures { (result ≡ walk_of (many (statement_at h imports numbers.now) following count 0 at)) × Filled (many (statement_at h imports numbers.now) following count 0 at) first tables.new × Kept first tables.old tables.new }
 {
-    let mut k: usize = 0;
     let mut q = at;
-    while k < count {
-        match tables::graph_format_crate::statement(numbers, q, h, imports) {
-            Walk::Fault(n, p) => {
-                return Walk::Fault(n, p);
-            }
-            Walk::At(next) => {
-                tables[first + k] = q;
-                q = next;
-            }
-        }
-        k += 1;
+    for k in 0..count {
+        let next = tables::graph_format_crate::statement(numbers, q, h, imports)?;
+        tables[first + k] = q;
+        q = next;
     }
-    Walk::At(q)
+    Ok(q)
 }
 
 // Reads the statements of all modules from `at` on, and fills both sections: each module's first statement, and the statements' places.
-pub fn statements(numbers: &[u32], at: usize, h: Header, tables: &mut [usize]) -> Walk
+pub fn statements(
+    numbers: &[u32],
+    at: usize,
+    h: Header,
+    tables: &mut [usize],
+) -> Result<usize, Refusal>
     requires laid { Laid h at_verdicts tables.old × ModuleTable numbers.now (module_places tables.old) }
     requires h_value { h ≡ header_in numbers.now }
     ensures { (result ≡ walk_of (statements_at h (modules_in numbers.now) numbers.now at)) × StatementsFilled (modules_in numbers.now) (statements_at h (modules_in numbers.now) numbers.now at) (first_statements tables.new) (statement_places tables.new) × Kept (start_of h at_first_statements) tables.old tables.new }
 {
     let firsts = tables[FIRST_STATEMENT_OF];
     let places = tables[STATEMENTS];
-    let mut m: usize = 0;
     let mut q = at;
     let mut first: usize = 0;
-    while m < h.modules {
+    for m in 0..h.modules {
         let count = module_number(numbers, tables::section(tables, MODULES), m, 9);
         let imports = import_record_count(numbers, tables::section(tables, MODULES), m);
-        match module_statements(numbers, q, h, count, imports, places + first, tables) {
-            Walk::Fault(n, p) => {
-                return Walk::Fault(n, p);
-            }
-            Walk::At(next) => {
-                tables[firsts + m] = first;
-                q = next;
-            }
-        }
+        let next = module_statements(numbers, q, h, count, imports, places + first, tables)?;
+        tables[firsts + m] = first;
+        q = next;
         first += count;
-        m += 1;
     }
-    Walk::At(q)
+    Ok(q)
 }

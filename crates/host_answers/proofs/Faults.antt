@@ -1,6 +1,6 @@
 -- The refusals of what reads numbers from the left (`rows`): 2, 3 or 4, whatever is read.
 use Prim.Native.Nat.{ℕ, zero, suc}
-use mathlib.Core.Path.{◌≡◌, refl}
+use mathlib.Core.Path.{◌≡◌, refl, subst}
 use mathlib.Core.Bool.{Bool, true, false}
 use mathlib.Core.List.{List, [], ◌∷◌, map}
 use native.Mathlib.Omega.{arith}
@@ -8,24 +8,27 @@ use lib.Dec.{ltb, leb}
 use lib.ListN.{length, get_or}
 use Rattle.determine_side_effects.specs.rows_crate.Walk.{Parsed, got, fault, and_then, Rule, value, count, below, within, obeys, number, cells, many, ListRule, list, firsts, plain_row, repeated, distinct_row, lists, item}
 use Rattle.host_answers.specs.Numbers.{OneOf}
+use Rattle.determine_side_effects.specs.refusal_crate.declared.Refusal.{Refusal}
+use Rattle.determine_side_effects.specs.refusal_crate.declared.Refusal.TheVariants.{OverLimit, OutOfRange, WrongLength}
+use Rattle.determine_side_effects.specs.refusal_crate.Number.{number_of}
 
 -- where reading ends in a fault, its number is one of these
 pub record Faults {A : Type 0} (x : Parsed A) : Type 0 where
-  pub numbers : (n p : ℕ) → x ≡ fault n p → OneOf 2 4 n
+  pub numbers : (why : Refusal) → x ≡ fault why → OneOf 2 4 (number_of why)
 
 pub of_got : {A : Type 0} {a : A} {q : ℕ} → Faults (got a q)
-of_got = record { numbers = λ n p e. let z : ◌≡◌ {A = ℕ} 0 1 = cc in absurd (omega arith) }
+of_got = record { numbers = λ why e. cc }
 
-pub of_fault : {A : Type 0} {m q : ℕ} → OneOf 2 4 m → Faults {A = A} (fault m q)
-of_fault {A} {m} {q} o = record { numbers = λ n p e. let i : m ≡ n = cc in record { least = omega (arith, o.least, i); most = omega (arith, o.most, i) } }
+pub of_fault : {A : Type 0} {why : Refusal} → OneOf 2 4 (number_of why) → Faults {A = A} (fault why)
+of_fault {A} {why} o = record { numbers = λ other e. let i : why ≡ other = cc in subst (λ (r : Refusal). OneOf 2 4 (number_of r)) i o }
 
-pub too_many : {A : Type 0} {q : ℕ} → Faults {A = A} (fault 2 q)
+pub too_many : {A : Type 0} {q : ℕ} → Faults {A = A} (fault (OverLimit q))
 too_many = of_fault (record { least = omega arith; most = omega arith })
 
-pub no_such : {A : Type 0} {q : ℕ} → Faults {A = A} (fault 3 q)
+pub no_such : {A : Type 0} {q : ℕ} → Faults {A = A} (fault (OutOfRange q))
 no_such = of_fault (record { least = omega arith; most = omega arith })
 
-pub cut_short : {A : Type 0} {q : ℕ} → Faults {A = A} (fault 4 q)
+pub cut_short : {A : Type 0} {q : ℕ} → Faults {A = A} (fault (WrongLength q))
 cut_short = of_fault (record { least = omega arith; most = omega arith })
 
 -- one after another, and by a test
@@ -35,7 +38,7 @@ of_then {A} {B} {x} {k} f h = go x f
   where
     go : (y : Parsed A) → Faults y → Faults (and_then y k)
     go (got a q) i = h a q
-    go (fault n p) i = of_fault (i.numbers n p refl)
+    go (fault why) i = of_fault (i.numbers why refl)
 
 pub by_test : {X : Type 0} (P : X → Type 0) (b : Bool) {x y : X} → P x → P y → P (elim b [ true ↦ x | false ↦ y ])
 by_test P true f h = f

@@ -11,7 +11,6 @@ use lib.Seq.{take_at, drop_at, drop-append_seam}
 use Rattle.leb128.specs.Read.{all, answer_of as answer_of_read, read_of, lent_of}
 use Rattle.determine_side_effects.specs.rows_crate.Walk.{Parsed, got, fault}
 use Rattle.bit_row.specs.Row.{bytes_for}
-use Rattle.determine_side_effects.specs.graph_crate.declared.Checked.TheVariants.{Accepted, Refused}
 use Rattle.determine_side_effects.specs.graph_crate.Check.{Graph, graph_in, check_of, answer_of}
 use Rattle.determine_side_effects.specs.graph_access_crate.Words.{tabulate}
 use Rattle.determine_side_effects.specs.Effects.{last_verdicts}
@@ -30,7 +29,6 @@ use Rattle.tree_shaking.specs.Rounds.{final_entries}
 use Rattle.dead_records.specs.Dead.{record_count, dead_record, dead_row}
 use Rattle.run_rows.specs.Run.{run_of, helpers_row, entries_row}
 use Rattle.run_parts.specs.Operation as run
-use Rattle.judge_parts.specs.declared.Judged.TheVariants.{Passed}
 use Rattle.judge_parts.specs.Operation.{judge_of}
 use Rattle.run_starts.specs.Operation as starts
 use Rattle.closed_choices.specs.Choice.{HasLine}
@@ -54,6 +52,8 @@ use Rattle.judged_starts.proofs.OfStarts.{starts_given}
 use Rattle.answers.specs.declared.DrainAnswer.{DrainAnswer}
 use Rattle.answers.specs.declared.ReadAnswer.{ReadAnswer}
 use Rattle.answers.specs.declared.Refusal.{Refusal}
+use Rattle.determine_side_effects.specs.refusal_crate.declared.Refusal.{Refusal as Why}
+use Rattle.determine_side_effects.specs.refusal_crate.declared.Refusal.TheVariants.{NoRoom}
 use Rattle.answers.specs.declared.RunAnswer.{RunAnswer}
 use Rattle.answers.specs.Answers.{read_answer_of, judge_answer_of}
 use Rattle.host_answers.specs.Answered.{row_of_run, row_of_drain, DrainAnswers, EveryRead, EveryCheck, EveryEffects, EveryRun, EveryRunReturns, EveryRunDeadAtEnd, EveryRunSettles, EveryRunSpare, EveryJudge, EveryDrainJudged, EveryRunJudged, EveryStartsJudged, EveryDrain}
@@ -62,6 +62,7 @@ use Rattle.host_answers.proofs.Refusals.{reads_of, effects_in, judges_of}
 use Rattle.host_answers.proofs.NotRefused.{read_whole, accepted_exactly, effects_passed, passed_exactly}
 use Rattle.host_answers.proofs.OfRuns.{totals_in, drain_kept, RunKept, run_kept, starts_kept}
 use Rattle.host_answers.proofs.ByRow.{row_of_run_lem, row_of_drain_lem}
+use Rattle.std.specs.Prelude.{Result, Ok, Err}
 
 -- A file and a graph ---------------------------------------------------------------------------------------------------------------------
 
@@ -88,23 +89,23 @@ check_call numbers = accepted_exactly (check_of numbers) (check_faults numbers)
 
 -- Verdicts -------------------------------------------------------------------------------------------------------------------------------
 
-effects_refused : (n p : ℕ) → Refused n p ≡ Accepted → ⊥
-effects_refused n p e = let z : ◌≡◌ {A = ℕ} 0 1 = cc in omega arith
+effects_refused : (why : Why) → ◌≡◌ {A = Result Unit Why} (Err why) (Ok tt) → ⊥
+effects_refused why e = cc
 
-effects_accepted : (numbers : List ℕ) (room : ℕ) → effects_answer numbers room ≡ Accepted → answer_of (check_of numbers) ≡ Accepted
+effects_accepted : (numbers : List ℕ) (room : ℕ) → effects_answer numbers room ≡ Ok tt → answer_of (check_of numbers) ≡ Ok tt
 unfolding effects_answer answer_of
 effects_accepted numbers room e = go (check_of numbers) refl
   where
-    go : (x : Parsed Graph) → check_of numbers ≡ x → answer_of (check_of numbers) ≡ Accepted
+    go : (x : Parsed Graph) → check_of numbers ≡ x → answer_of (check_of numbers) ≡ Ok tt
     go (got g q) t = ap answer_of t
-    go (fault n p) t = absurd (effects_refused n p (rw (t, effects_answer) at e))
+    go (fault why) t = absurd (effects_refused why (rw (t, effects_answer) at e))
 
-verdicts_first : (numbers lent : List ℕ) → effects_answer numbers (length lent) ≡ Accepted → effects_row numbers lent ≡ last_verdicts (graph_in numbers) ++ drop (graph_in numbers).header.modules lent
+verdicts_first : (numbers lent : List ℕ) → effects_answer numbers (length lent) ≡ Ok tt → effects_row numbers lent ≡ last_verdicts (graph_in numbers) ++ drop (graph_in numbers).header.modules lent
 unfolding graph_in
 verdicts_first numbers lent e = go (ltb (length lent) (graph_in numbers).header.modules) refl
   where
     go : (b : Bool) → ltb (length lent) (graph_in numbers).header.modules ≡ b → effects_row numbers lent ≡ last_verdicts (graph_in numbers) ++ drop (graph_in numbers).header.modules lent
-    go true t = absurd (effects_refused 5 0 (short_answer numbers (effects_accepted numbers (length lent) e) (length lent) (ltb-true _ _ t) ∙ e))
+    go true t = absurd (effects_refused NoRoom (short_answer numbers (effects_accepted numbers (length lent) e) (length lent) (ltb-true _ _ t) ∙ e))
     go false t = sym (long_row numbers (effects_accepted numbers (length lent) e) lent (ltb-false _ _ t))
 
 pub effects_call : EveryEffects
@@ -136,7 +137,7 @@ run_call_dead_at_end numbers a lent after k z on =
 -- Records --------------------------------------------------------------------------------------------------------------------------------
 
 -- the number 0 from a record that is passed
-zero_of : (numbers given row : List ℕ) → judge_of numbers given row ≡ Passed → (judge_answer_of (judge_of numbers given row)).number ≡ 0
+zero_of : (numbers given row : List ℕ) → judge_of numbers given row ≡ Ok tt → (judge_answer_of (judge_of numbers given row)).number ≡ 0
 zero_of numbers given row e = (passed_exactly (judge_of numbers given row) (judges_of numbers given row)).1 e
 
 pub judge_call : EveryJudge

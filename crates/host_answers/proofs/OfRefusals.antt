@@ -7,7 +7,6 @@ use lib.Dec.{ltb}
 use lib.ListN.{length, drop}
 use Rattle.leb128.specs.Read.{Decoded, all, refused, answer_of, read_of, lent_of}
 use Rattle.determine_side_effects.specs.rows_crate.Walk.{Parsed, got, fault}
-use Rattle.determine_side_effects.specs.graph_crate.declared.Checked.TheVariants.{Accepted, Refused}
 use Rattle.determine_side_effects.specs.graph_crate.Check.{Graph, check_of}
 use Rattle.determine_side_effects.specs.Effects.{last_verdicts}
 use Rattle.determine_side_effects.specs.Operation.{effects_answer, effects_row}
@@ -21,11 +20,13 @@ use Rattle.answers.specs.declared.RunAnswer.{RunAnswer}
 use Rattle.answers.specs.Answers.{read_answer_of, check_answer_of, drain_answer_of, run_answer_of, starts_answer_of}
 use Rattle.host_answers.specs.Refused.{EveryReadRefused, EveryEffectsRefused, untouched, cleared, DrainRefuses, EveryDrainRefused, RunRefuses, EveryRunRefused, StartsRefuse, EveryStartsRefused}
 use Rattle.host_answers.proofs.ByRow.{row_of_run_lem, row_of_drain_lem}
+use Rattle.std.specs.Prelude.{Ok, Err}
+use Rattle.determine_side_effects.specs.refusal_crate.declared.Refusal.TheVariants.{NoRoom}
 
 read_refuses : (d : Decoded) (lent after : List ℕ) (a : ReadAnswer) → a ≡ read_answer_of (answer_of d) → after ≡ lent_of d lent → (a.number ≡ 0 → ⊥) → after ≡ lent
 unfolding read_answer_of answer_of lent_of
 read_refuses (all xs) lent after a e l z = absurd (z (ap (λ (x : ReadAnswer). x.number) e))
-read_refuses (refused n p) lent after a e l z = l
+read_refuses (refused why) lent after a e l z = l
 
 pub read_refused : EveryReadRefused
 read_refused file lent a after k z = read_refuses (read_of file (length lent)) lent after a k.answers k.leaves z
@@ -34,18 +35,18 @@ pub effects_refused : EveryEffectsRefused
 unfolding effects_answer effects_row check_answer_of
 effects_refused numbers lent a after k z = go (check_of numbers) k.answers k.leaves
   where
-    by : (g : Graph) (b : Bool) → a ≡ check_answer_of (elim b [ true ↦ Refused 5 0 | false ↦ Accepted ]) → after ≡ elim b [ true ↦ lent | false ↦ last_verdicts g ++ drop g.header.modules lent ] → after ≡ lent
+    by : (g : Graph) (b : Bool) → a ≡ check_answer_of (elim b [ true ↦ Err NoRoom | false ↦ Ok tt ]) → after ≡ elim b [ true ↦ lent | false ↦ last_verdicts g ++ drop g.header.modules lent ] → after ≡ lent
     by g true e l = l
     by g false e l = absurd (z (ap (λ (x : Refusal). x.number) e))
 
-    go : (x : Parsed Graph) → a ≡ check_answer_of (elim x [ fault n p ↦ Refused n p | got g q ↦ elim (ltb (length lent) g.header.modules) [ true ↦ Refused 5 0 | false ↦ Accepted ] ])
-        → after ≡ elim x [ fault n p ↦ lent | got g q ↦ elim (ltb (length lent) g.header.modules) [ true ↦ lent | false ↦ last_verdicts g ++ drop g.header.modules lent ] ] → after ≡ lent
+    go : (x : Parsed Graph) → a ≡ check_answer_of (elim x [ fault why ↦ Err why | got g q ↦ elim (ltb (length lent) g.header.modules) [ true ↦ Err NoRoom | false ↦ Ok tt ] ])
+        → after ≡ elim x [ fault why ↦ lent | got g q ↦ elim (ltb (length lent) g.header.modules) [ true ↦ lent | false ↦ last_verdicts g ++ drop g.header.modules lent ] ] → after ≡ lent
     go (got g q) e l = by g (ltb (length lent) g.header.modules) e l
-    go (fault n p) e l = l
+    go (fault why) e l = l
 
 drain_refuses : (o : drain.Outcome) (lent after : drain.Rows) (a : DrainAnswer) → a ≡ drain_answer_of (drain.answered o) → drain.Ends o (drain.answered o) lent after → (a.number ≡ 0 → ⊥) → DrainRefuses a lent after
 unfolding drain.answered drain_answer_of drain.row_after drain.marks_after drain.record_after
-drain_refuses (drain.before n p) lent after a e k z = record { rows_as_lent = row_of_drain_lem k; worked_on = untouched k.marks_are k.record_is }
+drain_refuses (drain.before why) lent after a e k z = record { rows_as_lent = row_of_drain_lem k; worked_on = untouched k.marks_are k.record_is }
 drain_refuses drain.short lent after a e k z = record { rows_as_lent = row_of_drain_lem k; worked_on = cleared (ap (λ (x : DrainAnswer). x.number) e) k.marks_are k.record_is }
 drain_refuses (drain.done g lines) lent after a e k z = absurd (z (ap (λ (x : DrainAnswer). x.number) e))
 
@@ -54,7 +55,7 @@ drain_refused numbers given a lent after k z = drain_refuses (drain.outcome_of n
 
 run_refuses : (o : run.Outcome) (lent after : run.Rows) (a : RunAnswer) → a ≡ run_answer_of (run.answered o) → run.Ends o (run.answered o) lent after → (a.number ≡ 0 → ⊥) → RunRefuses a lent after
 unfolding run.answered run_answer_of run.row_after run.marks_after run.record_after run.dead_after run.helpers_after run.entries_after
-run_refuses (run.before n p) lent after a e k z =
+run_refuses (run.before why) lent after a e k z =
     record {
       rows_as_lent = row_of_run_lem k;
       dead_as_lent = k.dead_are;
@@ -77,7 +78,7 @@ run_refused numbers a lent after k z = run_refuses (run.outcome_of numbers (run.
 
 starts_refuse : (o : starts.Outcome) (lent after : starts.Rows) (a : ReadAnswer) → a ≡ starts_answer_of (starts.answered o) → starts.Ends o (starts.answered o) lent after → (a.number ≡ 0 → ⊥) → StartsRefuse a lent after
 unfolding starts.answered starts_answer_of starts.marks_after starts.record_after starts.starts_after
-starts_refuse (starts.before n p) lent after a e k z = record { starts_as_lent = k.starts_are; worked_on = untouched k.marks_are k.record_is }
+starts_refuse (starts.before why) lent after a e k z = record { starts_as_lent = k.starts_are; worked_on = untouched k.marks_are k.record_is }
 starts_refuse starts.short lent after a e k z = record { starts_as_lent = k.starts_are; worked_on = cleared (ap (λ (x : ReadAnswer). x.number) e) k.marks_are k.record_is }
 starts_refuse (starts.done g) lent after a e k z = absurd (z (ap (λ (x : ReadAnswer). x.number) e))
 

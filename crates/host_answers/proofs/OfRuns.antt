@@ -4,15 +4,12 @@ use Prim.Native.Nat.{ℕ, ◌*◌}
 use mathlib.Core.Path.{◌≡◌, ap, ◌∙◌, sym, subst}
 use mathlib.Core.List.{List}
 use lib.ListN.{length}
-use Rattle.determine_side_effects.specs.graph_crate.declared.Checked.TheVariants.{Accepted}
 use Rattle.determine_side_effects.specs.graph_crate.Check.{Graph, graph_in, check_of, answer_of}
 use Rattle.keep_record.specs.declared.Line.{Line}
 use Rattle.drain_parts.specs.Operation as drain
 use Rattle.tree_shaking.specs.Rounds.{final_entries}
 use Rattle.run_rows.specs.Run.{Run, run_of}
 use Rattle.run_parts.specs.declared.Totals.{Totals}
-use Rattle.run_parts.specs.declared.Ran.{Ran}
-use Rattle.run_parts.specs.declared.Ran.TheVariants.{Done}
 use Rattle.run_parts.specs.Operation as run
 use Rattle.run_choices.proofs.Done.{run_done}
 use Rattle.run_starts.specs.Operation as starts
@@ -24,6 +21,8 @@ use Rattle.answers.specs.Answers.{drain_answer_of, run_answer_of, starts_answer_
 use Rattle.host.specs.Operations.{KeepDrain, KeepRun, KeepStarts}
 use Rattle.host_answers.proofs.Outcomes.{drains_of, runs_of, starts_of}
 use Rattle.host_answers.proofs.NotRefused.{drain_not_refused, run_not_refused, starts_not_refused}
+use Rattle.std.specs.Prelude.{Result, Ok}
+use Rattle.determine_side_effects.specs.refusal_crate.declared.Refusal.{Refusal}
 
 -- a drain
 pub record DrainKept (numbers given : List ℕ) (a : DrainAnswer) (lent after : drain.Rows) : Type 0 where
@@ -54,18 +53,18 @@ abbrev pub totals_in : RunAnswer → Totals
 totals_in a = record { rounds = a.rounds; lines = a.lines; runtime_lines = a.runtime_lines; entries = a.entries }
 
 pub record RunKept (numbers : List ℕ) (a : RunAnswer) (lent after : run.Rows) : Type 0 where
-  pub accepted : answer_of (check_of numbers) ≡ Accepted
+  pub accepted : answer_of (check_of numbers) ≡ Ok tt
   pub is_done : run.outcome_of numbers (run.rooms_of lent) ≡ run.done (graph_in numbers) (run_of (graph_in numbers))
   pub lines_are : a.lines ≡ length (run_of (graph_in numbers)).main
   pub entries_are : a.entries ≡ length (final_entries (graph_in numbers) (run_of (graph_in numbers)).live)
   pub record_is : after.lines ≡ run.record_after (run.done (graph_in numbers) (run_of (graph_in numbers))) lent.lines
-  pub runs : run.Runs numbers (Done (totals_in a)) lent after
+  pub runs : run.Runs numbers (Ok (totals_in a)) lent after
 
 -- the answer of a run that is done, as the boundary gives it
 answer_back : (a : RunAnswer) (g : Graph) (r : Run) → a ≡ run_answer_of (run.answered (run.done g r))
-    → (run.answered (run.done g r) ≡ Done (totals_in a)) × (a.lines ≡ length r.main) × (a.entries ≡ length (final_entries g r.live))
+    → (run.answered (run.done g r) ≡ Ok (totals_in a)) × (a.lines ≡ length r.main) × (a.entries ≡ length (final_entries g r.live))
 unfolding run.answered run_answer_of
-answer_back a g r e = (ap (λ (x : RunAnswer). Done (totals_in x)) (sym e), ap (λ (x : RunAnswer). x.lines) e, ap (λ (x : RunAnswer). x.entries) e)
+answer_back a g r e = (ap (λ (x : RunAnswer). Ok (totals_in x)) (sym e), ap (λ (x : RunAnswer). x.lines) e, ap (λ (x : RunAnswer). x.entries) e)
 
 pub run_kept : (numbers : List ℕ) (a : RunAnswer) (lent after : run.Rows) → KeepRun numbers a lent after → a.number ≡ 0 → RunKept numbers a lent after
 run_kept numbers a lent after k z =
@@ -82,7 +81,7 @@ run_kept numbers a lent after k z =
       lines_are = b.1;
       entries_are = b.2;
       record_is = k.leaves.record_is ∙ ap (λ y. run.record_after y lent.lines) e;
-      runs = subst (λ (y : Ran). run.Ends out y lent after) (ap run.answered e ∙ b.0) k.leaves;
+      runs = subst (λ (y : Result Totals Refusal). run.Ends out y lent after) (ap run.answered e ∙ b.0) k.leaves;
     }
 
 -- a run's own starts

@@ -3,7 +3,6 @@
 use Rattle.std.specs.Prelude.{ℕ, ◌*◌, ◌<◌, ◌≤◌, ◌≡◌, ◌↔◌, Bool, true, false, List, length, take, drop}
 use Rattle.bit_row.specs.Row.{bit_at, bytes_for}
 use Rattle.leb128.specs.Read.{all, read_of}
-use Rattle.determine_side_effects.specs.graph_crate.declared.Checked.TheVariants.{Accepted}
 use Rattle.determine_side_effects.specs.graph_crate.Check.{Graph, graph_in, check_of, answer_of}
 use Rattle.determine_side_effects.specs.Effects.{last_verdicts}
 use Rattle.determine_side_effects.specs.facts_crate.Facts.{mark_count}
@@ -40,6 +39,7 @@ use Rattle.answers.specs.declared.Refusal.{Refusal}
 use Rattle.answers.specs.declared.RunAnswer.{RunAnswer}
 use Rattle.answers.specs.Answers.{check_answer_of, judge_answer_of}
 use Rattle.host.specs.Operations.{KeepRead, KeepEffects, KeepDrain, KeepRun, KeepStarts}
+use Rattle.std.specs.Prelude.{Ok}
 
 -- a file: its numbers are the first of those lent
 pub record ReadAnswers (file lent : List ℕ) (a : ReadAnswer) (after : List ℕ) : Type 0 where
@@ -53,7 +53,7 @@ EveryRead = (file lent : List ℕ) (a : ReadAnswer) (after : List ℕ) → KeepR
 
 -- a graph is accepted
 abbrev pub EveryCheck : Type 0
-EveryCheck = (numbers : List ℕ) → ((check_answer_of (answer_of (check_of numbers))).number ≡ 0) ↔ (answer_of (check_of numbers) ≡ Accepted)
+EveryCheck = (numbers : List ℕ) → ((check_answer_of (answer_of (check_of numbers))).number ≡ 0) ↔ (answer_of (check_of numbers) ≡ Ok tt)
 
 -- Demand 2: the verdicts that `keep_effects` gives are those that the Rust comes to before it includes statements, on every graph, and so those of every
 -- outcome; the rows that `keep_run` gives are those of every outcome, where the options ask for no other rounds;

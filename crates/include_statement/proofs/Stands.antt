@@ -28,8 +28,8 @@ module _ {numbers : List ℕ} {m i r place : ℕ} (h : Here numbers m i r place)
 
   -- kind 3
   module _ (e : get_or numbers place 0 ≡ 3) where
-    pub five-here : place + 4 < length numbers
-    five-here = omega (arith, width_3 numbers place e, h.stands.inside)
+    pub five_here : place + 4 < length numbers
+    five_here = omega (arith, width_3 numbers place e, h.stands.inside)
 
     each : (c : ℕ) → c < 5 → get_or row c 0 ≡ get_or numbers (place + c) 0
     each c l = h.stands.member (h.stands.kind ∙ e) c l
@@ -52,8 +52,8 @@ module _ {numbers : List ℕ} {m i r place : ℕ} (h : Here numbers m i r place)
 
   -- kind 2
   module _ (e : get_or numbers place 0 ≡ 2) where
-    pub parts-here : place + 4 + get_or numbers (place + 3) 0 ≤ length numbers
-    parts-here = omega (arith, width_2 numbers place e, h.stands.inside)
+    pub parts_here : place + 4 + get_or numbers (place + 3) 0 ≤ length numbers
+    parts_here = omega (arith, width_2 numbers place e, h.stands.inside)
 
     pub depended_is : get_or numbers (place + 3) 0 ≡ length (depended_on row)
     unfolding depended_on
@@ -76,7 +76,7 @@ module _ {numbers : List ℕ} {m i r place : ℕ} (h : Here numbers m i r place)
   plain zero e a b l = (omega (arith, width_0 numbers place e, h.stands.inside), sym (h.stands.symbol (h.stands.kind ∙ e)))
   plain (suc zero) e a b l = absurd (a refl)
   plain (suc (suc zero)) e a b l = absurd (b refl)
-  plain (suc (suc (suc zero))) e a b l = (omega (arith, five-here e), object-is e)
+  plain (suc (suc (suc zero))) e a b l = (omega (arith, five_here e), object-is e)
   plain (suc (suc (suc (suc k)))) e a b l = absurd (omega (arith, l))
 
   -- kinds 0 and 3

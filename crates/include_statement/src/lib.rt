@@ -112,19 +112,18 @@ fn enum_member(numbers: &[u32], tables: &[usize], m: ModuleIdx, name: usize, mem
     ensures { result ≡ some (λ e. eqb (enum_name e) name && eqb (enum_member e) member) (enum_members (module_of (graph_in numbers.now) m.0)) }
 {
     let count = modules::enum_member_count(numbers, tables, m);
-    let mut k: usize = 0;
-    while k < count {
+    for k in 0..count {
         if modules::enum_name(numbers, tables, m, k) == name {
             if modules::enum_member(numbers, tables, m, k) == member {
                 return true;
             }
         }
-        k += 1;
     }
     false
 }
 
 // Whether the reference of kind 3 that stands at `place`, reference r of statement i, is an enum member that is inlined.
+#[tactic(auto, using(crate::proofs::Stands::five_here))]
 fn is_inlined_enum_member_access(
     numbers: &[u32],
     tables: &[usize],
@@ -190,6 +189,7 @@ pub fn reference_candidates(
 }
 
 // K8, candidate k of a resolved member.
+#[tactic(auto, using(crate::proofs::Stands::parts_here))]
 fn resolved_candidate(
     numbers: &[u32],
     tables: &[usize],

@@ -12,15 +12,16 @@ use Rattle.determine_side_effects.specs.graph_access_crate.Names.{references}
 use Rattle.determine_side_effects.specs.graph_access_crate.Words.{statement_list, statement_of}
 use Rattle.determine_side_effects.specs.graph_access_crate.References.{reference_width, ReferenceAt, ReferencesAt}
 use Rattle.include_statement.specs.Here.{Here}
-use Rattle.keep_rules.specs.Rules.{Segment, reference_segment}
+use Rattle.keep_rules.specs.Rules.{reference_segment}
 use Rattle.keep_record.specs.declared.Line.{Line}
-use Rattle.keep_record.specs.declared.Added.{Added}
-use Rattle.keep_record.specs.declared.Added.TheVariants.{Lines, Full}
 use Rattle.keep_record.specs.Lines.{adds}
 use Rattle.keep_record.specs.Held.{lines_of, Grown}
 use Rattle.include_statements.specs.Following.{lines_by}
 use Rattle.include_statements.proofs.Going.{Going, go_done}
 use Rattle.include_statements.proofs.Segments.{segments_next, segments_full, no_lines}
+use Rattle.std.specs.Prelude.{Result, Ok}
+use Rattle.keep_record.specs.declared.Full.{Full}
+use Rattle.keep_record.specs.Held.{no_room}
 
 module _ (numbers : List ℕ) (m i j n place : ℕ) (size : n ≡ length (references (statement_of (graph_in numbers) m i))) (l : j < n)
     (r : ReferencesAt numbers place (drop j (references (statement_of (graph_in numbers) m i)))) where
@@ -47,12 +48,12 @@ module _ (g : Graph) (base k x : ℕ) (rows : List (List ℕ)) (out : List Line)
     opened : Going g base out (lines_by k (reference_segment g x (get_or rows j []) ∷ map (reference_segment g x) (drop (suc j) rows))) count marks row t
     opened = let b : j < length rows = omega (arith, size, l) in rw (drop-cons rows j [] b) at go
 
-    pub references-next : (d : ℕ) (r : Added) → r ≡ Lines d → Grown g base (adds g base (lines_of t row) (lines_by k (reference_segment g x (get_or rows j []) ∷ []))) marks' row' r
+    pub references-next : (d : ℕ) (r : Result ℕ Full) → r ≡ Ok d → Grown g base (adds g base (lines_of t row) (lines_by k (reference_segment g x (get_or rows j []) ∷ []))) marks' row' r
         → Going g base out (lines_by k (map (reference_segment g x) (drop (j + 1) rows))) count marks' row' d
     references-next d r told w = rw (add-one j) (segments_next g base k _ _ out count marks row t opened marks' row' d r told w)
 
-    pub references-full : (r : Added) → r ≡ Full → Grown g base (adds g base (lines_of t row) (lines_by k (reference_segment g x (get_or rows j []) ∷ []))) marks' row' r → Grown g base out marks' row' Full
+    pub references-full : (r : Result ℕ Full) → r ≡ no_room → Grown g base (adds g base (lines_of t row) (lines_by k (reference_segment g x (get_or rows j []) ∷ []))) marks' row' r → Grown g base out marks' row' no_room
     references-full r told w = segments_full g base k _ _ out count marks row t opened marks' row' r told w
 
-  pub references_done : n ≤ j → Grown g base out marks row (Lines t)
+  pub references_done : n ≤ j → Grown g base out marks row (Ok t)
   references_done l = let b : length rows ≤ j = omega (arith, size, l) in go_done g base out count marks row t (rw (drop_of_length-le rows b, no_lines k) at go)

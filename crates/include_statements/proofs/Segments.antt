@@ -14,8 +14,6 @@ use Rattle.keep_rules.specs.declared.Candidate.{Candidate}
 use Rattle.keep_rules.specs.declared.Candidate.TheVariants.{Gives, Nothing}
 use Rattle.keep_rules.specs.Rules.{Segment, Given, quiet_runtime, bypassed, module_segments, use_segments, segments_of, picked, given_by}
 use Rattle.keep_record.specs.declared.Line.{Line}
-use Rattle.keep_record.specs.declared.Added.{Added}
-use Rattle.keep_record.specs.declared.Added.TheVariants.{Lines, Full}
 use Rattle.keep_record.specs.Lines.{added, adds}
 use Rattle.keep_record.specs.Held.{lines_of, Held, Grown}
 use Rattle.include_statements.specs.Following.{line_by, candidate_lines, lines_by}
@@ -23,6 +21,9 @@ use lib.ListN.{length}
 use Rattle.keep_record.proofs.Rows.{lines-length}
 use Rattle.keep_record.proofs.Adding.{adds_longer, adds-append}
 use Rattle.include_statements.proofs.Going.{Going, go_start, go_done, grown_longer, full_more, both_full, both_added}
+use Rattle.std.specs.Prelude.{Result, Ok}
+use Rattle.keep_record.specs.declared.Full.{Full}
+use Rattle.keep_record.specs.Held.{no_room}
 
 -- the lines of a segment from candidate c on
 unfoldable pub lines_from : ℕ → Segment → ℕ → List Line
@@ -61,7 +62,7 @@ module _ (k : ℕ) (s : Segment) where
 
 -- additions of a first part of what is left
 module _ (g : Graph) (base : ℕ) (out xs ys : List Line) (count : ℕ) (marks row : List ℕ) (t : ℕ) (go : Going g base out (xs ++ ys) count marks row t) where
-  pub go_part : (marks' row' : List ℕ) (d : ℕ) → Grown g base (adds g base (lines_of t row) xs) marks' row' (Lines d) → Going g base out ys count marks' row' d
+  pub go_part : (marks' row' : List ℕ) (d : ℕ) → Grown g base (adds g base (lines_of t row) xs) marks' row' (Ok d) → Going g base out ys count marks' row' d
   go_part marks' row' d w =
       record {
         held = (w.held d refl).1;
@@ -69,15 +70,15 @@ module _ (g : Graph) (base : ℕ) (out xs ys : List Line) (count : ℕ) (marks r
         more = omega (arith, go.more, grown_longer g base _ marks' row' d w, adds_longer g base (lines_of t row) xs, lines-length t row);
       }
 
-  pub go_part_full : (marks' row' : List ℕ) → Grown g base (adds g base (lines_of t row) xs) marks' row' Full → Grown g base out marks' row' Full
+  pub go_part_full : (marks' row' : List ℕ) → Grown g base (adds g base (lines_of t row) xs) marks' row' no_room → Grown g base out marks' row' no_room
   go_part_full marks' row' w =
       full_more g base (adds g base (lines_of t row) xs) out marks' row'
       (omega (arith, ap length (sym (adds-append g base (lines_of t row) xs ys) ∙ go.on), adds_longer g base (adds g base (lines_of t row) xs) ys)) w
 
 -- what stands behind additions
-pub grown_on : (g : Graph) (base : ℕ) (xs : List Line) (t : ℕ) (row marks' row' : List ℕ) (d : ℕ) (r : Added) → r ≡ Lines d → Grown g base (adds g base (lines_of t row) xs) marks' row' r → (k : ℕ) → k < t → Held g base marks' row' d × (k < d)
+pub grown_on : (g : Graph) (base : ℕ) (xs : List Line) (t : ℕ) (row marks' row' : List ℕ) (d : ℕ) (r : Result ℕ Full) → r ≡ Ok d → Grown g base (adds g base (lines_of t row) xs) marks' row' r → (k : ℕ) → k < t → Held g base marks' row' d × (k < d)
 grown_on g base xs t row marks' row' d r told w k l =
-    let v : Grown g base (adds g base (lines_of t row) xs) marks' row' (Lines d) = rw told at w in
+    let v : Grown g base (adds g base (lines_of t row) xs) marks' row' (Ok d) = rw told at w in
     ((v.held d refl).1, omega (arith, l, grown_longer g base _ marks' row' d v, adds_longer g base (lines_of t row) xs, lines-length t row))
 
 -- the turns of a loop over a segment's candidates
@@ -87,13 +88,13 @@ segment_start g base k s marks row t h = rw (sym (lines_alone k s)) (go_start g 
 
 module _ (g : Graph) (base k : ℕ) (s : Segment) (out : List Line) (count : ℕ) (marks row : List ℕ) (t c n : ℕ) (go : Going g base out (lines_from k s c) count marks row t) (many : n ≡ s.count) where
   module _ (l : c < n) (p : Candidate) (e : p ≡ s.candidate c) (marks' row' : List ℕ) where
-    pub segment-step : (d : ℕ) (r : Added) → r ≡ Lines d → Grown g base (adds g base (lines_of t row) (candidate_lines k s.rule p)) marks' row' r → Going g base out (lines_from k s (c + 1)) count marks' row' d
+    pub segment-step : (d : ℕ) (r : Result ℕ Full) → r ≡ Ok d → Grown g base (adds g base (lines_of t row) (candidate_lines k s.rule p)) marks' row' r → Going g base out (lines_from k s (c + 1)) count marks' row' d
     segment-step d r told w = go_part g base out _ _ count marks row t (rw (lines_next k s c n many l) at go) marks' row' d (rw (told, e) at w)
 
-    pub segment-full : (r : Added) → r ≡ Full → Grown g base (adds g base (lines_of t row) (candidate_lines k s.rule p)) marks' row' r → Grown g base out marks' row' Full
+    pub segment-full : (r : Result ℕ Full) → r ≡ no_room → Grown g base (adds g base (lines_of t row) (candidate_lines k s.rule p)) marks' row' r → Grown g base out marks' row' no_room
     segment-full r told w = go_part_full g base out _ (lines_from k s (c + 1)) count marks row t (rw (lines_next k s c n many l) at go) marks' row' (rw (told, e) at w)
 
-  pub segment_done : n ≤ c → Grown g base out marks row (Lines t)
+  pub segment_done : n ≤ c → Grown g base out marks row (Ok t)
   segment_done l = go_done g base out count marks row t (rw (lines-over k s c n many l) at go)
 
 -- one segment behind another
@@ -107,33 +108,33 @@ one_candidate k s e =
 
 module _ (g : Graph) (base k : ℕ) (s : Segment) (ss : List Segment) (out : List Line) (count : ℕ) (marks row : List ℕ) (t : ℕ) (go : Going g base out (lines_by k (s ∷ ss)) count marks row t)
     (marks' row' : List ℕ) where
-  pub segments_next : (d : ℕ) (r : Added) → r ≡ Lines d → Grown g base (adds g base (lines_of t row) (lines_by k (s ∷ []))) marks' row' r → Going g base out (lines_by k ss) count marks' row' d
+  pub segments_next : (d : ℕ) (r : Result ℕ Full) → r ≡ Ok d → Grown g base (adds g base (lines_of t row) (lines_by k (s ∷ []))) marks' row' r → Going g base out (lines_by k ss) count marks' row' d
   segments_next d r told w = go_part g base out _ _ count marks row t (rw (lines_first k s ss) at go) marks' row' d (rw (told, lines_alone k s) at w)
 
-  pub segments_full : (r : Added) → r ≡ Full → Grown g base (adds g base (lines_of t row) (lines_by k (s ∷ []))) marks' row' r → Grown g base out marks' row' Full
+  pub segments_full : (r : Result ℕ Full) → r ≡ no_room → Grown g base (adds g base (lines_of t row) (lines_by k (s ∷ []))) marks' row' r → Grown g base out marks' row' no_room
   segments_full r told w = go_part_full g base out _ (lines_by k ss) count marks row t (rw (lines_first k s ss) at go) marks' row' (rw (told, lines_alone k s) at w)
 
-pub segments_none : (g : Graph) (base k : ℕ) (marks row : List ℕ) (t : ℕ) → Held g base marks row t → Grown g base (adds g base (lines_of t row) (lines_by k [])) marks row (Lines t)
+pub segments_none : (g : Graph) (base k : ℕ) (marks row : List ℕ) (t : ℕ) → Held g base marks row t → Grown g base (adds g base (lines_of t row) (lines_by k [])) marks row (Ok t)
 unfolding lines_by given_by
 segments_none g base k marks row t h = go_done g base _ t marks row t (go_start g base [] marks row t h)
 
 -- one candidate: it gives nothing, or a line
-pub give_none : (g : Graph) (base k rule : ℕ) (marks row : List ℕ) (t : ℕ) (p : Candidate) → p ≡ Nothing → Held g base marks row t → Grown g base (adds g base (lines_of t row) (candidate_lines k rule p)) marks row (Lines t)
+pub give_none : (g : Graph) (base k rule : ℕ) (marks row : List ℕ) (t : ℕ) (p : Candidate) → p ≡ Nothing → Held g base marks row t → Grown g base (adds g base (lines_of t row) (candidate_lines k rule p)) marks row (Ok t)
 unfolding candidate_lines
 give_none g base k rule marks row t p e h = rw e (go_done g base _ t marks row t (go_start g base [] marks row t h))
 
-pub give_one : (g : Graph) (base k rule : ℕ) (lines : List Line) (f : Fact) (marks row : List ℕ) (r : Added) (p : Candidate) → p ≡ Gives f
+pub give_one : (g : Graph) (base k rule : ℕ) (lines : List Line) (f : Fact) (marks row : List ℕ) (r : Result ℕ Full) (p : Candidate) → p ≡ Gives f
     → Grown g base (added g base lines (record { fact = f; rule = rule; because = k + 1; and = 0 })) marks row r → Grown g base (adds g base lines (candidate_lines k rule p)) marks row r
 unfolding candidate_lines line_by adds
 give_one g base k rule lines f marks row r p e w = rw (e, adds) w
 
 -- the same segments under another name
-pub segments_as : (g : Graph) (base k : ℕ) (lines : List Line) (ss ss' : List Segment) (marks row : List ℕ) (r : Added) → ss ≡ ss' → Grown g base (adds g base lines (lines_by k ss')) marks row r
+pub segments_as : (g : Graph) (base k : ℕ) (lines : List Line) (ss ss' : List Segment) (marks row : List ℕ) (r : Result ℕ Full) → ss ≡ ss' → Grown g base (adds g base lines (lines_by k ss')) marks row r
     → Grown g base (adds g base lines (lines_by k ss)) marks row r
 segments_as g base k lines ss ss' marks row r e w = rw e w
 
 -- a segment of one candidate
-pub given_alone : (g : Graph) (base k : ℕ) (lines : List Line) (s : Segment) → s.count ≡ 1 → (p : Candidate) → p ≡ s.candidate 0 → (marks row : List ℕ) (r : Added)
+pub given_alone : (g : Graph) (base k : ℕ) (lines : List Line) (s : Segment) → s.count ≡ 1 → (p : Candidate) → p ≡ s.candidate 0 → (marks row : List ℕ) (r : Result ℕ Full)
     → Grown g base (adds g base lines (candidate_lines k s.rule p)) marks row r → Grown g base (adds g base lines (lines_by k (s ∷ []))) marks row r
 given_alone g base k lines s one p e marks row r w = rw (one_candidate k s one, ← e) w
 
@@ -160,10 +161,10 @@ no_lines k = refl
 
 -- segments of calls one behind another: the first one's call was full, or a call for the others followed it
 module _ (g : Graph) (base k : ℕ) (lines : List Line) (s : Segment) (ss : List Segment) (marks row : List ℕ) where
-  pub segments_stop : (r : Added) → r ≡ Full → Grown g base (adds g base lines (lines_by k (s ∷ []))) marks row r → Grown g base (adds g base lines (lines_by k (s ∷ ss))) marks row Full
+  pub segments_stop : (r : Result ℕ Full) → r ≡ no_room → Grown g base (adds g base lines (lines_by k (s ∷ []))) marks row r → Grown g base (adds g base lines (lines_by k (s ∷ ss))) marks row no_room
   segments_stop r told w = rw (lines_first k s ss) (both_full g base lines (lines_from k s 0) (lines_by k ss) marks row (rw (told, lines_alone k s) at w))
 
-  pub segments_both : (d : ℕ) (r : Added) → r ≡ Lines d → Grown g base (adds g base lines (lines_by k (s ∷ []))) marks row r → (marks' row' : List ℕ) (r' : Added)
+  pub segments_both : (d : ℕ) (r : Result ℕ Full) → r ≡ Ok d → Grown g base (adds g base lines (lines_by k (s ∷ []))) marks row r → (marks' row' : List ℕ) (r' : Result ℕ Full)
       → Grown g base (adds g base (lines_of d row) (lines_by k ss)) marks' row' r' → Grown g base (adds g base lines (lines_by k (s ∷ ss))) marks' row' r'
   segments_both d r told w marks' row' r' v =
       rw (lines_first k s ss) (both_added g base lines (lines_from k s 0) (lines_by k ss) marks row d marks' row' r' (rw (told, lines_alone k s) at w) v)

@@ -1,6 +1,5 @@
 -- Lines that follow from line k and name it alone: those of a rule's candidate, and those of segments in their order (docs/RULES.md, K2 to K14).
 use Rattle.std.specs.Prelude.{ℕ, ◌+◌, List, [], ◌∷◌, map}
-use Rattle.determine_side_effects.specs.facts_crate.declared.Fact.{Fact}
 use Rattle.keep_rules.specs.declared.Candidate.{Candidate}
 use Rattle.keep_rules.specs.declared.Candidate.TheVariants.{Gives, Nothing}
 use Rattle.keep_rules.specs.Rules.{Segment, Given, given_by}

@@ -21,7 +21,7 @@ ghost use Rattle.include_statements.specs.Following.{candidate_lines, lines_by};
 use determine_side_effects::facts_crate::{Fact, Reason};
 use determine_side_effects::graph_access_crate::{modules, statements};
 use determine_side_effects::index_crate::{ModuleIdx, StmtIdx, SymbolIdx};
-use keep_record::{Added, Line, Stage};
+use keep_record::{Full, Line, Stage};
 use keep_rules::Candidate;
 
 // Adds the line that a candidate of a rule gives at line k, if it gives one.
@@ -34,14 +34,14 @@ fn give(
     rule: usize,
     candidate: Candidate,
     k: usize,
-) -> Added
+) -> Result<usize, Full>
     requires prepared { Prepared numbers.now tables.now }
     requires held { Held (graph_in numbers.now) stage.base marks.old lines.old stage.count }
     requires rule_bound { (rule < 15) × GoodCandidate (graph_in numbers.now) candidate × (k < stage.count) }
     ensures { Grown (graph_in numbers.now) stage.base (adds (graph_in numbers.now) stage.base (lines_of stage.count lines.old) (candidate_lines k rule candidate)) marks.new lines.new result }
 {
     match candidate {
-        Candidate::Nothing => Added::Lines(stage.count),
+        Candidate::Nothing => Ok(stage.count),
         Candidate::Gives(fact) => keep_record::add(
             numbers,
             tables,
@@ -67,7 +67,7 @@ fn sweep_statements(
     stage: Stage,
     m: ModuleIdx,
     k: usize,
-) -> Added
+) -> Result<usize, Full>
     requires prepared { Prepared numbers.now tables.now }
     requires held { Held (graph_in numbers.now) stage.base marks.old lines.old stage.count }
     requires m_bound { (m.0 < (header_in numbers.now).modules) × (k < stage.count) }
@@ -76,10 +76,9 @@ fn sweep_statements(
     let base = stage.base;
     let count = modules::statement_count(numbers, tables, m);
     let mut total = stage.count;
-    let mut c: usize = 0;
-    while c < count {
+    for c in 0..count {
         let candidate = include_module::sweep_candidate(numbers, tables, m, StmtIdx(c));
-        match give(
+        total = give(
             numbers,
             tables,
             marks,
@@ -88,17 +87,9 @@ fn sweep_statements(
             2,
             candidate,
             k,
-        ) {
-            Added::Lines(n) => {
-                total = n;
-            }
-            Added::Full => {
-                return Added::Full;
-            }
-        }
-        c += 1;
+        )?;
     }
-    Added::Lines(total)
+    Ok(total)
 }
 
 // K3 at line k: the dependencies that have effects.
@@ -110,7 +101,7 @@ fn include_dependencies(
     stage: Stage,
     m: ModuleIdx,
     k: usize,
-) -> Added
+) -> Result<usize, Full>
     requires prepared { Prepared numbers.now tables.now }
     requires held { Held (graph_in numbers.now) stage.base marks.old lines.old stage.count }
     requires m_bound { (m.0 < (header_in numbers.now).modules) × (k < stage.count) }
@@ -119,10 +110,9 @@ fn include_dependencies(
     let base = stage.base;
     let count = modules::dependency_count(numbers, tables, m);
     let mut total = stage.count;
-    let mut c: usize = 0;
-    while c < count {
+    for c in 0..count {
         let candidate = include_module::dependency_candidate(numbers, tables, m, c);
-        match give(
+        total = give(
             numbers,
             tables,
             marks,
@@ -131,17 +121,9 @@ fn include_dependencies(
             3,
             candidate,
             k,
-        ) {
-            Added::Lines(n) => {
-                total = n;
-            }
-            Added::Full => {
-                return Added::Full;
-            }
-        }
-        c += 1;
+        )?;
     }
-    Added::Lines(total)
+    Ok(total)
 }
 
 // K4 at line k: the named imports beside eval.
@@ -153,7 +135,7 @@ fn include_named_imports(
     stage: Stage,
     m: ModuleIdx,
     k: usize,
-) -> Added
+) -> Result<usize, Full>
     requires prepared { Prepared numbers.now tables.now }
     requires held { Held (graph_in numbers.now) stage.base marks.old lines.old stage.count }
     requires m_bound { (m.0 < (header_in numbers.now).modules) × (k < stage.count) }
@@ -162,10 +144,9 @@ fn include_named_imports(
     let base = stage.base;
     let count = include_module::eval_candidates(numbers, tables, m);
     let mut total = stage.count;
-    let mut c: usize = 0;
-    while c < count {
+    for c in 0..count {
         let candidate = include_module::eval_candidate(numbers, tables, m, c);
-        match give(
+        total = give(
             numbers,
             tables,
             marks,
@@ -174,17 +155,9 @@ fn include_named_imports(
             4,
             candidate,
             k,
-        ) {
-            Added::Lines(n) => {
-                total = n;
-            }
-            Added::Full => {
-                return Added::Full;
-            }
-        }
-        c += 1;
+        )?;
     }
-    Added::Lines(total)
+    Ok(total)
 }
 
 // K5 at line k: the CommonJS export symbols.
@@ -196,7 +169,7 @@ fn include_export_symbols(
     stage: Stage,
     m: ModuleIdx,
     k: usize,
-) -> Added
+) -> Result<usize, Full>
     requires prepared { Prepared numbers.now tables.now }
     requires held { Held (graph_in numbers.now) stage.base marks.old lines.old stage.count }
     requires m_bound { (m.0 < (header_in numbers.now).modules) × (k < stage.count) }
@@ -205,10 +178,9 @@ fn include_export_symbols(
     let base = stage.base;
     let count = modules::export_symbol_count(numbers, tables, m);
     let mut total = stage.count;
-    let mut c: usize = 0;
-    while c < count {
+    for c in 0..count {
         let candidate = include_module::export_symbol_candidate(numbers, tables, m, c);
-        match give(
+        total = give(
             numbers,
             tables,
             marks,
@@ -217,17 +189,9 @@ fn include_export_symbols(
             5,
             candidate,
             k,
-        ) {
-            Added::Lines(n) => {
-                total = n;
-            }
-            Added::Full => {
-                return Added::Full;
-            }
-        }
-        c += 1;
+        )?;
     }
-    Added::Lines(total)
+    Ok(total)
 }
 
 // K5 and K6 at line k: the CommonJS export symbols, and the namespace statement in dev mode.
@@ -239,19 +203,14 @@ fn include_exports(
     stage: Stage,
     m: ModuleIdx,
     k: usize,
-) -> Added
+) -> Result<usize, Full>
     requires prepared { Prepared numbers.now tables.now }
     requires held { Held (graph_in numbers.now) stage.base marks.old lines.old stage.count }
     requires m_bound { (m.0 < (header_in numbers.now).modules) × (normal (graph_in numbers.now) m.0 ≡ true) × (k < stage.count) }
     ensures { Grown (graph_in numbers.now) stage.base (adds (graph_in numbers.now) stage.base (lines_of stage.count lines.old) (lines_by k (drop 3 (module_segments (graph_in numbers.now) (last_verdicts (graph_in numbers.now)) m.0)))) marks.new lines.new result }
 {
     let base = stage.base;
-    let n1 = match include_export_symbols(numbers, tables, marks, lines, stage, m, k) {
-        Added::Full => {
-            return Added::Full;
-        }
-        Added::Lines(n) => n,
-    };
+    let n1 = include_export_symbols(numbers, tables, marks, lines, stage, m, k)?;
     give(
         numbers,
         tables,
@@ -273,20 +232,15 @@ fn include_imports(
     stage: Stage,
     m: ModuleIdx,
     k: usize,
-) -> Added
+) -> Result<usize, Full>
     requires prepared { Prepared numbers.now tables.now }
     requires held { Held (graph_in numbers.now) stage.base marks.old lines.old stage.count }
     requires m_bound { (m.0 < (header_in numbers.now).modules) × (normal (graph_in numbers.now) m.0 ≡ true) × (k < stage.count) }
     ensures { Grown (graph_in numbers.now) stage.base (adds (graph_in numbers.now) stage.base (lines_of stage.count lines.old) (lines_by k (drop 1 (module_segments (graph_in numbers.now) (last_verdicts (graph_in numbers.now)) m.0)))) marks.new lines.new result }
 {
     let base = stage.base;
-    let n1 = match include_dependencies(numbers, tables, marks, lines, stage, m, k) {
-        Added::Full => {
-            return Added::Full;
-        }
-        Added::Lines(n) => n,
-    };
-    let n2 = match include_named_imports(
+    let n1 = include_dependencies(numbers, tables, marks, lines, stage, m, k)?;
+    let n2 = include_named_imports(
         numbers,
         tables,
         marks,
@@ -294,12 +248,7 @@ fn include_imports(
         Stage { base, count: n1 },
         m,
         k,
-    ) {
-        Added::Full => {
-            return Added::Full;
-        }
-        Added::Lines(n) => n,
-    };
+    )?;
     include_exports(
         numbers,
         tables,
@@ -320,22 +269,17 @@ fn follow_module(
     stage: Stage,
     m: ModuleIdx,
     k: usize,
-) -> Added
+) -> Result<usize, Full>
     requires prepared { Prepared numbers.now tables.now }
     requires held { Held (graph_in numbers.now) stage.base marks.old lines.old stage.count }
     requires m_bound { (m.0 < (header_in numbers.now).modules) × (normal (graph_in numbers.now) m.0 ≡ true) × (k < stage.count) }
     ensures { Grown (graph_in numbers.now) stage.base (adds (graph_in numbers.now) stage.base (lines_of stage.count lines.old) (lines_by k (segments_of (graph_in numbers.now) (last_verdicts (graph_in numbers.now)) (Module m)))) marks.new lines.new result }
 {
     if include_module::is_quiet_runtime(numbers, tables, m) {
-        return Added::Lines(stage.count);
+        return Ok(stage.count);
     }
     let base = stage.base;
-    let n1 = match sweep_statements(numbers, tables, marks, lines, stage, m, k) {
-        Added::Full => {
-            return Added::Full;
-        }
-        Added::Lines(n) => n,
-    };
+    let n1 = sweep_statements(numbers, tables, marks, lines, stage, m, k)?;
     include_imports(
         numbers,
         tables,
@@ -357,7 +301,7 @@ fn scan_import_records(
     m: ModuleIdx,
     i: StmtIdx,
     k: usize,
-) -> Added
+) -> Result<usize, Full>
     requires prepared { Prepared numbers.now tables.now }
     requires held { Held (graph_in numbers.now) stage.base marks.old lines.old stage.count }
     requires m_bound { (m.0 < (header_in numbers.now).modules) × (i.0 < length (statement_list (graph_in numbers.now) m.0)) × (k < stage.count) }
@@ -366,10 +310,9 @@ fn scan_import_records(
     let base = stage.base;
     let count = statements::import_record_count(numbers, tables, m, i);
     let mut total = stage.count;
-    let mut c: usize = 0;
-    while c < count {
+    for c in 0..count {
         let candidate = include_statement::import_record_candidate(numbers, tables, m, i, c);
-        match give(
+        total = give(
             numbers,
             tables,
             marks,
@@ -378,17 +321,9 @@ fn scan_import_records(
             7,
             candidate,
             k,
-        ) {
-            Added::Lines(n) => {
-                total = n;
-            }
-            Added::Full => {
-                return Added::Full;
-            }
-        }
-        c += 1;
+        )?;
     }
-    Added::Lines(total)
+    Ok(total)
 }
 
 // K8 at line k: what the reference that stands at `place`, reference j of the statement, gives.
@@ -403,7 +338,7 @@ fn include_reference(
     j: usize,
     place: usize,
     k: usize,
-) -> Added
+) -> Result<usize, Full>
     requires prepared { Prepared numbers.now tables.now }
     requires held { Held (graph_in numbers.now) stage.base marks.old lines.old stage.count }
     requires here { Here numbers.now m.0 i.0 j place × (k < stage.count) }
@@ -412,10 +347,9 @@ fn include_reference(
     let base = stage.base;
     let count = include_statement::reference_candidates(numbers, tables, m, i, j, place);
     let mut total = stage.count;
-    let mut c: usize = 0;
-    while c < count {
+    for c in 0..count {
         let candidate = include_statement::reference_candidate(numbers, tables, m, i, j, place, c);
-        match give(
+        total = give(
             numbers,
             tables,
             marks,
@@ -424,17 +358,9 @@ fn include_reference(
             8,
             candidate,
             k,
-        ) {
-            Added::Lines(n) => {
-                total = n;
-            }
-            Added::Full => {
-                return Added::Full;
-            }
-        }
-        c += 1;
+        )?;
     }
-    Added::Lines(total)
+    Ok(total)
 }
 
 // K8 at line k: the references of the statement in their order.
@@ -447,7 +373,7 @@ fn include_references(
     m: ModuleIdx,
     i: StmtIdx,
     k: usize,
-) -> Added
+) -> Result<usize, Full>
     requires prepared { Prepared numbers.now tables.now }
     requires held { Held (graph_in numbers.now) stage.base marks.old lines.old stage.count }
     requires m_bound { (m.0 < (header_in numbers.now).modules) × (i.0 < length (statement_list (graph_in numbers.now) m.0)) × (k < stage.count) }
@@ -457,9 +383,8 @@ fn include_references(
     let count = statements::reference_count(numbers, tables, m, i);
     let mut place = statements::first_reference(numbers, tables, m, i);
     let mut total = stage.count;
-    let mut r: usize = 0;
-    while r < count {
-        match include_reference(
+    for r in 0..count {
+        total = include_reference(
             numbers,
             tables,
             marks,
@@ -470,18 +395,10 @@ fn include_references(
             r,
             place,
             k,
-        ) {
-            Added::Lines(n) => {
-                total = n;
-            }
-            Added::Full => {
-                return Added::Full;
-            }
-        }
+        )?;
         place += statements::reference_width(numbers, place);
-        r += 1;
     }
-    Added::Lines(total)
+    Ok(total)
 }
 
 // K7 and K8 at line k.
@@ -494,19 +411,14 @@ fn follow_statement(
     m: ModuleIdx,
     i: StmtIdx,
     k: usize,
-) -> Added
+) -> Result<usize, Full>
     requires prepared { Prepared numbers.now tables.now }
     requires held { Held (graph_in numbers.now) stage.base marks.old lines.old stage.count }
     requires m_bound { (m.0 < (header_in numbers.now).modules) × (i.0 < length (statement_list (graph_in numbers.now) m.0)) × (k < stage.count) }
     ensures { Grown (graph_in numbers.now) stage.base (adds (graph_in numbers.now) stage.base (lines_of stage.count lines.old) (lines_by k (segments_of (graph_in numbers.now) (last_verdicts (graph_in numbers.now)) (Statement m i)))) marks.new lines.new result }
 {
     let base = stage.base;
-    let n1 = match scan_import_records(numbers, tables, marks, lines, stage, m, i, k) {
-        Added::Full => {
-            return Added::Full;
-        }
-        Added::Lines(n) => n,
-    };
+    let n1 = scan_import_records(numbers, tables, marks, lines, stage, m, i, k)?;
     include_references(
         numbers,
         tables,
@@ -529,7 +441,7 @@ fn follow_checked_use(
     s: SymbolIdx,
     x: Reason,
     k: usize,
-) -> Added
+) -> Result<usize, Full>
     requires prepared { Prepared numbers.now tables.now }
     requires held { Held (graph_in numbers.now) stage.base marks.old lines.old stage.count }
     requires s_bound { (s.0 < (header_in numbers.now).symbols) × (0 < x.bits) × (x.bits < 32) × (k < stage.count) }
@@ -537,10 +449,9 @@ fn follow_checked_use(
 {
     let base = stage.base;
     let mut total = stage.count;
-    let mut c: usize = 0;
-    while c < 4 {
+    for c in 0..4 {
         let candidate = include_symbol::checked_candidate(numbers, tables, s, x, c);
-        match give(
+        total = give(
             numbers,
             tables,
             marks,
@@ -549,17 +460,9 @@ fn follow_checked_use(
             9,
             candidate,
             k,
-        ) {
-            Added::Lines(n) => {
-                total = n;
-            }
-            Added::Full => {
-                return Added::Full;
-            }
-        }
-        c += 1;
+        )?;
     }
-    Added::Lines(total)
+    Ok(total)
 }
 
 // K10 at line k: the gated statements of the body that the use demands.
@@ -572,7 +475,7 @@ fn demand_body(
     s: SymbolIdx,
     x: Reason,
     k: usize,
-) -> Added
+) -> Result<usize, Full>
     requires prepared { Prepared numbers.now tables.now }
     requires held { Held (graph_in numbers.now) stage.base marks.old lines.old stage.count }
     requires s_bound { (s.0 < (header_in numbers.now).symbols) × (k < stage.count) }
@@ -581,10 +484,9 @@ fn demand_body(
     let base = stage.base;
     let count = include_symbol::demand_candidates(numbers, tables, s, x);
     let mut total = stage.count;
-    let mut c: usize = 0;
-    while c < count {
+    for c in 0..count {
         let candidate = include_symbol::demand_candidate(numbers, tables, s, x, StmtIdx(c));
-        match give(
+        total = give(
             numbers,
             tables,
             marks,
@@ -593,17 +495,9 @@ fn demand_body(
             10,
             candidate,
             k,
-        ) {
-            Added::Lines(n) => {
-                total = n;
-            }
-            Added::Full => {
-                return Added::Full;
-            }
-        }
-        c += 1;
+        )?;
     }
-    Added::Lines(total)
+    Ok(total)
 }
 
 // K12 at line k: the wrapper of the target's owner, and the forwards.
@@ -615,7 +509,7 @@ fn demand_wrapper(
     stage: Stage,
     s: SymbolIdx,
     k: usize,
-) -> Added
+) -> Result<usize, Full>
     requires prepared { Prepared numbers.now tables.now }
     requires held { Held (graph_in numbers.now) stage.base marks.old lines.old stage.count }
     requires s_bound { (s.0 < (header_in numbers.now).symbols) × (k < stage.count) }
@@ -624,10 +518,9 @@ fn demand_wrapper(
     let base = stage.base;
     let count = include_symbol::wrapper_candidates(numbers, tables, s);
     let mut total = stage.count;
-    let mut c: usize = 0;
-    while c < count {
+    for c in 0..count {
         let candidate = include_symbol::wrapper_candidate(numbers, tables, s, c);
-        match give(
+        total = give(
             numbers,
             tables,
             marks,
@@ -636,17 +529,9 @@ fn demand_wrapper(
             12,
             candidate,
             k,
-        ) {
-            Added::Lines(n) => {
-                total = n;
-            }
-            Added::Full => {
-                return Added::Full;
-            }
-        }
-        c += 1;
+        )?;
     }
-    Added::Lines(total)
+    Ok(total)
 }
 
 // K13 at line k: what declares the target, and its owner.
@@ -659,7 +544,7 @@ fn include_declarations(
     s: SymbolIdx,
     x: Reason,
     k: usize,
-) -> Added
+) -> Result<usize, Full>
     requires prepared { Prepared numbers.now tables.now }
     requires held { Held (graph_in numbers.now) stage.base marks.old lines.old stage.count }
     requires s_bound { (s.0 < (header_in numbers.now).symbols) × (k < stage.count) }
@@ -668,10 +553,9 @@ fn include_declarations(
     let base = stage.base;
     let count = include_symbol::declaration_candidates(numbers, tables, s);
     let mut total = stage.count;
-    let mut c: usize = 0;
-    while c < count {
+    for c in 0..count {
         let candidate = include_symbol::declaration_candidate(numbers, tables, s, x, c);
-        match give(
+        total = give(
             numbers,
             tables,
             marks,
@@ -680,17 +564,9 @@ fn include_declarations(
             13,
             candidate,
             k,
-        ) {
-            Added::Lines(n) => {
-                total = n;
-            }
-            Added::Full => {
-                return Added::Full;
-            }
-        }
-        c += 1;
+        )?;
     }
-    Added::Lines(total)
+    Ok(total)
 }
 
 // K14 at line k: the statements that write its properties.
@@ -702,7 +578,7 @@ fn include_writes(
     stage: Stage,
     s: SymbolIdx,
     k: usize,
-) -> Added
+) -> Result<usize, Full>
     requires prepared { Prepared numbers.now tables.now }
     requires held { Held (graph_in numbers.now) stage.base marks.old lines.old stage.count }
     requires s_bound { (s.0 < (header_in numbers.now).symbols) × (k < stage.count) }
@@ -711,10 +587,9 @@ fn include_writes(
     let base = stage.base;
     let count = include_symbol::write_candidates(numbers, tables, s);
     let mut total = stage.count;
-    let mut c: usize = 0;
-    while c < count {
+    for c in 0..count {
         let candidate = include_symbol::write_candidate(numbers, tables, s, c);
-        match give(
+        total = give(
             numbers,
             tables,
             marks,
@@ -723,17 +598,9 @@ fn include_writes(
             14,
             candidate,
             k,
-        ) {
-            Added::Lines(n) => {
-                total = n;
-            }
-            Added::Full => {
-                return Added::Full;
-            }
-        }
-        c += 1;
+        )?;
     }
-    Added::Lines(total)
+    Ok(total)
 }
 
 // K12 to K14 at line k, by the target and its owner.
@@ -746,20 +613,15 @@ fn include_target(
     s: SymbolIdx,
     x: Reason,
     k: usize,
-) -> Added
+) -> Result<usize, Full>
     requires prepared { Prepared numbers.now tables.now }
     requires held { Held (graph_in numbers.now) stage.base marks.old lines.old stage.count }
     requires s_bound { (s.0 < (header_in numbers.now).symbols) × (0 < x.bits) × (x.bits < 32) × (k < stage.count) }
     ensures { Grown (graph_in numbers.now) stage.base (adds (graph_in numbers.now) stage.base (lines_of stage.count lines.old) (lines_by k (drop 2 (use_segments (graph_in numbers.now) (last_verdicts (graph_in numbers.now)) s.0 x.bits)))) marks.new lines.new result }
 {
     let base = stage.base;
-    let n1 = match demand_wrapper(numbers, tables, marks, lines, stage, s, k) {
-        Added::Full => {
-            return Added::Full;
-        }
-        Added::Lines(n) => n,
-    };
-    let n2 = match include_declarations(
+    let n1 = demand_wrapper(numbers, tables, marks, lines, stage, s, k)?;
+    let n2 = include_declarations(
         numbers,
         tables,
         marks,
@@ -768,12 +630,7 @@ fn include_target(
         s,
         x,
         k,
-    ) {
-        Added::Full => {
-            return Added::Full;
-        }
-        Added::Lines(n) => n,
-    };
+    )?;
     include_writes(
         numbers,
         tables,
@@ -795,23 +652,18 @@ fn follow_use(
     s: SymbolIdx,
     x: Reason,
     k: usize,
-) -> Added
+) -> Result<usize, Full>
     requires prepared { Prepared numbers.now tables.now }
     requires held { Held (graph_in numbers.now) stage.base marks.old lines.old stage.count }
     requires s_bound { (s.0 < (header_in numbers.now).symbols) × (0 < x.bits) × (x.bits < 32) × (k < stage.count) }
     ensures { Grown (graph_in numbers.now) stage.base (adds (graph_in numbers.now) stage.base (lines_of stage.count lines.old) (lines_by k (segments_of (graph_in numbers.now) (last_verdicts (graph_in numbers.now)) (Use s x)))) marks.new lines.new result }
 {
     if include_symbol::is_bypassed_inlined_constant(numbers, tables, s, x) {
-        return Added::Lines(stage.count);
+        return Ok(stage.count);
     }
     let base = stage.base;
-    let n1 = match demand_body(numbers, tables, marks, lines, stage, s, x, k) {
-        Added::Full => {
-            return Added::Full;
-        }
-        Added::Lines(n) => n,
-    };
-    let n2 = match give(
+    let n1 = demand_body(numbers, tables, marks, lines, stage, s, x, k)?;
+    let n2 = give(
         numbers,
         tables,
         marks,
@@ -820,12 +672,7 @@ fn follow_use(
         11,
         include_symbol::alias_candidate(numbers, tables, s),
         k,
-    ) {
-        Added::Full => {
-            return Added::Full;
-        }
-        Added::Lines(n) => n,
-    };
+    )?;
     include_target(
         numbers,
         tables,
@@ -847,7 +694,7 @@ pub fn follow(
     stage: Stage,
     fact: Fact,
     k: usize,
-) -> Added
+) -> Result<usize, Full>
     requires prepared { Prepared numbers.now tables.now }
     requires held { Held (graph_in numbers.now) stage.base marks.old lines.old stage.count }
     requires good { Good (graph_in numbers.now) fact × (k < stage.count) }
@@ -858,7 +705,7 @@ pub fn follow(
         Fact::Statement(m, i) => follow_statement(numbers, tables, marks, lines, stage, m, i, k),
         Fact::CheckedUse(s, x) => follow_checked_use(numbers, tables, marks, lines, stage, s, x, k),
         Fact::Use(s, x) => follow_use(numbers, tables, marks, lines, stage, s, x, k),
-        Fact::Forward(_) => Added::Lines(stage.count),
-        Fact::Bailout(_) => Added::Lines(stage.count),
+        Fact::Forward(_) => Ok(stage.count),
+        Fact::Bailout(_) => Ok(stage.count),
     }
 }

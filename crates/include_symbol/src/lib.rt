@@ -162,13 +162,11 @@ fn export_of(numbers: &[u32], tables: &[usize], m: ModuleIdx, name: usize) -> us
     ensures { (result ≡ export_of name (resolved_exports (module_of (graph_in numbers.now) m.0))) × (result ≤ (header_in numbers.now).symbols) }
 {
     let count = modules::resolved_export_count(numbers, tables, m);
-    let mut k: usize = 0;
-    while k < count {
+    for k in 0..count {
         if modules::resolved_export_name(numbers, tables, m, k) == name {
             let symbol = modules::resolved_export_symbol(numbers, tables, m, k);
             return symbol.0 + 1;
         }
-        k += 1;
     }
     0
 }

@@ -8,7 +8,7 @@ use Rattle.bit_row.specs.Row.{bit_at}
 use Rattle.bit_row.proofs.Cleared.{zeros_unset}
 use Rattle.graph.specs.graph_format_crate.declared.Header.{Header}
 
--- both rows of marks, for a graph of at most so many modules, symbols and statements
+-- both rows of marks, for a graph of so many modules, symbols and statements
 abbrev pub Clear : Header → ℕ → Type 0
 Clear h n =
     (2 * h.modules + h.statements + 63 * h.symbols ≤ 8 * length (replicate {A = ℕ} n 0))
@@ -16,7 +16,7 @@ Clear h n =
     × ((j : ℕ) → bit_at (replicate n 0) j ≡ false)
     × ((j : ℕ) → bit_at (replicate n 0) j ≡ false)
 
-pub marks_clear : (h : Header) (m y s n : ℕ) → 2 * m + s + 63 * y ≤ 8 * n → h.modules ≤ m → h.symbols ≤ y → h.statements ≤ s → Clear h n
-marks_clear h m y s n b p q r =
-    let l : 2 * h.modules + h.statements + 63 * h.symbols ≤ 8 * length (replicate {A = ℕ} n 0) = omega (arith, length-replicate {A = ℕ} n 0, b, p, q, r) in
+pub marks_clear : (h : Header) (n : ℕ) → 2 * h.modules + h.statements + 63 * h.symbols ≤ 8 * n → Clear h n
+marks_clear h n b =
+    let l : 2 * h.modules + h.statements + 63 * h.symbols ≤ 8 * length (replicate {A = ℕ} n 0) = omega (arith, length-replicate {A = ℕ} n 0, b) in
     (l, l, zeros_unset n, zeros_unset n)

@@ -21,8 +21,9 @@ use Rattle.record_form.proofs.Forms.{form_good}
 use Rattle.line_judgement.specs.Stand.{stands, first_bad}
 use Rattle.line_judgement.specs.Steps.{facts_of, AllStand}
 use Rattle.completeness.specs.Complete.{all, are_closed, is_complete}
-use Rattle.judge_parts.specs.declared.Judged.TheVariants.{Passed, Refused}
 use Rattle.judge_parts.specs.Operation.{judged_whole, judged_at, judged_lines}
+use Rattle.std.specs.Prelude.{Ok, Err}
+use Rattle.determine_side_effects.specs.refusal_crate.declared.Refusal.TheVariants.{Unjustified}
 
 -- the marks of the lines' facts say which facts have a line
 marks_are : (g : Graph) (lines : List Line) → map (mark_of g) (facts_of lines) ≡ marks_of g lines
@@ -44,33 +45,33 @@ module _ (g : Graph) (starts : List Fact) (row : List ℕ) (first : ℕ) (is : f
   unfolding judged_lines
   answer_is = ap (judged_at g starts row (length row / 6)) is
 
-  pub line_bad : (first ≡ length row / 6 → ⊥) → Refused 6 first ≡ judged_lines g starts row
+  pub line_bad : (first ≡ length row / 6 → ⊥) → Err (Unjustified first) ≡ judged_lines g starts row
   unfolding judged_at
-  line_bad n = let a : Refused 6 first ≡ judged_at g starts row (length row / 6) first = rw (ne_eqb first (length row / 6) n, judged_at) in a ∙ answer_is
+  line_bad n = let a : Err (Unjustified first) ≡ judged_at g starts row (length row / 6) first = rw (ne_eqb first (length row / 6) n, judged_at) in a ∙ answer_is
 
   module _ (none : first ≡ length row / 6) (marks : List ℕ) (m : Marks g (facts_of (lines_of (length row / 6) row)) marks) where
     abbrev whole : Bool
     whole = all (marked g marks) starts && are_closed g (last_verdicts g) (marked g marks) (lines_of (length row / 6) row)
 
-    absent : whole ≡ false → Refused 6 (length row / 6) ≡ judged_lines g starts row
+    absent : whole ≡ false → Err (Unjustified (length row / 6)) ≡ judged_lines g starts row
     unfolding judged_at judged_whole is_complete
     absent e =
-        let a : Refused 6 (length row / 6) ≡ judged_at g starts row (length row / 6) first =
+        let a : Err (Unjustified (length row / 6)) ≡ judged_at g starts row (length row / 6) first =
         rw (eq-eqb first (length row / 6) none, judged_at, has_marked g (lines_of (length row / 6) row) marks m, e, judged_whole, lines-length (length row / 6) row) in
         a ∙ answer_is
 
     module _ (t : Bool) (s : t ≡ all (marked g marks) starts) where
-      pub start-absent : t ≡ false → Refused 6 (length row / 6) ≡ judged_lines g starts row
+      pub start-absent : t ≡ false → Err (Unjustified (length row / 6)) ≡ judged_lines g starts row
       start-absent z = absent (rw (sym s ∙ z))
 
       module _ (y : t ≡ true) (u : Bool) (c : u ≡ are_closed g (last_verdicts g) (marked g marks) (lines_of (length row / 6) row)) where
-        pub following-absent : u ≡ false → Refused 6 (length row / 6) ≡ judged_lines g starts row
+        pub following-absent : u ≡ false → Err (Unjustified (length row / 6)) ≡ judged_lines g starts row
         following-absent z = absent (rw (sym s ∙ y, sym c ∙ z))
 
-        pub all_there : u ≡ true → Passed ≡ judged_lines g starts row
+        pub all_there : u ≡ true → (Ok tt) ≡ judged_lines g starts row
         unfolding judged_at judged_whole is_complete
         all_there z =
             let e : whole ≡ true = rw (sym s ∙ y, sym c ∙ z) in
-            let a : Passed ≡ judged_at g starts row (length row / 6) first =
+            let a : (Ok tt) ≡ judged_at g starts row (length row / 6) first =
             rw (eq-eqb first (length row / 6) none, judged_at, has_marked g (lines_of (length row / 6) row) marks m, e, judged_whole) in
             a ∙ answer_is

@@ -11,16 +11,8 @@ ghost use Rattle.fact_marks.specs.Marks.{Marks};
 ghost use Rattle.judge_parts.specs.Operation.{judged_lines, judge_of};
 ghost use Rattle.judge_parts.specs.Parts.{MayJudge};
 
-use determine_side_effects::graph_crate::Checked;
 use determine_side_effects::graph_format_crate::Header;
-use determine_side_effects::rows_crate::Walk;
-
-// What the judge says of a record: it is passed, or refused with a number and a place.
-#[derive(Clone, Copy)]
-pub enum Judged {
-    Passed,
-    Refused(u32, usize),
-}
+use determine_side_effects::refusal_crate::Refusal;
 
 // Marks the starts.
 fn mark_starts(numbers: &[u32], tables: &[usize], starts: &[u32], begun: &mut [u8])
@@ -29,11 +21,9 @@ fn mark_starts(numbers: &[u32], tables: &[usize], starts: &[u32], begun: &mut [u
     ensures { Marks (graph_in numbers.now) (starts_of starts.now) begun.new }
 {
     let count = starts.len() / 3;
-    let mut i: usize = 0;
-    while i < count {
+    for i in 0..count {
         let fact = completeness::start_at(starts, i);
         fact_marks::mark(numbers, tables, begun, fact);
-        i += 1;
     }
 }
 
@@ -44,23 +34,17 @@ fn may_judge(
     lines: &[u32],
     h: Header,
     tables: &mut [usize],
-) -> Checked
+) -> Result<(), Refusal>
     requires header_read { HeaderRead numbers.now h }
     requires all_sections_in_bounds { (start_of h all_sections ≤ length tables.old) × (length tables.old < 4294967296) }
     ensures { MayJudge numbers.now starts.now lines.now tables.new result }
 {
-    match rule_tables::ready(numbers, h, tables) {
-        Checked::Refused(n, p) => Checked::Refused(n, p),
-        Checked::Accepted => match starts::check(numbers, tables, starts) {
-            Walk::Fault(n, p) => Checked::Refused(n, p),
-            Walk::At(_) => {
-                if lines.len() % 6 != 0 {
-                    return Checked::Refused(4, lines.len());
-                }
-                Checked::Accepted
-            }
-        },
+    rule_tables::ready(numbers, h, tables)?;
+    starts::check(numbers, tables, starts)?;
+    if lines.len() % 6 != 0 {
+        return Err(Refusal::WrongLength(lines.len()));
     }
+    Ok(())
 }
 
 // Judges the lines beside good starts. Both rows of marks are cleared.
@@ -71,7 +55,7 @@ fn judge_all<'a>(
     lines: &[u32],
     begun: &mut [u8],
     marks: &mut [u8],
-) -> Judged
+) -> Result<(), Refusal>
     requires prepared { Prepared numbers.now tables.now × StartsGood (graph_in numbers.now) (starts_of starts.now) }
     requires marks { Marks (graph_in numbers.now) [] begun.old × Marks (graph_in numbers.now) [] marks.old }
     ensures { result ≡ judged_lines (graph_in numbers.now) (starts_of starts.now) lines.now }
@@ -80,15 +64,15 @@ fn judge_all<'a>(
     let count = lines.len() / 6;
     let first = line_judgement::judge_lines(numbers, tables, starts, begun, lines, marks);
     if first != count {
-        return Judged::Refused(6, first);
+        return Err(Refusal::Unjustified(first));
     }
     if !completeness::are_marked(numbers, tables, starts, marks) {
-        return Judged::Refused(6, count);
+        return Err(Refusal::Unjustified(count));
     }
     if !completeness::are_closed(numbers, tables, lines, marks) {
-        return Judged::Refused(6, count);
+        return Err(Refusal::Unjustified(count));
     }
-    Judged::Passed
+    Ok(())
 }
 
 // The judge with tables and marks that hold the graph. The marks are cleared.
@@ -100,14 +84,12 @@ pub fn judge_in(
     tables: &mut [usize],
     begun: &mut [u8],
     marks: &mut [u8],
-) -> Judged
+) -> Result<(), Refusal>
     requires header_read { HeaderRead numbers.now h }
     requires all_sections_in_bounds { (start_of h all_sections ≤ length tables.old) × (length tables.old < 4294967296) }
     requires symbols_bound { (2 * h.modules + h.statements + 63 * h.symbols ≤ 8 * length begun.old) × (2 * h.modules + h.statements + 63 * h.symbols ≤ 8 * length marks.old) × ((j : ℕ) → bit_at begun.old j ≡ false) × ((j : ℕ) → bit_at marks.old j ≡ false) }
     ensures { result ≡ judge_of numbers.now starts.now lines.now }
 {
-    match may_judge(numbers, starts, lines, h, tables) {
-        Checked::Refused(n, p) => Judged::Refused(n, p),
-        Checked::Accepted => judge_all(numbers, tables, starts, lines, begun, marks),
-    }
+    may_judge(numbers, starts, lines, h, tables)?;
+    judge_all(numbers, tables, starts, lines, begun, marks)
 }

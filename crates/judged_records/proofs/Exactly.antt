@@ -8,10 +8,7 @@ use borrow.Author.Tests.{eqb-true, eq-eqb}
 use lib.Dec.{eqb}
 use lib.ListN.{length}
 use Rattle.determine_side_effects.specs.rows_crate.Walk.{Parsed, got, fault}
-use Rattle.determine_side_effects.specs.rows_crate.declared.Walk.{Walk}
-use Rattle.determine_side_effects.specs.rows_crate.declared.Walk.TheVariants.{At, Fault}
 use Rattle.determine_side_effects.proofs.rows_crate.Walks.{clash}
-use Rattle.determine_side_effects.specs.graph_crate.declared.Checked.TheVariants.{Accepted}
 use Rattle.determine_side_effects.specs.graph_crate.Check.{Graph, graph_in, check_of, answer_of}
 use Rattle.determine_side_effects.specs.graph_crate.Loaded.{Loaded}
 use Rattle.determine_side_effects.proofs.graph_crate.WellFormed.{accepted_is}
@@ -24,8 +21,6 @@ use Rattle.starts.specs.Starts.{starts_walk, starts_of, starts_fault}
 use Rattle.starts.proofs.Starting.{starts_good}
 use Rattle.line_judgement.specs.Stand.{stands, first_bad}
 use Rattle.completeness.specs.Complete.{is_complete}
-use Rattle.judge_parts.specs.declared.Judged.{Judged}
-use Rattle.judge_parts.specs.declared.Judged.TheVariants.{Passed, Refused}
 use Rattle.judge_parts.specs.Operation.{judged_whole, judged_at, judged_lines, judged_in, judge_of}
 use Rattle.closed_choices.specs.Choice.{HoldsStarts, HasLine}
 use Rattle.closed_choices.proofs.Accepting.{accepted_tabled}
@@ -36,25 +31,28 @@ use Rattle.judged_records.proofs.Facts.{number_has, line_good}
 use Rattle.judged_records.proofs.Lines.{Standing, first_bad_none, none_first_bad, all_stand, stand_all}
 use Rattle.judged_records.proofs.Closing.{says_complete}
 use Rattle.judged_records.proofs.Reaching.{lines_in}
+use Rattle.std.specs.Prelude.{Result, Ok, Err}
+use Rattle.determine_side_effects.specs.refusal_crate.declared.Refusal.{Refusal}
+use Rattle.determine_side_effects.specs.refusal_crate.declared.Refusal.TheVariants.{WrongLength, Unjustified}
 
-no_refusal : {n p : ℕ} → Refused n p ≡ Passed → ⊥
-no_refusal e = let z : ◌≡◌ {A = ℕ} 0 1 = cc in omega arith
+no_refusal : {why : Refusal} → ◌≡◌ {A = Result Unit Refusal} (Err why) (Ok tt) → ⊥
+no_refusal e = cc
 
 -- a test that has to be true
-passes_if : (n p : ℕ) (b : Bool) {x : Judged} → elim b [ true ↦ x | false ↦ Refused n p ] ≡ Passed → (b ≡ true) × (x ≡ Passed)
-passes_if n p true e = (refl, e)
-passes_if n p false e = absurd (no_refusal e)
+passes_if : (why : Refusal) (b : Bool) {x : Result Unit Refusal} → ◌≡◌ {A = Result Unit Refusal} (elim b [ true ↦ x | false ↦ Err why ]) (Ok tt) → (b ≡ true) × (x ≡ Ok tt)
+passes_if why true e = (refl, e)
+passes_if why false e = absurd (no_refusal e)
 
-if_passes : (n p : ℕ) {b : Bool} {x : Judged} → b ≡ true → x ≡ Passed → elim b [ true ↦ x | false ↦ Refused n p ] ≡ Passed
-if_passes n p h e = rw h e
+if_passes : (why : Refusal) {b : Bool} {x : Result Unit Refusal} → b ≡ true → x ≡ Ok tt → ◌≡◌ {A = Result Unit Refusal} (elim b [ true ↦ x | false ↦ Err why ]) (Ok tt)
+if_passes why h e = rw h e
 
 -- starts without a fault
-starts_faultless : (g : Graph) (starts : List ℕ) (p : ℕ) → starts_walk g starts ≡ At p → (p ≡ 0) × (starts_fault g starts 0 (length starts / 3) ≡ 0)
+starts_faultless : (g : Graph) (starts : List ℕ) (p : ℕ) → starts_walk g starts ≡ Ok p → (p ≡ 0) × (starts_fault g starts 0 (length starts / 3) ≡ 0)
 unfolding starts_walk
 starts_faultless g starts p e = go (eqb (length starts % 3) 0) refl (eqb (starts_fault g starts 0 (length starts / 3)) 0) refl
   where
     go : (b : Bool) → eqb (length starts % 3) 0 ≡ b → (c : Bool) → eqb (starts_fault g starts 0 (length starts / 3)) 0 ≡ c → (p ≡ 0) × (starts_fault g starts 0 (length starts / 3) ≡ 0)
-    go true x true y = let z : At 0 ≡ At p = rw (x, y, starts_walk) at e in (cc, eqb-true _ 0 y)
+    go true x true y = let z : Ok 0 ≡ Ok p = rw (x, y, starts_walk) at e in (cc, eqb-true _ 0 y)
     go true x false y = absurd (clash (sym (rw (x, y, starts_walk) at e)))
     go false x c y = absurd (clash (sym (rw (x, starts_walk) at e)))
 
@@ -75,19 +73,19 @@ module _ {numbers tables : List ℕ} (t : Loaded numbers tables) (starts : List 
   abbrev Complete : Type 0
   Complete = is_complete g v (has g 0 (lines_of n row)) starts (lines_of n row) ≡ true
 
-  lines_passed : judged_lines g starts row ≡ Passed → (first_bad standing 0 n ≡ n) × Complete
+  lines_passed : judged_lines g starts row ≡ Ok tt → (first_bad standing 0 n ≡ n) × Complete
   unfolding judged_lines judged_at judged_whole
   lines_passed e =
-      let a = passes_if 6 (first_bad standing 0 n) (eqb (first_bad standing 0 n) n) e in
-      let b = passes_if 6 (length (lines_of n row)) (is_complete g v (has g 0 (lines_of n row)) starts (lines_of n row)) a.1 in
+      let a = passes_if (Unjustified (first_bad standing 0 n)) (eqb (first_bad standing 0 n) n) e in
+      let b = passes_if (Unjustified (length (lines_of n row))) (is_complete g v (has g 0 (lines_of n row)) starts (lines_of n row)) a.1 in
       (eqb-true (first_bad standing 0 n) n a.0, b.0)
 
-  passed_lines : first_bad standing 0 n ≡ n → Complete → judged_lines g starts row ≡ Passed
+  passed_lines : first_bad standing 0 n ≡ n → Complete → judged_lines g starts row ≡ Ok tt
   unfolding judged_lines judged_at judged_whole
-  passed_lines e c = if_passes 6 (first_bad standing 0 n) (eq-eqb (first_bad standing 0 n) n e) (if_passes 6 (length (lines_of n row)) c refl)
+  passed_lines e c = if_passes (Unjustified (first_bad standing 0 n)) (eq-eqb (first_bad standing 0 n) n e) (if_passes (Unjustified (length (lines_of n row))) c refl)
 
   -- a record that is passed is a keep record, and the other way round
-  is_record : length row % 6 ≡ 0 → judged_lines g starts row ≡ Passed → IsKeepRecord g starts row
+  is_record : length row % 6 ≡ 0 → judged_lines g starts row ≡ Ok tt → IsKeepRecord g starts row
   is_record six e =
       let p = lines_passed e in
       let stand = all_stand t starts good row n (first_bad_none standing n p.0) in
@@ -105,7 +103,7 @@ module _ {numbers tables : List ℕ} (t : Loaded numbers tables) (starts : List 
             };
       }
 
-  record_passed : IsKeepRecord g starts row → judged_lines g starts row ≡ Passed
+  record_passed : IsKeepRecord g starts row → judged_lines g starts row ≡ Ok tt
   record_passed r =
       let stand : (k : ℕ) → k < n → Standing g starts row k = λ k u. record { in_form_holds = r.in_form_holds k u; new = λ i l. r.no_fact_twice i k l u; justified = r.justified k u } in
       let parts : (k : ℕ) → k < n → Good g (fact_in row k) = λ k u. (r.in_form_holds k u).parts_good in
@@ -114,47 +112,47 @@ module _ {numbers tables : List ℕ} (t : Loaded numbers tables) (starts : List 
 
 -- the steps before the lines
 module _ (numbers starts row : List ℕ) where
-  judged_accepted : judge_of numbers starts row ≡ Passed → answer_of (check_of numbers) ≡ Accepted
+  judged_accepted : judge_of numbers starts row ≡ Ok tt → answer_of (check_of numbers) ≡ Ok tt
   unfolding judge_of answer_of
   judged_accepted e = go (check_of numbers) refl
     where
-      go : (x : Parsed Graph) → check_of numbers ≡ x → answer_of (check_of numbers) ≡ Accepted
+      go : (x : Parsed Graph) → check_of numbers ≡ x → answer_of (check_of numbers) ≡ Ok tt
       go (got h q) i = ap answer_of i
-      go (fault n p) i = absurd (no_refusal (rw (i, judge_of) at e))
+      go (fault why) i = absurd (no_refusal (rw (i, judge_of) at e))
 
-  accepted_judged : answer_of (check_of numbers) ≡ Accepted → judge_of numbers starts row ≡ judged_in (graph_in numbers) starts row
+  accepted_judged : answer_of (check_of numbers) ≡ Ok tt → judge_of numbers starts row ≡ judged_in (graph_in numbers) starts row
   unfolding judge_of
   accepted_judged e = rw ((accepted_is numbers e).1, judge_of)
 
-  starts_passed : (g : Graph) → judged_in g starts row ≡ Passed → starts_walk g starts ≡ At 0
+  starts_passed : (g : Graph) → judged_in g starts row ≡ Ok tt → starts_walk g starts ≡ Ok 0
   unfolding judged_in
   starts_passed g e = go (starts_walk g starts) refl
     where
-      go : (w : Walk) → starts_walk g starts ≡ w → starts_walk g starts ≡ At 0
-      go (At p) i = i ∙ ap (λ q. At q) (starts_faultless g starts p i).0
-      go (Fault n p) i = absurd (no_refusal (rw (i, judged_in) at e))
+      go : (w : Result ℕ Refusal) → starts_walk g starts ≡ w → starts_walk g starts ≡ Ok 0
+      go (Ok p) i = i ∙ ap (λ q. Ok q) (starts_faultless g starts p i).0
+      go (Err why) i = absurd (no_refusal (rw (i, judged_in) at e))
 
   -- beside starts without a fault
-  in_sixes : (g : Graph) → starts_walk g starts ≡ At 0 → judged_in g starts row ≡ Passed → (length row % 6 ≡ 0) × (judged_lines g (starts_of starts) row ≡ Passed)
+  in_sixes : (g : Graph) → starts_walk g starts ≡ Ok 0 → judged_in g starts row ≡ Ok tt → (length row % 6 ≡ 0) × (judged_lines g (starts_of starts) row ≡ Ok tt)
   unfolding judged_in
-  in_sixes g i e = let p = passes_if 4 (length row) (eqb (length row % 6) 0) (rw (i, judged_in) at e) in (eqb-true (length row % 6) 0 p.0, p.1)
+  in_sixes g i e = let p = passes_if (WrongLength (length row)) (eqb (length row % 6) 0) (rw (i, judged_in) at e) in (eqb-true (length row % 6) 0 p.0, p.1)
 
-  sixes_in : (g : Graph) → starts_walk g starts ≡ At 0 → length row % 6 ≡ 0 → judged_lines g (starts_of starts) row ≡ Passed → judged_in g starts row ≡ Passed
+  sixes_in : (g : Graph) → starts_walk g starts ≡ Ok 0 → length row % 6 ≡ 0 → judged_lines g (starts_of starts) row ≡ Ok tt → judged_in g starts row ≡ Ok tt
   unfolding judged_in
-  sixes_in g i s e = rw (i, judged_in) (if_passes 4 (length row) (eq-eqb (length row % 6) 0 s) e)
+  sixes_in g i s e = rw (i, judged_in) (if_passes (WrongLength (length row)) (eq-eqb (length row % 6) 0 s) e)
 
-  good_starts : starts_walk (graph_in numbers) starts ≡ At 0 → HoldsStarts (starts_of starts) (Good (graph_in numbers))
+  good_starts : starts_walk (graph_in numbers) starts ≡ Ok 0 → HoldsStarts (starts_of starts) (Good (graph_in numbers))
   good_starts i = starts_good (graph_in numbers) starts (starts_faultless (graph_in numbers) starts 0 i).1
 
-  passed_passes : judge_of numbers starts row ≡ Passed → Passes numbers starts row
+  passed_passes : judge_of numbers starts row ≡ Ok tt → Passes numbers starts row
   passed_passes e =
       let a = judged_accepted e in
-      let j : judged_in (graph_in numbers) starts row ≡ Passed = sym (accepted_judged a) ∙ e in
+      let j : judged_in (graph_in numbers) starts row ≡ Ok tt = sym (accepted_judged a) ∙ e in
       let i = starts_passed (graph_in numbers) j in
       let s = in_sixes (graph_in numbers) i j in
       record { accepted = a; starts_good = i; is_record = is_record (accepted_tabled numbers a).holds (starts_of starts) (good_starts i) row s.0 s.1 }
 
-  passes_passed : Passes numbers starts row → judge_of numbers starts row ≡ Passed
+  passes_passed : Passes numbers starts row → judge_of numbers starts row ≡ Ok tt
   passes_passed p =
       accepted_judged p.accepted
       ∙ sixes_in (graph_in numbers) p.starts_good p.is_record.six_each

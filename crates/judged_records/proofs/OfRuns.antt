@@ -6,7 +6,6 @@ use mathlib.Core.List.{List, [], ◌∷◌, ◌++◌, append-nil, append_assoc}
 use lib.Dec.{ltb}
 use lib.ListN.{length, take, replicate}
 use lib.Seq.{take_at}
-use Rattle.determine_side_effects.specs.graph_crate.declared.Checked.TheVariants.{Accepted}
 use Rattle.determine_side_effects.specs.graph_crate.Check.{Graph, graph_in, check_of, answer_of}
 use Rattle.determine_side_effects.specs.Effects.{last_verdicts}
 use Rattle.determine_side_effects.specs.facts_crate.declared.Fact.{Fact}
@@ -33,6 +32,7 @@ use Rattle.judged_records.proofs.Drains.{lines_record, drain_whole, drain_least,
 use Rattle.judged_records.proofs.RunTriples.{Startable, triples_back, triples_pass}
 use Rattle.judged_records.proofs.RunStarts.{run-starts-fit}
 use Rattle.judged_records.proofs.RunOnce.{once_every, once_has, once_only, same_smallest, same_stand}
+use Rattle.std.specs.Prelude.{Ok}
 
 -- lines go on behind those that are there
 abbrev pub Begins : List Line → List Line → Type 0
@@ -80,7 +80,7 @@ main_row g r p lent =
     ∙ take_at (written r.main) (written p.0 ++ zeros) (6 * length r.main) (written-length r.main)
 
 -- the run of accepted numbers
-module _ (numbers : List ℕ) (accepted : answer_of (check_of numbers) ≡ Accepted) where
+module _ (numbers : List ℕ) (accepted : answer_of (check_of numbers) ≡ Ok tt) where
   abbrev g : Graph
   g = graph_in numbers
 

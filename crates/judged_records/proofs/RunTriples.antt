@@ -6,7 +6,6 @@ use mathlib.Core.List.{List, [], ◌∷◌}
 use native.Mathlib.Omega.{arith}
 use lib.ListN.{length, get_or}
 use lib.Seq.{ext_get_or}
-use Rattle.determine_side_effects.specs.rows_crate.declared.Walk.TheVariants.{At}
 use Rattle.determine_side_effects.specs.graph_crate.Check.{Graph}
 use Rattle.determine_side_effects.specs.graph_access_crate.Words.{tabulate, normal}
 use Rattle.determine_side_effects.specs.facts_crate.declared.Fact.{Fact}
@@ -18,6 +17,7 @@ use Rattle.starts.specs.Starts.{start_fault, starts_fault, starts_walk, starts_o
 use Rattle.starts.proofs.Starting.{kept_in, unused_none, module_kept, statement_in, use-in, bailout_in, fault_at, starts_turn, starts_end, good_checked}
 use Rattle.own_starts.specs.Once.{triples}
 use Rattle.closed_choices.proofs.Every.{Every, every_at}
+use Rattle.std.specs.Prelude.{Ok}
 
 -- how many numbers, and number j of triple k
 three_each : (n m : ℕ) → m ≡ 3 * n → (m % 3 ≡ 0) × (m / 3 ≡ n)
@@ -93,7 +93,7 @@ module _ (g : Graph) where
       (sym (faultless (get_or fs j (module_fact 0)) (every_at (Good g) fs (module_fact 0) a j l) (every_at (Startable g) fs (module_fact 0) b j l)))
 
   -- the check of the starts finds nothing
-  pub triples_pass : (fs : List Fact) → Every (Good g) fs → Every (Startable g) fs → starts_walk g (triples fs) ≡ At 0
+  pub triples_pass : (fs : List Fact) → Every (Good g) fs → Every (Startable g) fs → starts_walk g (triples fs) ≡ Ok 0
   triples_pass fs a b =
       sym (good_checked g (triples fs) (three_each (length fs) (length (triples fs)) (triples-length fs)).0
       (none_faulty (triples fs) (length (triples fs) / 3) 0

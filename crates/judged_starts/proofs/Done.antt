@@ -8,20 +8,22 @@ use lib.Dec.{ltb, leb}
 use lib.ListN.{length}
 use Rattle.bit_row.specs.Row.{bytes_for}
 use Rattle.determine_side_effects.specs.rows_crate.Walk.{Parsed, got, fault}
-use Rattle.determine_side_effects.specs.graph_crate.declared.Checked.TheVariants.{Accepted}
 use Rattle.determine_side_effects.specs.graph_crate.Check.{Graph, graph_in, check_of, answer_of}
 use Rattle.determine_side_effects.proofs.graph_crate.WellFormed.{accepted_is}
 use Rattle.determine_side_effects.specs.facts_crate.Facts.{mark_count}
 use Rattle.run_rows.specs.Run.{run_of}
 use Rattle.run_starts.specs.Operation.{Rooms, own_starts_once, before, short, done, worked, outcome_in, outcome_of}
+use Rattle.std.specs.Prelude.{Ok}
+use Rattle.determine_side_effects.specs.refusal_crate.declared.Refusal.{Refusal}
+use Rattle.determine_side_effects.specs.refusal_crate.declared.Refusal.TheVariants.{NoRoom}
 
 pub record Done (numbers : List ℕ) (g : Graph) : Type 0 where
-  pub accepted : answer_of (check_of numbers) ≡ Accepted
+  pub accepted : answer_of (check_of numbers) ≡ Ok tt
   pub graph_is : g ≡ graph_in numbers
 
 -- done is neither of the other outcomes
-not_before : (n p : ℕ) (g : Graph) → before n p ≡ done g → ⊥
-not_before n p g e = let z : ◌≡◌ {A = ℕ} 0 1 = cc in omega arith
+not_before : (why : Refusal) (g : Graph) → before why ≡ done g → ⊥
+not_before why g e = let z : ◌≡◌ {A = ℕ} 0 1 = cc in omega arith
 
 not_short : (g : Graph) → short ≡ done g → ⊥
 not_short g e = let z : ◌≡◌ {A = ℕ} 0 1 = cc in omega arith
@@ -42,16 +44,16 @@ in_done g room h e = go (leb (bytes_for (mark_count g)) room.marks) refl
   where
     go : (b : Bool) → leb (bytes_for (mark_count g)) room.marks ≡ b → h ≡ g
     go true t = worked_done g h room.lines room.starts (rw (t, outcome_in) at e)
-    go false t = absurd (not_before 5 0 h (rw (t, outcome_in) at e))
+    go false t = absurd (not_before NoRoom h (rw (t, outcome_in) at e))
 
 module _ (numbers : List ℕ) (room : Rooms) (g : Graph) (e : outcome_of numbers room ≡ done g) where
-  passed : answer_of (check_of numbers) ≡ Accepted
+  passed : answer_of (check_of numbers) ≡ Ok tt
   unfolding outcome_of answer_of
   passed = go (check_of numbers) refl
     where
-      go : (x : Parsed Graph) → check_of numbers ≡ x → answer_of (check_of numbers) ≡ Accepted
+      go : (x : Parsed Graph) → check_of numbers ≡ x → answer_of (check_of numbers) ≡ Ok tt
       go (got h q) t = ap answer_of t
-      go (fault n p) t = absurd (not_before n p g (rw (t, outcome_of) at e))
+      go (fault why) t = absurd (not_before why g (rw (t, outcome_of) at e))
 
   pub starts_done : Done numbers g
   unfolding outcome_of

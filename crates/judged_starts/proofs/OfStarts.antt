@@ -2,7 +2,6 @@
 use Prim.Native.Nat.{ℕ}
 use mathlib.Core.Path.{◌≡◌}
 use mathlib.Core.List.{List}
-use Rattle.determine_side_effects.specs.graph_crate.declared.Checked.TheVariants.{Accepted}
 use Rattle.determine_side_effects.specs.graph_crate.Check.{graph_in, check_of, answer_of}
 use Rattle.determine_side_effects.specs.Effects.{last_verdicts}
 use Rattle.tree_shaking.specs.Own.{run_starts}
@@ -11,8 +10,9 @@ use Rattle.judged_starts.specs.Operation.{WithoutRepeats, EveryStartsGiven}
 use Rattle.judged_starts.proofs.Done.{starts_done}
 use Rattle.judged_starts.proofs.Repeats.{once_without}
 use Rattle.judged_starts.proofs.Passing.{own_given, given_own, own_passed}
+use Rattle.std.specs.Prelude.{Ok}
 
-own_once : (numbers : List ℕ) → answer_of (check_of numbers) ≡ Accepted → WithoutRepeats (run_starts (graph_in numbers) (last_verdicts (graph_in numbers))) (own_starts_once (graph_in numbers))
+own_once : (numbers : List ℕ) → answer_of (check_of numbers) ≡ Ok tt → WithoutRepeats (run_starts (graph_in numbers) (last_verdicts (graph_in numbers))) (own_starts_once (graph_in numbers))
 unfolding own_starts_once
 own_once numbers accepted =
     let g = graph_in numbers in

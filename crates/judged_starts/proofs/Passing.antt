@@ -4,7 +4,6 @@ use mathlib.Core.Path.{◌≡◌, refl}
 use mathlib.Core.List.{List}
 use lib.ListN.{length, take, drop, replicate}
 use lib.Seq.{take_at}
-use Rattle.determine_side_effects.specs.graph_crate.declared.Checked.TheVariants.{Accepted}
 use Rattle.determine_side_effects.specs.graph_crate.Check.{Graph, graph_in, check_of, answer_of}
 use Rattle.determine_side_effects.specs.Effects.{last_verdicts}
 use Rattle.determine_side_effects.specs.facts_crate.declared.Fact.{Fact}
@@ -17,7 +16,6 @@ use Rattle.tree_shaking.specs.Own.{run_starts}
 use Rattle.run_rows.specs.Run.{with_runtime, run_of}
 use Rattle.own_starts.specs.Once.{triples}
 use Rattle.run_starts.specs.Operation.{own_by_kind, own_starts_once, done, record_after, starts_after}
-use Rattle.judge_parts.specs.declared.Judged.TheVariants.{Passed}
 use Rattle.judge_parts.specs.Operation.{judge_of}
 use Rattle.closed_choices.proofs.Accepting.{accepted_tabled}
 use Rattle.closed_choices.proofs.Every.{Every, every_by}
@@ -31,6 +29,7 @@ use Rattle.judged_records.proofs.RunTriples.{Startable, triples-length, triples_
 use Rattle.judged_records.proofs.RunStarts.{run-starts-fit}
 use Rattle.judged_records.proofs.RunOnce.{once_every, once_has, same_smallest, same_stand}
 use Rattle.judged_records.proofs.OfOperations.{judge_exactly}
+use Rattle.std.specs.Prelude.{Ok}
 
 -- what the rows begin with
 starts_row : (g : Graph) (starts : List ℕ) → take (3 * length (own_starts_once g)) (starts_after (done g) starts) ≡ triples (own_starts_once g)
@@ -41,7 +40,7 @@ record_row : (g : Graph) (lines : List ℕ) → take (6 * length (run_of g).main
 unfolding record_after
 record_row g lines = let main = (run_of g).main in take_at (written main) (replicate (length lines - 6 * length main) 0) (6 * length main) (written-length main)
 
-module _ (numbers : List ℕ) (accepted : answer_of (check_of numbers) ≡ Accepted) where
+module _ (numbers : List ℕ) (accepted : answer_of (check_of numbers) ≡ Ok tt) where
   abbrev g : Graph
   g = graph_in numbers
 
@@ -98,5 +97,5 @@ module _ (numbers : List ℕ) (accepted : answer_of (check_of numbers) ≡ Accep
         is_record = rw (triples_back given, main_are) given_record;
       }
 
-  pub own_passed : (starts lines : List ℕ) → judge_of numbers (take (3 * length (own_starts_once g)) (starts_after (done g) starts)) (take (6 * length (run_of g).main) (record_after (done g) lines)) ≡ Passed
+  pub own_passed : (starts lines : List ℕ) → judge_of numbers (take (3 * length (own_starts_once g)) (starts_after (done g) starts)) (take (6 * length (run_of g).main) (record_after (done g) lines)) ≡ Ok tt
   own_passed starts lines = rw (starts_row g starts, record_row g lines) ((judge_exactly numbers (triples given) (written (run_of g).main)).1 given_passes)

@@ -8,8 +8,8 @@ use Rattle.determine_side_effects.specs.facts_crate.Facts.{module_fact}
 use Rattle.tree_shaking.specs.Own.{run_starts}
 use Rattle.run_rows.specs.Run.{run_of}
 use Rattle.run_starts.specs.Operation.{Rooms, own_starts_once, done, outcome_of, record_after, starts_after}
-use Rattle.judge_parts.specs.declared.Judged.TheVariants.{Passed}
 use Rattle.judge_parts.specs.Operation.{judge_of}
+use Rattle.std.specs.Prelude.{Ok}
 
 -- a list has a fact
 pub record Has (facts : List Fact) (f : Fact) : Type 0 where
@@ -29,7 +29,7 @@ pub record StartsGiven (numbers : List ℕ) (g : Graph) : Type 0 where
   pub is_graph : g ≡ graph_in numbers
   pub own : WithoutRepeats (run_starts g (last_verdicts g)) (own_starts_once g)
   pub passed : (starts lines : List ℕ)
-      → judge_of numbers (take (3 * length (own_starts_once g)) (starts_after (done g) starts)) (take (6 * length (run_of g).main) (record_after (done g) lines)) ≡ Passed
+      → judge_of numbers (take (3 * length (own_starts_once g)) (starts_after (done g) starts)) (take (6 * length (run_of g).main) (record_after (done g) lines)) ≡ Ok tt
 
 abbrev pub EveryStartsGiven : Type 0
 EveryStartsGiven = (numbers : List ℕ) (room : Rooms) (g : Graph) → outcome_of numbers room ≡ done g → StartsGiven numbers g

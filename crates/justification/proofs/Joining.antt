@@ -20,11 +20,10 @@ use Rattle.determine_side_effects.specs.facts_crate.declared.Fact.TheVariants.{M
 use Rattle.determine_side_effects.specs.facts_crate.Facts.{Good, kind_of, first_part, statement_fact}
 use Rattle.determine_side_effects.proofs.Lists.{some_found, some_holds}
 use Rattle.worklist.specs.Drain.{is_forward_of}
-use Rattle.justification.specs.declared.Found.{Found}
-use Rattle.justification.specs.declared.Found.TheVariants.{At, Nowhere}
 use Rattle.justification.specs.Justify.{same_fact, declares, joined_by, joined_by_either}
 use Rattle.justification.specs.Search.{DeclaringSearched, Declared, JoinedOne, Joined}
 use Rattle.justification.proofs.Searches.{at_nowhere}
+use Rattle.std.specs.Prelude.{Option, Some, None}
 
 -- the declaring statements of symbol s
 module _ (numbers : List ℕ) (s : ℕ) (f : Fact) where
@@ -64,16 +63,16 @@ module _ (numbers : List ℕ) (s : ℕ) (f : Fact) where
       go n a b true t = ap (λ x. is_it (get_or rows x [])) (eqb-true n i t) ∙ e
       go n a b false t = let z = eqb-false n i t in p.none n a (omega (arith, z))
 
-  pub declaring_found : (k i : ℕ) → i < length rows → is_it (get_or rows i []) ≡ true → DeclaringSearched numbers s f k (At i)
+  pub declaring_found : (k i : ℕ) → i < length rows → is_it (get_or rows i []) ≡ true → DeclaringSearched numbers s f k (Some i)
   declaring_found k i l e = record { at = λ n q. declares_true i l e; nowhere = λ q. absurd (at_nowhere q) }
 
-  pub declaring_end : (k i : ℕ) → Declaring k i → length rows ≤ i → DeclaringSearched numbers s f k Nowhere
+  pub declaring_end : (k i : ℕ) → Declaring k i → length rows ≤ i → DeclaringSearched numbers s f k None
   declaring_end k i p l = record { at = λ n q. absurd (at_nowhere (sym q)); nowhere = λ q n a b. p.none n a (omega arith) }
 
-  pub declared_found : (k i : ℕ) (r : Found) → DeclaringSearched numbers s f k r → r ≡ At i → Declared numbers s f (At i)
+  pub declared_found : (k i : ℕ) (r : Option ℕ) → DeclaringSearched numbers s f k r → r ≡ Some i → Declared numbers s f (Some i)
   declared_found k i r w e = record { at = λ n q. w.at i e; nowhere = λ q. absurd (at_nowhere q) }
 
-  pub declared_all : (r : Found) → DeclaringSearched numbers s f 0 r → Declared numbers s f r
+  pub declared_all : (r : Option ℕ) → DeclaringSearched numbers s f 0 r → Declared numbers s f r
   declared_all r w = record { at = λ n q. w.at n q; nowhere = λ q. declares_false (λ i l. w.nowhere q i (omega arith) l) }
 
 pub good_forward : (numbers : List ℕ) (b : Fact) (s : SymbolIdx) → Good (graph_in numbers) b → b ≡ Forward s → s.0 < (header_in numbers).symbols
@@ -85,10 +84,10 @@ module _ (numbers : List ℕ) (a b f : Fact) where
   abbrev g : Graph
   g = graph_in numbers
 
-  not_joined : joined_by g a b f ≡ false → JoinedOne numbers a b f Nowhere
+  not_joined : joined_by g a b f ≡ false → JoinedOne numbers a b f None
   not_joined e = record { at = λ n q. absurd (at_nowhere (sym q)); nowhere = λ q. e }
 
-  pub joined_not_module : (k : ℕ) → k ≡ kind_of a → (k ≡ 1 → ⊥) → JoinedOne numbers a b f Nowhere
+  pub joined_not_module : (k : ℕ) → k ≡ kind_of a → (k ≡ 1 → ⊥) → JoinedOne numbers a b f None
   unfolding joined_by
   joined_not_module k e n = not_joined (rw (ne_eqb (kind_of a) 1 (λ z. n (e ∙ z))))
 
@@ -97,39 +96,39 @@ module _ (numbers : List ℕ) (a b f : Fact) where
     unfolding joined_by
     joined-when = rw (eq-eqb (kind_of a) 1 k)
 
-    joined-no : is_forward_of g (first_part a) b ≡ false → JoinedOne numbers a b f Nowhere
+    joined-no : is_forward_of g (first_part a) b ≡ false → JoinedOne numbers a b f None
     joined-no e = not_joined (joined-when ∙ rw e)
 
-    pub joined-module : (m : ModuleIdx) → b ≡ Module m → JoinedOne numbers a b f Nowhere
+    pub joined-module : (m : ModuleIdx) → b ≡ Module m → JoinedOne numbers a b f None
     joined-module m e = joined-no (rw e)
 
-    pub joined-statement : (m : ModuleIdx) (i : StmtIdx) → b ≡ Statement m i → JoinedOne numbers a b f Nowhere
+    pub joined-statement : (m : ModuleIdx) (i : StmtIdx) → b ≡ Statement m i → JoinedOne numbers a b f None
     joined-statement m i e = joined-no (rw e)
 
-    pub joined-use : (s : SymbolIdx) (x : Reason) → b ≡ Use s x → JoinedOne numbers a b f Nowhere
+    pub joined-use : (s : SymbolIdx) (x : Reason) → b ≡ Use s x → JoinedOne numbers a b f None
     joined-use s x e = joined-no (rw e)
 
-    pub joined-checked : (s : SymbolIdx) (x : Reason) → b ≡ CheckedUse s x → JoinedOne numbers a b f Nowhere
+    pub joined-checked : (s : SymbolIdx) (x : Reason) → b ≡ CheckedUse s x → JoinedOne numbers a b f None
     joined-checked s x e = joined-no (rw e)
 
-    pub joined-bailout : (m : ModuleIdx) → b ≡ Bailout m → JoinedOne numbers a b f Nowhere
+    pub joined-bailout : (m : ModuleIdx) → b ≡ Bailout m → JoinedOne numbers a b f None
     joined-bailout m e = joined-no (rw e)
 
     module _ (s : SymbolIdx) (e : b ≡ Forward s) (o p : ℕ) (is : o ≡ owner (symbol_of g s.0)) (first : p ≡ first_part a) where
-      pub joined-other : (o ≡ p → ⊥) → JoinedOne numbers a b f Nowhere
+      pub joined-other : (o ≡ p → ⊥) → JoinedOne numbers a b f None
       joined-other n = joined-no (rw e (ne_eqb (owner (symbol_of g s.0)) (first_part a) (λ z. n (is ∙ z ∙ sym first))))
 
-      pub joined-declared : (r : Found) → o ≡ p → Declared numbers s.0 f r → JoinedOne numbers a b f r
+      pub joined-declared : (r : Option ℕ) → o ≡ p → Declared numbers s.0 f r → JoinedOne numbers a b f r
       joined-declared r z w =
           let t : is_forward_of g (first_part a) b ≡ true = rw e (eq-eqb (owner (symbol_of g s.0)) (first_part a) (sym is ∙ z ∙ first)) in
           let j : joined_by g a b f ≡ declares g s.0 f = joined-when ∙ rw (t, e) in
           record { at = λ i q. j ∙ w.at i q; nowhere = λ q. j ∙ w.nowhere q }
 
   -- in either order
-  pub joins_first : (r : Found) (i : ℕ) → JoinedOne numbers a b f r → r ≡ At i → Joined numbers a b f (At i)
+  pub joins_first : (r : Option ℕ) (i : ℕ) → JoinedOne numbers a b f r → r ≡ Some i → Joined numbers a b f (Some i)
   unfolding joined_by_either
   joins_first r i w e = record { at = λ n q. rw (w.at i e); nowhere = λ q. absurd (at_nowhere q) }
 
-  pub joins_second : (r r' : Found) → JoinedOne numbers a b f r → r ≡ Nowhere → JoinedOne numbers b a f r' → Joined numbers a b f r'
+  pub joins_second : (r r' : Option ℕ) → JoinedOne numbers a b f r → r ≡ None → JoinedOne numbers b a f r' → Joined numbers a b f r'
   unfolding joined_by_either
   joins_second r r' w e v = record { at = λ n q. rw (w.nowhere e) (v.at n q); nowhere = λ q. rw (w.nowhere e) (v.nowhere q) }

@@ -10,25 +10,22 @@ use Rattle.determine_side_effects.specs.facts_crate.declared.Fact.{Fact}
 use Rattle.keep_rules.specs.declared.Candidate.{Candidate}
 use Rattle.consequences.specs.declared.Cursor.{Cursor}
 use Rattle.consequences.specs.Cursors.{segment_in, Placed}
-use Rattle.justification.specs.declared.Found.{Found}
-use Rattle.justification.specs.declared.Found.TheVariants.{At, Nowhere}
 use Rattle.justification.specs.declared.Span.{Span}
-use Rattle.justification.specs.declared.Search.{Search}
-use Rattle.justification.specs.declared.Search.TheVariants.{Justified, Unjustified}
 use Rattle.justification.specs.Search.{is_candidate, gives_at, RuleSpan, SegmentSearched, SpanSearched, Followed}
 use Rattle.justification.proofs.Follow.{follows_true, follows_false}
+use Rattle.std.specs.Prelude.{Option, Some, None}
 
 -- results are what they are
-pub same_at : {i k : ℕ} → At i ≡ At k → i ≡ k
+pub same_at : {i k : ℕ} → Some i ≡ Some k → i ≡ k
 same_at e = cc
 
-pub at_nowhere : {i : ℕ} → At i ≡ Nowhere → ⊥
+pub at_nowhere : {i : ℕ} → Some i ≡ None → ⊥
 at_nowhere e = let z : ◌≡◌ {A = ℕ} 0 1 = cc in omega arith
 
-pub same_cursor : {c d : Cursor} → Justified c ≡ Justified d → c ≡ d
+pub same_cursor : {c d : Cursor} → Some c ≡ Some d → c ≡ d
 same_cursor e = cc
 
-pub justified_not : {c : Cursor} → Justified c ≡ Unjustified → ⊥
+pub justified_not : {c : Cursor} → Some c ≡ None → ⊥
 justified_not e = let z : ◌≡◌ {A = ℕ} 0 1 = cc in omega arith
 
 -- candidate i of segment j
@@ -53,7 +50,7 @@ module _ (numbers : List ℕ) (premise f : Fact) (j k : ℕ) where
       go n a b true t = ap (λ x. gives_at numbers premise f j x) (eqb-true n i t) ∙ e
       go n a b false t = let z = eqb-false n i t in p.none n a (omega (arith, z))
 
-  pub passing_found : (i : ℕ) → Passing i → i < (segment_in numbers premise j).count → gives_at numbers premise f j i ≡ true → i < 18446744073709551615 → SegmentSearched numbers premise f j k (At i)
+  pub passing_found : (i : ℕ) → Passing i → i < (segment_in numbers premise j).count → gives_at numbers premise f j i ≡ true → i < 18446744073709551615 → SegmentSearched numbers premise f j k (Some i)
   passing_found i p l e u =
       record {
         at = λ i' q. let z : i ≡ i' = same_at q in (omega (arith, p.behind), omega arith, ap (λ x. gives_at numbers premise f j x) (sym z) ∙ e);
@@ -61,7 +58,7 @@ module _ (numbers : List ℕ) (premise f : Fact) (j k : ℕ) where
         nowhere = λ q. absurd (at_nowhere q);
       }
 
-  pub passing_end : (i : ℕ) → Passing i → (segment_in numbers premise j).count ≤ i → SegmentSearched numbers premise f j k Nowhere
+  pub passing_end : (i : ℕ) → Passing i → (segment_in numbers premise j).count ≤ i → SegmentSearched numbers premise f j k None
   passing_end i p l = record { at = λ i' q. absurd (at_nowhere (sym q)); fits = λ i' q. absurd (at_nowhere (sym q)); nowhere = λ q n a b. p.none n a (omega arith) }
 
 -- segments, from the cursor on
@@ -76,7 +73,7 @@ module _ (numbers : List ℕ) (premise f : Fact) (c : Cursor) where
   crossing_start p = record { behind = omega arith; reaches = λ i h. h refl; placed = p; none = λ n i a b h l. absurd (omega arith) }
 
   module _ (j k place : ℕ) (p : Crossing j k place) where
-    pub crossing_on : (next : ℕ) (r : Found) → SegmentSearched numbers premise f j k r → r ≡ Nowhere → Placed numbers premise (j + 1) next → Crossing (j + 1) 0 next
+    pub crossing_on : (next : ℕ) (r : Option ℕ) → SegmentSearched numbers premise f j k r → r ≡ None → Placed numbers premise (j + 1) next → Crossing (j + 1) 0 next
     crossing_on next r s e q =
         record { behind = omega (arith, p.behind); reaches = λ i h. omega arith; placed = q; none = λ n i a b h l. go n i a b h l (eqb n j) refl }
       where
@@ -86,8 +83,8 @@ module _ (numbers : List ℕ) (premise f : Fact) (c : Cursor) where
             rw z (s.nowhere e i (p.reaches i (λ w. h (z ∙ w))) (rw z at l))
         go n i a b h l false t = let z = eqb-false n j t in p.none n i a (omega (arith, z)) h l
 
-    pub crossing-found : (to i : ℕ) (r : Found) → SegmentSearched numbers premise f j k r → r ≡ At i → j < to
-        → SpanSearched numbers premise f c to (Justified (record { segment = j; index = i + 1; place = place }))
+    pub crossing-found : (to i : ℕ) (r : Option ℕ) → SegmentSearched numbers premise f j k r → r ≡ Some i → j < to
+        → SpanSearched numbers premise f c to (Some (record { segment = j; index = i + 1; place = place }))
     crossing-found to i r s e l =
         record {
           segment_found = λ d q. rw (sym (same_cursor q)) (p.behind, l);
@@ -98,7 +95,7 @@ module _ (numbers : List ℕ) (premise f : Fact) (c : Cursor) where
           absent = λ q. absurd (justified_not q);
         }
 
-    pub crossing-end : (to : ℕ) → to ≤ j → SpanSearched numbers premise f c to Unjustified
+    pub crossing-end : (to : ℕ) → to ≤ j → SpanSearched numbers premise f c to None
     crossing-end to l =
         record {
           segment_found = λ d q. absurd (justified_not (sym q));
@@ -109,7 +106,7 @@ module _ (numbers : List ℕ) (premise f : Fact) (c : Cursor) where
 
 -- the segments of a rule
 module _ (numbers : List ℕ) (premise : Fact) (rule : ℕ) (f : Fact) (span : Span) (s : RuleSpan numbers premise rule span) (c : Cursor) where
-  pub span_found : (r : Search) → SpanSearched numbers premise f c span.to r → span.from ≤ c.segment → (d : Cursor) → r ≡ Justified d → Followed numbers premise rule f (Justified d)
+  pub span_found : (r : Option Cursor) → SpanSearched numbers premise f c span.to r → span.from ≤ c.segment → (d : Cursor) → r ≡ Some d → Followed numbers premise rule f (Some d)
   span_found r w b d e =
       record {
         found = λ d' q. follows_true numbers premise rule f d.segment (d.index - 1) (omega (arith, w.segment_found d e, s.inside))
@@ -118,9 +115,9 @@ module _ (numbers : List ℕ) (premise : Fact) (rule : ℕ) (f : Fact) (span : S
         absent = λ q. absurd (justified_not q);
       }
 
-  pub span_all : (r : Search) → SpanSearched numbers premise f c span.to r → span.from ≡ c.segment → c.index ≡ 0 → Followed numbers premise rule f r
-  span_all (Justified d) w b z = span_found (Justified d) w (omega arith) d refl
-  span_all Unjustified w b z =
+  pub span_all : (r : Option Cursor) → SpanSearched numbers premise f c span.to r → span.from ≡ c.segment → c.index ≡ 0 → Followed numbers premise rule f r
+  span_all (Some d) w b z = span_found (Some d) w (omega arith) d refl
+  span_all None w b z =
       record {
         found = λ d q. absurd (justified_not (sym q));
         placed = λ d q. absurd (justified_not (sym q));

@@ -1,5 +1,5 @@
 -- Whether a fact follows from others by a rule, as one line of a record says (docs/OPERATIONS.md, Judge).
-use Rattle.std.specs.Prelude.{ℕ, Bool, true, false, ◌&&◌, ◌||◌, List, eqb}
+use Rattle.std.specs.Prelude.{ℕ, Bool, ◌&&◌, ◌||◌, List, eqb}
 use Rattle.determine_side_effects.specs.graph_crate.Check.{Graph}
 use Rattle.determine_side_effects.specs.graph_access_crate.Names.{owner, declaring_statements, only}
 use Rattle.determine_side_effects.specs.graph_access_crate.Words.{some, symbol_of}

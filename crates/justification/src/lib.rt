@@ -16,26 +16,12 @@ use determine_side_effects::graph_access_crate::symbols;
 use determine_side_effects::index_crate::SymbolIdx;
 use keep_rules::Candidate;
 
-// Where a fact stands among candidates.
-#[derive(Clone, Copy)]
-pub enum Found {
-    At(usize),
-    Nowhere,
-}
-
 // Segments of a premise: from one up to, not with, another; and where the reference of the first one stands, if it has one.
 #[derive(Clone, Copy)]
 pub struct Span {
     pub from: usize,
     pub to: usize,
     pub place: usize,
-}
-
-// A fact follows, and the search can go on from this cursor; or it does not.
-#[derive(Clone, Copy)]
-pub enum Search {
-    Justified(Cursor),
-    Unjustified,
 }
 
 // Whether two facts are the same.
@@ -125,22 +111,20 @@ fn seek_segment(
     j: usize,
     k: usize,
     place: usize,
-) -> Found
+) -> Option<usize>
     requires prepared { Prepared numbers.now tables.now }
     requires good { Good (graph_in numbers.now) premise }
     requires j_in_bounds { (j < length (segments_in numbers.now premise)) × Placed numbers.now premise j place }
     ensures { SegmentSearched numbers.now premise fact j k result }
 {
     let count = consequences::segment_candidates(numbers, tables, premise, j, place);
-    let mut i = k;
-    while i < count {
+    for i in k..count {
         let candidate = consequences::segment_candidate(numbers, tables, premise, j, i, place);
         if is_candidate(candidate, fact) {
-            return Found::At(i);
+            return Some(i);
         }
-        i += 1;
     }
-    Found::Nowhere
+    None
 }
 
 // The first candidate that gives the fact, from the cursor on, in the segments up to `to`.
@@ -151,32 +135,30 @@ fn seek_span(
     fact: Fact,
     cursor: Cursor,
     to: usize,
-) -> Search
+) -> Option<Cursor>
     requires prepared { Prepared numbers.now tables.now }
     requires good { Good (graph_in numbers.now) premise }
     requires to_in_bounds { (to ≤ length (segments_in numbers.now premise)) × Placed numbers.now premise cursor.segment cursor.place }
     ensures { SpanSearched numbers.now premise fact cursor to result }
 {
-    let mut j = cursor.segment;
     let mut k = cursor.index;
     let mut place = cursor.place;
-    while j < to {
+    for j in cursor.segment..to {
         match seek_segment(numbers, tables, premise, fact, j, k, place) {
-            Found::At(i) => {
-                return Search::Justified(Cursor {
+            Some(i) => {
+                return Some(Cursor {
                     segment: j,
                     index: i + 1,
                     place,
                 });
             }
-            Found::Nowhere => {
+            None => {
                 place = consequences::place_behind(numbers, tables, premise, j, place);
-                j += 1;
                 k = 0;
             }
         }
     }
-    Search::Unjustified
+    None
 }
 
 // Whether a rule of K2 to K14 gives the fact from the premise. The search begins at the cursor, where the last one for this premise and rule ended,
@@ -188,7 +170,7 @@ pub fn follows(
     rule: usize,
     fact: Fact,
     cursor: Cursor,
-) -> Search
+) -> Option<Cursor>
     requires prepared { Prepared numbers.now tables.now }
     requires good { Good (graph_in numbers.now) premise }
     requires placed { Placed numbers.now premise cursor.segment cursor.place }
@@ -197,10 +179,10 @@ pub fn follows(
     let span = rule_span(numbers, tables, premise, rule);
     if cursor.segment >= span.from {
         match seek_span(numbers, tables, premise, fact, cursor, span.to) {
-            Search::Justified(next) => {
-                return Search::Justified(next);
+            Some(next) => {
+                return Some(next);
             }
-            Search::Unjustified => {}
+            None => {}
         }
     }
     let begin = Cursor {
@@ -212,69 +194,93 @@ pub fn follows(
 }
 
 // The first declaring statement of symbol s, from number k on, that is the fact.
-fn seek_declaring(numbers: &[u32], tables: &[usize], s: SymbolIdx, fact: Fact, k: usize) -> Found
+fn seek_declaring(
+    numbers: &[u32],
+    tables: &[usize],
+    s: SymbolIdx,
+    fact: Fact,
+    k: usize,
+) -> Option<usize>
     requires prepared { Prepared numbers.now tables.now }
     requires s_bound { s.0 < (header_in numbers.now).symbols }
     ensures { DeclaringSearched numbers.now s.0 fact k result }
 {
     let owner = symbols::owner(numbers, tables, s);
     let count = symbols::declaring_count(numbers, tables, s);
-    let mut i = k;
-    while i < count {
+    for i in k..count {
         let statement = symbols::declaring(numbers, tables, s, i);
         if same(Fact::Statement(owner, statement), fact) {
-            return Found::At(i);
+            return Some(i);
         }
-        i += 1;
     }
-    Found::Nowhere
+    None
 }
 
 // The declaring statement of symbol s that is the fact: from number k on, or anywhere.
-fn find_declaring(numbers: &[u32], tables: &[usize], s: SymbolIdx, fact: Fact, k: usize) -> Found
+fn find_declaring(
+    numbers: &[u32],
+    tables: &[usize],
+    s: SymbolIdx,
+    fact: Fact,
+    k: usize,
+) -> Option<usize>
     requires prepared { Prepared numbers.now tables.now }
     requires s_bound { s.0 < (header_in numbers.now).symbols }
     ensures { Declared numbers.now s.0 fact result }
 {
     match seek_declaring(numbers, tables, s, fact, k) {
-        Found::At(i) => Found::At(i),
-        Found::Nowhere => seek_declaring(numbers, tables, s, fact, 0),
+        Some(i) => Some(i),
+        None => seek_declaring(numbers, tables, s, fact, 0),
     }
 }
 
 // Whether K1 gives the fact from module a and forward b.
-fn joined_by(numbers: &[u32], tables: &[usize], a: Fact, b: Fact, fact: Fact, k: usize) -> Found
+fn joined_by(
+    numbers: &[u32],
+    tables: &[usize],
+    a: Fact,
+    b: Fact,
+    fact: Fact,
+    k: usize,
+) -> Option<usize>
     requires prepared { Prepared numbers.now tables.now }
     requires good { Good (graph_in numbers.now) b }
     ensures { JoinedOne numbers.now a b fact result }
 {
     if determine_side_effects::facts_crate::kind_of(a) != 1 {
-        return Found::Nowhere;
+        return None;
     }
     match b {
-        Fact::Module(_) => Found::Nowhere,
-        Fact::Statement(_, _) => Found::Nowhere,
-        Fact::Use(_, _) => Found::Nowhere,
-        Fact::CheckedUse(_, _) => Found::Nowhere,
+        Fact::Module(_) => None,
+        Fact::Statement(_, _) => None,
+        Fact::Use(_, _) => None,
+        Fact::CheckedUse(_, _) => None,
         Fact::Forward(s) => {
             let owner = symbols::owner(numbers, tables, s);
             if owner.0 != determine_side_effects::facts_crate::first_part(a) {
-                return Found::Nowhere;
+                return None;
             }
             find_declaring(numbers, tables, s, fact, k)
         }
-        Fact::Bailout(_) => Found::Nowhere,
+        Fact::Bailout(_) => None,
     }
 }
 
 // Whether K1 gives the fact from two facts, in either order.
-pub fn joins(numbers: &[u32], tables: &[usize], a: Fact, b: Fact, fact: Fact, k: usize) -> Found
+pub fn joins(
+    numbers: &[u32],
+    tables: &[usize],
+    a: Fact,
+    b: Fact,
+    fact: Fact,
+    k: usize,
+) -> Option<usize>
     requires prepared { Prepared numbers.now tables.now }
     requires good { Good (graph_in numbers.now) a × Good (graph_in numbers.now) b }
     ensures { Joined numbers.now a b fact result }
 {
     match joined_by(numbers, tables, a, b, fact, k) {
-        Found::At(i) => Found::At(i),
-        Found::Nowhere => joined_by(numbers, tables, b, a, fact, k),
+        Some(i) => Some(i),
+        None => joined_by(numbers, tables, b, a, fact, k),
     }
 }

@@ -16,12 +16,13 @@ use Rattle.facts.specs.Facts.{kind_of, first_part, second_part, Good, mark_of}
 use Rattle.facts.specs.graph_crate.Loaded.{Loaded}
 use Rattle.facts.proofs.graph_access_crate.Indexes.{statements_few}
 use Rattle.keep_record.specs.declared.Line.{Line}
-use Rattle.keep_record.specs.declared.Added.TheVariants.{Lines, Full}
 use Rattle.keep_record.specs.Lines.{numbers_of, written, elem, marks_of, marks_from, has, added}
 use Rattle.keep_record.specs.Held.{line_at, lines_of, Held, Grown, Writable}
 use Rattle.keep_record.proofs.Rows.{lines-length, lines_at, lines_more, lines_front, line_back, written-length, written-append}
 use Rattle.keep_record.proofs.Adding.{own-append, elem_more, added_old, added_new, distinct_last}
 use Rattle.keep_record.proofs.Counting.{held_few, marks_few}
+use Rattle.std.specs.Prelude.{Ok}
+use Rattle.keep_record.specs.Held.{no_room}
 
 -- six numbers written one behind another
 pub six_written : (row : List ℕ) (p a b c d e f : ℕ) → p + 6 ≤ length row
@@ -76,14 +77,14 @@ module _ (g : Graph) (base : ℕ) (marks row : List ℕ) (count : ℕ) (l : Line
   unfolding has
   has_bit b e = rw is at (sym (h.marked m) ∙ e)
 
-  pub grown_same : bit_at marks m ≡ true → Grown g base (added g base (lines_of count row) l) marks row (Lines count)
+  pub grown_same : bit_at marks m ≡ true → Grown g base (added g base (lines_of count row) l) marks row (Ok count)
   grown_same e =
       record {
         held = λ c q. let z : count ≡ c = cc in rw (sym z) (sym (added_old g base (lines_of count row) l (has_bit true e)), h);
         full = λ q. let z : ◌≡◌ {A = ℕ} 0 1 = cc in absurd (omega arith);
       }
 
-  pub grown_full : bit_at marks m ≡ false → length row < 6 * count + 6 → Grown g base (added g base (lines_of count row) l) marks row Full
+  pub grown_full : bit_at marks m ≡ false → length row < 6 * count + 6 → Grown g base (added g base (lines_of count row) l) marks row no_room
   grown_full e short =
       record {
         held = λ c q. let z : ◌≡◌ {A = ℕ} 0 1 = cc in absurd (omega arith);
@@ -155,7 +156,7 @@ module _ (g : Graph) (base : ℕ) (marks row : List ℕ) (count : ℕ) (l : Line
         }
 
     pub grown-more : Good g l.fact → bit_at marks m ≡ false → ((j : ℕ) → bit_at marks' j ≡ (eqb j m || bit_at marks j)) → length marks' ≡ length marks → length row' ≡ length row
-        → Grown g base (added g base (lines_of count row) l) marks' row' (Lines (count + 1))
+        → Grown g base (added g base (lines_of count row) l) marks' row' (Ok (count + 1))
     grown-more good e bits wide same =
         record {
           held = λ c q. let z : count + 1 ≡ c = cc in rw (sym z) (lines_now ∙ sym (added_new g base (lines_of count row) l (has_bit false e)), held_more good e bits wide same);

@@ -5,9 +5,9 @@ use Rattle.facts.specs.graph_crate.Check.{Graph}
 use Rattle.facts.specs.graph_access_crate.Words.{tabulate}
 use Rattle.facts.specs.Facts.{fact_of, Good, mark_count}
 use Rattle.keep_record.specs.declared.Line.{Line}
-use Rattle.keep_record.specs.declared.Added.{Added}
-use Rattle.keep_record.specs.declared.Added.TheVariants.{Lines, Full}
 use Rattle.keep_record.specs.Lines.{written, elem, marks_from}
+use Rattle.std.specs.Prelude.{Result, Ok, Err}
+use Rattle.keep_record.specs.declared.Full.{Full}
 
 -- the line whose numbers are the k-th six of a row, and the first `count` lines of a row
 unfoldable pub line_at : List ℕ → ℕ → Line
@@ -40,9 +40,13 @@ pub record Held (g : Graph) (base : ℕ) (marks row : List ℕ) (count : ℕ) : 
   pub zero_behind : row ≡ written (lines_of count row) ++ replicate (length row - 6 * count) 0
 
 -- What an addition leaves: the rows hold these lines, or they are too many for the record.
-pub record Grown (g : Graph) (base : ℕ) (lines : List Line) (marks row : List ℕ) (r : Added) : Type 0 where
-  pub held : (c : ℕ) → r ≡ Lines c → (lines_of c row ≡ lines) × Held g base marks row c
-  pub full : r ≡ Full → length row < 6 * length lines
+-- the result of what needs more room than the record has
+abbrev pub no_room : {A : Type 0} → Result A Full
+no_room = Err (record {})
+
+pub record Grown (g : Graph) (base : ℕ) (lines : List Line) (marks row : List ℕ) (r : Result ℕ Full) : Type 0 where
+  pub held : (c : ℕ) → r ≡ Ok c → (lines_of c row ≡ lines) × Held g base marks row c
+  pub full : r ≡ no_room → length row < 6 * length lines
 
 -- the numbers of a line that can be written: a good fact by a rule from earlier lines
 pub record Writable (g : Graph) (count : ℕ) (l : Line) : Type 0 where

@@ -27,12 +27,9 @@ pub struct Stage {
     pub count: usize,
 }
 
-// How many lines there are now, or the record is too short.
-#[derive(Clone, Copy)]
-pub enum Added {
-    Lines(usize),
-    Full,
-}
+// The record is too short for the next line.
+#[derive(Clone, Copy, Debug, PartialEq, Eq)]
+pub struct Full;
 
 // The fact of line k.
 pub fn fact_at(lines: &[u32], k: usize) -> Fact
@@ -71,7 +68,7 @@ pub fn add(
     lines: &mut [u32],
     stage: Stage,
     line: Line,
-) -> Added
+) -> Result<usize, Full>
     requires loaded { Loaded numbers.now tables.now }
     requires held { Held (graph_in numbers.now) stage.base marks.old lines.old stage.count }
     requires writable { Writable (graph_in numbers.now) stage.count line }
@@ -81,25 +78,21 @@ pub fn add(
     let fact = line.fact;
     let mark = facts::mark_of(numbers, tables, fact);
     if bit_row::test(marks, mark) {
-        return Added::Lines(count);
+        return Ok(count);
     }
     if lines.len() < 6 * count + 6 {
-        return Added::Full;
+        return Err(Full);
     }
     bit_row::set(marks, mark);
     write_line(lines, count, line);
-    Added::Lines(count + 1)
+    Ok(count + 1)
 }
 
 // Clears the lines.
 fn clear_lines(lines: &mut [u32])
     ensures { lines.new ≡ replicate (length lines.old) 0 }
 {
-    let mut k: usize = 0;
-    while k < lines.len() {
-        lines[k] = 0;
-        k += 1;
-    }
+    lines.fill(0);
 }
 
 // Clears marks and lines.

@@ -1,13 +1,13 @@
 -- The fuel of `numbers_from` never decides: any that is not below the number of bytes gives the same.
 use Prim.Native.Nat.{ℕ, zero, suc, ◌+◌, ◌-◌, ◌<◌, ◌≤◌}
-use mathlib.Core.Path.{◌≡◌, refl, ap, ◌∙◌, sym}
+use mathlib.Core.Path.{◌≡◌, refl, ap}
 use mathlib.Core.Bool.{Bool, true, false}
 use mathlib.Core.List.{List, [], ◌∷◌}
 use native.Mathlib.Omega.{arith}
 use lib.Dec.{ltb}
 use lib.ListN.{length, drop, length-drop}
 use Rattle.leb128.specs.Groups.{value, groups, good}
-use Rattle.leb128.specs.Read.{Decoded, all, refused, before, numbers_from}
+use Rattle.leb128.specs.Read.{before, numbers_from}
 
 -- a number has a group
 groups_some : (b : ℕ) (bs : List ℕ) → 0 < length (groups (b ∷ bs))

@@ -12,8 +12,7 @@ use lib.Dec.{ltb, leb}
 use lib.Pow.{pow-add}
 use lib.ListN.{length, get_or, drop, drop_of_length-le}
 use lib.Seq.{drop-cons}
-use Rattle.leb128.specs.declared.Number.{Number}
-use Rattle.leb128.specs.declared.Number.TheVariants.{Is, Bad}
+use Rattle.std.specs.Prelude.{Option, Some, None}
 use Rattle.leb128.specs.Groups.{value, groups, ended, shortest, good}
 use Rattle.leb128.specs.Number.{told, number_of}
 
@@ -22,7 +21,7 @@ unfoldable pub fine : ℕ → ℕ → ℕ → List ℕ → Bool
 fine k sum w gs = ended gs && (leb (k + length gs) 5 && (ltb (sum + w * value gs) (2 ^ 32) && shortest (128 ∷ gs)))
 
 -- the number whose first k groups are worth `sum`, and whose other groups the bytes xs begin with, at p
-unfoldable pub rest : ℕ → ℕ → ℕ → ℕ → List ℕ → Number
+unfoldable pub rest : ℕ → ℕ → ℕ → ℕ → List ℕ → Option (ℕ × ℕ)
 rest k sum w p xs = told (fine k sum w (groups xs)) (sum + w * value (groups xs)) (p + length (groups xs))
 
 -- a group before another can be any
@@ -52,7 +51,7 @@ too_many sum w b (c ∷ gs) h = go (ended (c ∷ gs))
     go true = rw (lt-leb (4 + length (b ∷ c ∷ gs)) 5 (omega arith))
     go false = refl
 
-and_false : (t : Bool) (x p : ℕ) → told (t && false) x p ≡ Bad
+and_false : (t : Bool) (x p : ℕ) → told (t && false) x p ≡ None
 unfolding told
 and_false true x p = refl
 and_false false x p = refl
@@ -83,18 +82,18 @@ module _ (file : List ℕ) (k sum w p : ℕ) (h : p < length file) where
   abbrev b : ℕ
   b = get_or file p 0
 
-  pub rest_zero : k ≤ 4 → b ≡ 0 → rest k sum w p (drop p file) ≡ Bad
+  pub rest_zero : k ≤ 4 → b ≡ 0 → rest k sum w p (drop p file) ≡ None
   rest_zero l z = rw (drop-cons file p 0 h, rest_of k sum w p b (drop (suc p) file) (omega arith) l, le-ltb 0 b (omega arith)) (and_false (ltb (sum + b * w) (2 ^ 32)) (sum + b * w) (p + 1))
 
-  pub rest_big : k ≤ 4 → b < 128 → 2 ^ 32 ≤ sum + b * w → rest k sum w p (drop p file) ≡ Bad
+  pub rest_big : k ≤ 4 → b < 128 → 2 ^ 32 ≤ sum + b * w → rest k sum w p (drop p file) ≡ None
   unfolding told
   rest_big l s z = rw (drop-cons file p 0 h, rest_of k sum w p b (drop (suc p) file) s l, le-ltb (sum + b * w) (2 ^ 32) z)
 
-  pub rest_last : k ≤ 4 → b < 128 → 0 < b → sum + b * w < 2 ^ 32 → rest k sum w p (drop p file) ≡ Is (sum + b * w) (p + 1)
+  pub rest_last : k ≤ 4 → b < 128 → 0 < b → sum + b * w < 2 ^ 32 → rest k sum w p (drop p file) ≡ Some (sum + b * w, p + 1)
   unfolding told
   rest_last l s z f = rw (drop-cons file p 0 h, rest_of k sum w p b (drop (suc p) file) s l, lt-ltb (sum + b * w) (2 ^ 32) f, lt-ltb 0 b z)
 
-  pub rest_full : k ≡ 4 → 128 ≤ b → rest k sum w p (drop p file) ≡ Bad
+  pub rest_full : k ≡ 4 → 128 ≤ b → rest k sum w p (drop p file) ≡ None
   unfolding rest told
   rest_full l s = rw (drop-cons file p 0 h, groups_more b (drop (suc p) file) s, l, too_many sum w b (groups (drop (suc p) file)) (le-ltb b 128 s))
 
@@ -105,7 +104,7 @@ module _ (file : List ℕ) (k sum w p : ℕ) (h : p < length file) where
       let l : p + suc (length gs) ≡ suc p + length gs = omega arith in
       rw (add-one p, drop-cons file p 0 h, groups_more b (drop (suc p) file) s, fine_more k sum w b gs (le-ltb b 128 s), spread sum w (b % 128) (value gs), l)
 
-pub rest_end : (file : List ℕ) (k sum w p : ℕ) → length file ≤ p → rest k sum w p (drop p file) ≡ Bad
+pub rest_end : (file : List ℕ) (k sum w p : ℕ) → length file ≤ p → rest k sum w p (drop p file) ≡ None
 unfolding rest fine ended groups told
 rest_end file k sum w p h = rw (drop_of_length-le file h)
 
@@ -129,7 +128,7 @@ good_one : (b : ℕ) → b < 128 → good (b ∷ []) ≡ true
 unfolding good ended value shortest
 good_one b h = rw (lt-ltb b 128 h, mod-eq_of_lt h, lt-ltb (b + 128 * 0) (2 ^ 32) (omega arith))
 
-pub number_short : (file : List ℕ) (at : ℕ) → at < length file → get_or file at 0 < 128 → Is (get_or file at 0) (at + 1) ≡ number_of at (drop at file)
+pub number_short : (file : List ℕ) (at : ℕ) → at < length file → get_or file at 0 < 128 → Some (get_or file at 0, at + 1) ≡ number_of at (drop at file)
 unfolding number_of value told
 number_short file at h s =
     let b : ℕ = get_or file at 0 in

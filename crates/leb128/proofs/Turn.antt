@@ -1,6 +1,6 @@
 -- The numbers that are left of a file from a place, by the number that stands there.
 use Prim.Native.Nat.{ℕ, zero, suc, ◌+◌, ◌-◌, ◌<◌, ◌≤◌}
-use mathlib.Core.Path.{◌≡◌, refl, ◌∙◌}
+use mathlib.Core.Path.{◌≡◌, refl, ap, ◌∙◌}
 use mathlib.Core.Bool.{Bool, true, false}
 use mathlib.Core.List.{List, [], ◌∷◌}
 use native.Mathlib.Omega.{arith}
@@ -8,7 +8,8 @@ use borrow.Author.Tests.{lt-ltb, le-ltb, ltb-true, ltb-false}
 use lib.Dec.{ltb}
 use lib.ListN.{length, drop, length-drop, drop_of_length-le}
 use lib.Seq.{drop-drop}
-use Rattle.leb128.specs.declared.Number.TheVariants.{Is, Bad}
+use Rattle.std.specs.Prelude.{Some, None}
+use Rattle.refusal.specs.declared.Refusal.TheVariants.{NoNumber, NoRoom}
 use Rattle.leb128.specs.Groups.{value, groups, good}
 use Rattle.leb128.specs.Read.{Decoded, all, refused, before, numbers_from, read_of}
 use Rattle.leb128.specs.Number.{told, number_of}
@@ -32,24 +33,24 @@ groups_some (b ∷ bs) h = go (ltb b 128) refl
     go true e = rw (groups_last b bs (ltb-true b 128 e)) (omega arith)
     go false e = rw (groups_more b bs (ltb-false b 128 e)) (omega arith)
 
-told_is : (t : Bool) (x p x' p' : ℕ) → told t x p ≡ Is x' p' → (t ≡ true) × (x ≡ x') × (p ≡ p')
+told_is : (t : Bool) (x p x' p' : ℕ) → told t x p ≡ Some (x', p') → (t ≡ true) × (x ≡ x') × (p ≡ p')
 unfolding told
-told_is true x p x' p' e = (refl, cc, cc)
-told_is false x p x' p' e = let z : ◌≡◌ {A = ℕ} 0 1 = cc in absurd (omega arith)
+told_is true x p x' p' e = let q : (x, p) ≡ (x', p') = cc in (refl, ap (λ (w : ℕ × ℕ). w.0) q, ap (λ (w : ℕ × ℕ). w.1) q)
+told_is false x p x' p' e = absurd cc
 
-told_bad : (t : Bool) (x p : ℕ) → told t x p ≡ Bad → t ≡ false
+told_bad : (t : Bool) (x p : ℕ) → told t x p ≡ None → t ≡ false
 unfolding told
-told_bad true x p e = let z : ◌≡◌ {A = ℕ} 0 1 = cc in absurd (omega arith)
+told_bad true x p e = absurd cc
 told_bad false x p e = refl
 
 -- one number of the bytes xs
-from_bad : (fuel : ℕ) (xs : List ℕ) (at room : ℕ) → 0 < fuel → 0 < length xs → good (groups xs) ≡ false → numbers_from fuel xs at room ≡ refused 1 at
+from_bad : (fuel : ℕ) (xs : List ℕ) (at room : ℕ) → 0 < fuel → 0 < length xs → good (groups xs) ≡ false → numbers_from fuel xs at room ≡ refused (NoNumber at)
 unfolding numbers_from
 from_bad zero xs at room f h g = absurd (omega arith)
 from_bad (suc fuel) [] at room f h g = absurd (omega arith)
 from_bad (suc fuel) (b ∷ bs) at room f h g = rw (g, numbers_from)
 
-from_full : (fuel : ℕ) (xs : List ℕ) (at room : ℕ) → 0 < fuel → 0 < length xs → good (groups xs) ≡ true → room ≡ 0 → numbers_from fuel xs at room ≡ refused 5 0
+from_full : (fuel : ℕ) (xs : List ℕ) (at room : ℕ) → 0 < fuel → 0 < length xs → good (groups xs) ≡ true → room ≡ 0 → numbers_from fuel xs at room ≡ refused NoRoom
 unfolding numbers_from
 from_full zero xs at room f h g r = absurd (omega arith)
 from_full (suc fuel) [] at room f h g r = absurd (omega arith)
@@ -89,11 +90,11 @@ module _ (file : List ℕ) (room n at : ℕ) (few : n ≤ at) (h : at < length f
   some : 0 < length (drop at file)
   some = rw (length-drop at file) (omega arith)
 
-  pub left_bad : number_of at (drop at file) ≡ Bad → left file room n at ≡ refused 1 at
+  pub left_bad : number_of at (drop at file) ≡ None → left file room n at ≡ refused (NoNumber at)
   unfolding left number_of
   left_bad e = from_bad _ _ _ _ fuel some (told_bad _ _ _ e)
 
-  module _ (x next : ℕ) (e : number_of at (drop at file) ≡ Is x next) where
+  module _ (x next : ℕ) (e : number_of at (drop at file) ≡ Some (x, next)) where
     its : (good (groups (drop at file)) ≡ true) × (value (groups (drop at file)) ≡ x) × (at + length (groups (drop at file)) ≡ next)
     unfolding number_of
     its = told_is _ _ _ _ _ e
@@ -104,7 +105,7 @@ module _ (file : List ℕ) (room n at : ℕ) (few : n ≤ at) (h : at < length f
         let g = groups_long (drop at file) in
         let l = length-drop at file in (omega (arith, its.2), omega (arith, its.2))
 
-    pub left-full : room ≤ n → left file room n at ≡ refused 5 0
+    pub left-full : room ≤ n → left file room n at ≡ refused NoRoom
     unfolding left
     left-full r = from_full _ _ _ _ fuel some its.0 (omega arith)
 

@@ -1,6 +1,6 @@
 -- Unsigned LEB128, after DWARF 5, section 7.6: a number is a sequence of groups, one in each byte, the least significant
 -- first. The low seven bits of a byte are a digit; its high bit is set in every group but the last.
-use Rattle.std.specs.Prelude.{ℕ, zero, suc, ◌+◌, ◌*◌, ◌%◌, ◌^◌, Bool, true, false, ◌&&◌, ◌||◌, List, [], ◌∷◌, ltb, leb, eqb, length}
+use Rattle.std.specs.Prelude.{ℕ, ◌+◌, ◌*◌, ◌%◌, ◌^◌, Bool, true, false, ◌&&◌, List, [], ◌∷◌, ltb, leb, length}
 
 -- what a sequence of groups is worth: the sum of its digits, each 128 times as heavy as the one before
 unfoldable pub value : List ℕ → ℕ

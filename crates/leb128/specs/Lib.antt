@@ -4,3 +4,5 @@
 pub mod Groups
 pub mod Read
 pub mod Number
+-- The crate below, for the crates above.
+pub use Rattle.refusal.specs as refusal_crate

@@ -18,11 +18,10 @@ use Rattle.marked.specs.Marked.{marked}
 use Rattle.fact_marks.specs.Marks.{Marks, MarksOne}
 use Rattle.record_form.specs.Form.{in_form}
 use Rattle.line_judgement.specs.declared.Trail.{Trail}
-use Rattle.line_judgement.specs.declared.Standing.{Standing}
-use Rattle.line_judgement.specs.declared.Standing.TheVariants.{Stands, Bad}
 use Rattle.line_judgement.specs.Stand.{is_justified, stands, first_bad}
 use Rattle.line_judgement.specs.Steps.{facts_of, Trails, AllStand, Justifies, JudgesLine, JudgesLines}
 use Rattle.line_judgement.proofs.Justifying.{same_trail, stands_bad}
+use Rattle.std.specs.Prelude.{Option, Some, None}
 
 -- the facts of lines and their marks
 facts_append : (xs : List Line) (l : Line) → facts_of (xs ++ (l ∷ [])) ≡ facts_of xs ++ (l.fact ∷ [])
@@ -44,7 +43,7 @@ module _ (numbers : List ℕ) (starts : List Fact) (row marks : List ℕ) (k : �
   abbrev Is : Bool → Type 0
   Is b = stands g (last_verdicts g) starts row k ≡ b
 
-  judges_bad : (after : List ℕ) → Is false → JudgesLine numbers starts row after k Bad
+  judges_bad : (after : List ℕ) → Is false → JudgesLine numbers starts row after k None
   judges_bad after e =
       record {
         good = λ t q. absurd (stands_bad (sym q));
@@ -53,7 +52,7 @@ module _ (numbers : List ℕ) (starts : List Fact) (row marks : List ℕ) (k : �
         bad = λ q. e;
       }
 
-  pub bad_form : (b : Bool) → b ≡ in_form g row k → b ≡ false → JudgesLine numbers starts row marks k Bad
+  pub bad_form : (b : Bool) → b ≡ in_form g row k → b ≡ false → JudgesLine numbers starts row marks k None
   unfolding stands
   bad_form b e z = judges_bad marks (rw (sym e ∙ z))
 
@@ -61,19 +60,19 @@ module _ (numbers : List ℕ) (starts : List Fact) (row marks : List ℕ) (k : �
     has-it : has g 0 (lines_of k row) (line_at row k).fact ≡ d
     has-it = rw (sym is) (has_marked g (lines_of k row) marks f m ∙ sym old)
 
-    pub bad-old : d ≡ true → JudgesLine numbers starts row marks k Bad
+    pub bad-old : d ≡ true → JudgesLine numbers starts row marks k None
     unfolding stands
     bad-old z = judges_bad marks (rw (sym e ∙ form, has-it, z))
 
-    module _ (new : d ≡ false) (r : Standing) (j : Justifies numbers starts row k r) where
+    module _ (new : d ≡ false) (r : Option Trail) (j : Justifies numbers starts row k r) where
       stands-when : stands g (last_verdicts g) starts row k ≡ is_justified g (last_verdicts g) starts row k
       unfolding stands
       stands-when = rw (sym e ∙ form, has-it, new)
 
-      pub bad-unjustified : r ≡ Bad → JudgesLine numbers starts row marks k Bad
+      pub bad-unjustified : r ≡ None → JudgesLine numbers starts row marks k None
       bad-unjustified z = judges_bad marks (stands-when ∙ j.bad z)
 
-      pub line-stands : (t : Trail) → r ≡ Stands t → (after : List ℕ) → MarksOne g f marks after → JudgesLine numbers starts row after k (Stands t)
+      pub line-stands : (t : Trail) → r ≡ Some t → (after : List ℕ) → MarksOne g f marks after → JudgesLine numbers starts row after k (Some t)
       line-stands t z after o =
           record {
             good = λ u q. stands-when ∙ j.good t z;
@@ -122,8 +121,8 @@ module _ (numbers : List ℕ) (starts : List Fact) (row : List ℕ) where
     pub going-room : k < length row / 6 → 6 * k + 6 ≤ length row
     going-room l = omega arith
 
-    module _ (l : k < length row / 6) (after : List ℕ) (r : Standing) (j : JudgesLine numbers starts row after k r) where
-      pub going_on : (t : Trail) → r ≡ Stands t → Going after (k + 1) t
+    module _ (l : k < length row / 6) (after : List ℕ) (r : Option Trail) (j : JudgesLine numbers starts row after k r) where
+      pub going_on : (t : Trail) → r ≡ Some t → Going after (k + 1) t
       going_on t e =
           record {
             inside = omega arith;
@@ -133,7 +132,7 @@ module _ (numbers : List ℕ) (starts : List Fact) (row : List ℕ) where
             whole = sym (bad_on is_good k (length row / 6) l (j.good t e)) ∙ p.whole;
           }
 
-      pub going-bad : r ≡ Bad → (k ≡ first_bad is_good 0 (length row / 6)) × JudgesLines (graph_in numbers) starts row after k
+      pub going-bad : r ≡ None → (k ≡ first_bad is_good 0 (length row / 6)) × JudgesLines (graph_in numbers) starts row after k
       going-bad e = (
         sym (bad_here is_good k (length row / 6) l (j.bad e)) ∙ p.whole,
         record { all_stand = λ z. absurd (omega arith); marks_are = λ z. absurd (omega arith) },

@@ -15,17 +15,13 @@ use Rattle.consequences.specs.declared.Cursor.{Cursor}
 use Rattle.consequences.specs.Cursors.{Placed}
 use Rattle.marked.specs.Marked.{marked}
 use Rattle.fact_marks.specs.Marks.{Marks}
-use Rattle.justification.specs.declared.Found.{Found}
-use Rattle.justification.specs.declared.Found.TheVariants.{At, Nowhere}
-use Rattle.justification.specs.declared.Search.{Search}
-use Rattle.justification.specs.declared.Search.TheVariants.{Justified, Unjustified}
 use Rattle.justification.specs.Justify.{follows, joined_by_either}
 use Rattle.justification.specs.Search.{Followed, Joined}
 use Rattle.justification.proofs.Spans.{placed_begin}
 use Rattle.line_judgement.specs.declared.Trail.{Trail}
-use Rattle.line_judgement.specs.declared.Standing.TheVariants.{Stands, Bad}
 use Rattle.line_judgement.specs.Stand.{named, is_start, is_justified}
 use Rattle.line_judgement.specs.Steps.{Trails, Begins, Justifies}
+use Rattle.std.specs.Prelude.{Option, Some, None}
 
 -- where the search begins
 module _ (numbers : List ℕ) (t : Trail) (rule because and : ℕ) (c : Cursor) where
@@ -41,10 +37,10 @@ unfolding named
 begins_placed numbers t rule because and c row premise h s n e = rw e (h.placed row s n)
 
 -- results
-pub same_trail : {t u : Trail} → Stands t ≡ Stands u → t ≡ u
+pub same_trail : {t u : Trail} → Some t ≡ Some u → t ≡ u
 same_trail e = cc
 
-pub stands_bad : {t : Trail} → Stands t ≡ Bad → ⊥
+pub stands_bad : {t : Trail} → Some t ≡ None → ⊥
 stands_bad e = let z : ◌≡◌ {A = ℕ} 0 1 = cc in omega arith
 
 module _ (numbers : List ℕ) (starts : List Fact) (row : List ℕ) (k : ℕ) where
@@ -54,10 +50,10 @@ module _ (numbers : List ℕ) (starts : List Fact) (row : List ℕ) (k : ℕ) wh
   abbrev Is : Bool → Type 0
   Is b = is_justified g (last_verdicts g) starts row k ≡ b
 
-  justifies_good : (t : Trail) → Is true → Trails numbers row t → Justifies numbers starts row k (Stands t)
+  justifies_good : (t : Trail) → Is true → Trails numbers row t → Justifies numbers starts row k (Some t)
   justifies_good t e h = record { good = λ u q. e; trails = λ u q. rw (sym (same_trail q)) h; bad = λ q. absurd (stands_bad q) }
 
-  justifies_bad : Is false → Justifies numbers starts row k Bad
+  justifies_bad : Is false → Justifies numbers starts row k None
   justifies_bad e = record { good = λ u q. absurd (stands_bad (sym q)); trails = λ u q. absurd (stands_bad (sym q)); bad = λ q. e }
 
   module _ (fact : Fact) (is : fact ≡ (line_at row k).fact) (rule : ℕ) (r : rule ≡ get_or row (6 * k + 3) 0) where
@@ -71,10 +67,10 @@ module _ (numbers : List ℕ) (starts : List Fact) (row : List ℕ) (k : ℕ) wh
       unfolding is_justified is_start marked
       start_is t q = rw (rule-at, eq-eqb rule 0 z, is_justified, sym is) (sym (m.marked (mark_of g fact)) ∙ sym e ∙ q)
 
-      pub start_good : (t : Trail) → Trails numbers row t → b ≡ true → Justifies numbers starts row k (Stands t)
+      pub start_good : (t : Trail) → Trails numbers row t → b ≡ true → Justifies numbers starts row k (Some t)
       start_good t h q = justifies_good t (start_is true q) h
 
-      pub start-bad : b ≡ false → Justifies numbers starts row k Bad
+      pub start-bad : b ≡ false → Justifies numbers starts row k None
       start-bad q = justifies_bad (start_is false q)
 
     module _ (n : rule ≡ 0 → ⊥) (because : ℕ) (a : because ≡ get_or row (6 * k + 4) 0) (premise : Fact) (p : premise ≡ (line_at row (because - 1)).fact) where
@@ -96,10 +92,10 @@ module _ (numbers : List ℕ) (starts : List Fact) (row : List ℕ) (k : ℕ) wh
         unfolding is_justified
         two_is = rw (rule-at, ne_eqb rule 0 n, is_justified, rule-at, eq-eqb rule 1 o, is_justified, because-at, and_at, sym is)
 
-        pub two_good : (f : Found) (i : ℕ) → Joined numbers premise other fact f → f ≡ At i → (t : Trail) → t.segment ≡ 0 → Justifies numbers starts row k (Stands t)
+        pub two_good : (f : Option ℕ) (i : ℕ) → Joined numbers premise other fact f → f ≡ Some i → (t : Trail) → t.segment ≡ 0 → Justifies numbers starts row k (Some t)
         two_good f i j e t z = justifies_good t (two_is ∙ j.at i e) (record { placed = λ w. placed_begin numbers (named row t.because) t.segment t.place z })
 
-        pub two-bad : (f : Found) → Joined numbers premise other fact f → f ≡ Nowhere → Justifies numbers starts row k Bad
+        pub two-bad : (f : Option ℕ) → Joined numbers premise other fact f → f ≡ None → Justifies numbers starts row k None
         two-bad f j e = justifies_bad (two_is ∙ j.nowhere e)
 
       -- K2 to K14
@@ -108,9 +104,9 @@ module _ (numbers : List ℕ) (starts : List Fact) (row : List ℕ) (k : ℕ) wh
         unfolding is_justified
         one_is = rw (rule-at, ne_eqb rule 0 n, is_justified, rule-at, ne_eqb rule 1 o, is_justified, because-at, rule-at, sym is)
 
-        pub one-good : (s : Search) (d : Cursor) → Followed numbers premise rule fact s → s ≡ Justified d → (t : Trail) → t.because ≡ because → t.segment ≡ d.segment → t.place ≡ d.place
-            → Justifies numbers starts row k (Stands t)
+        pub one-good : (s : Option Cursor) (d : Cursor) → Followed numbers premise rule fact s → s ≡ Some d → (t : Trail) → t.because ≡ because → t.segment ≡ d.segment → t.place ≡ d.place
+            → Justifies numbers starts row k (Some t)
         one-good s d f e t x y z = justifies_good t (one_is ∙ f.found d e) (record { placed = λ w. rw (x, y, z, sym premise-named) (f.placed d e) })
 
-        pub one-bad : (s : Search) → Followed numbers premise rule fact s → s ≡ Unjustified → Justifies numbers starts row k Bad
+        pub one-bad : (s : Option Cursor) → Followed numbers premise rule fact s → s ≡ None → Justifies numbers starts row k None
         one-bad s f e = justifies_bad (one_is ∙ f.absent e)

@@ -1,10 +1,10 @@
 -- What a line in form and the lines before it have.
 use Prim.Native.Nat.{ℕ, ◌+◌, ◌*◌, ◌-◌, ◌<◌, ◌≤◌}
 use mathlib.Core.Path.{◌≡◌, refl, ◌∙◌, sym}
-use mathlib.Core.Bool.{Bool, true, false, not, false≢true}
+use mathlib.Core.Bool.{Bool, true, false, false≢true}
 use mathlib.Core.List.{List}
 use native.Mathlib.Omega.{arith}
-use borrow.Author.Tests.{ltb-true, leb-true, not-false}
+use borrow.Author.Tests.{ltb-true, leb-true}
 use lib.Dec.{ltb, leb}
 use lib.ListN.{length, get_or}
 use Rattle.determine_side_effects.specs.graph_crate.Check.{Graph}
@@ -18,8 +18,8 @@ use Rattle.record_form.proofs.Forms.{first-late, two-names, form_good, form_name
 use Rattle.line_judgement.specs.Stand.{stands}
 use Rattle.line_judgement.specs.Steps.{AllStand}
 
-pub form_is : (g : Graph) (row : List ℕ) (k : ℕ) (b : Bool) → b ≡ in_form g row k → not b ≡ false → in_form g row k ≡ true
-form_is g row k b e n = sym e ∙ not-false b n
+pub form_is : (g : Graph) (row : List ℕ) (k : ℕ) (b : Bool) → b ≡ in_form g row k → b ≡ true → in_form g row k ≡ true
+form_is g row k b e n = sym e ∙ n
 
 -- facts are good
 pub line_good : (g : Graph) (row : List ℕ) (k : ℕ) → in_form g row k ≡ true → (f : Fact) → f ≡ (line_at row k).fact → Good g f

@@ -1,5 +1,5 @@
 -- What the steps of judging lines take and leave.
-use Rattle.std.specs.Prelude.{ℕ, ◌+◌, ◌/◌, ◌<◌, ◌≤◌, ◌≡◌, true, false, List, map, length}
+use Rattle.std.specs.Prelude.{ℕ, ◌+◌, ◌/◌, ◌<◌, ◌≡◌, true, false, List, map, length}
 use Rattle.determine_side_effects.specs.graph_crate.Check.{Graph, graph_in}
 use Rattle.determine_side_effects.specs.Effects.{last_verdicts}
 use Rattle.determine_side_effects.specs.facts_crate.declared.Fact.{Fact}
@@ -9,9 +9,8 @@ use Rattle.fact_marks.specs.Marks.{Marks}
 use Rattle.consequences.specs.declared.Cursor.{Cursor}
 use Rattle.consequences.specs.Cursors.{Placed}
 use Rattle.line_judgement.specs.declared.Trail.{Trail}
-use Rattle.line_judgement.specs.declared.Standing.{Standing}
-use Rattle.line_judgement.specs.declared.Standing.TheVariants.{Stands, Bad}
 use Rattle.line_judgement.specs.Stand.{named, is_justified, stands}
+use Rattle.std.specs.Prelude.{Option, Some, None}
 
 -- the facts of lines
 abbrev pub facts_of : List Line → List Fact
@@ -30,17 +29,17 @@ pub record Begins (numbers : List ℕ) (t : Trail) (rule because and : ℕ) (c :
   pub placed : (row : List ℕ) → Trails numbers row t → (rule ≡ 0 → ⊥) → Placed numbers (named row because) c.segment c.place
 
 -- line k is justified or not
-pub record Justifies (numbers : List ℕ) (starts : List Fact) (row : List ℕ) (k : ℕ) (r : Standing) : Type 0 where
-  pub good : (t : Trail) → r ≡ Stands t → is_justified (graph_in numbers) (last_verdicts (graph_in numbers)) starts row k ≡ true
-  pub trails : (t : Trail) → r ≡ Stands t → Trails numbers row t
-  pub bad : r ≡ Bad → is_justified (graph_in numbers) (last_verdicts (graph_in numbers)) starts row k ≡ false
+pub record Justifies (numbers : List ℕ) (starts : List Fact) (row : List ℕ) (k : ℕ) (r : Option Trail) : Type 0 where
+  pub good : (t : Trail) → r ≡ Some t → is_justified (graph_in numbers) (last_verdicts (graph_in numbers)) starts row k ≡ true
+  pub trails : (t : Trail) → r ≡ Some t → Trails numbers row t
+  pub bad : r ≡ None → is_justified (graph_in numbers) (last_verdicts (graph_in numbers)) starts row k ≡ false
 
 -- line k stands, and is marked, or does not
-pub record JudgesLine (numbers : List ℕ) (starts : List Fact) (row marks : List ℕ) (k : ℕ) (r : Standing) : Type 0 where
-  pub good : (t : Trail) → r ≡ Stands t → stands (graph_in numbers) (last_verdicts (graph_in numbers)) starts row k ≡ true
-  pub trails : (t : Trail) → r ≡ Stands t → Trails numbers row t
-  pub marks_are : (t : Trail) → r ≡ Stands t → Marks (graph_in numbers) (facts_of (lines_of (k + 1) row)) marks
-  pub bad : r ≡ Bad → stands (graph_in numbers) (last_verdicts (graph_in numbers)) starts row k ≡ false
+pub record JudgesLine (numbers : List ℕ) (starts : List Fact) (row marks : List ℕ) (k : ℕ) (r : Option Trail) : Type 0 where
+  pub good : (t : Trail) → r ≡ Some t → stands (graph_in numbers) (last_verdicts (graph_in numbers)) starts row k ≡ true
+  pub trails : (t : Trail) → r ≡ Some t → Trails numbers row t
+  pub marks_are : (t : Trail) → r ≡ Some t → Marks (graph_in numbers) (facts_of (lines_of (k + 1) row)) marks
+  pub bad : r ≡ None → stands (graph_in numbers) (last_verdicts (graph_in numbers)) starts row k ≡ false
 
 -- where no line is bad, all stand and are marked
 pub record JudgesLines (g : Graph) (starts : List Fact) (row marks : List ℕ) (first : ℕ) : Type 0 where

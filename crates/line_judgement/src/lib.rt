@@ -15,7 +15,6 @@ ghost use Rattle.line_judgement.specs.Stand.{stands, first_bad};
 ghost use Rattle.line_judgement.specs.Steps.{facts_of, Trails, AllStand, Begins, Justifies, JudgesLine, JudgesLines};
 
 use consequences::Cursor;
-use justification::{Found, Search};
 use marked::is_marked;
 
 // Where the search for the last line's justification ended: the line's rule and names, and a cursor to go on from. Rule 0: there was no search.
@@ -27,13 +26,6 @@ pub struct Trail {
     pub segment: usize,
     pub index: usize,
     pub place: usize,
-}
-
-// A line stands, and where its search ended; or it is bad.
-#[derive(Clone, Copy)]
-pub enum Standing {
-    Stands(Trail),
-    Bad,
 }
 
 // Where the search for the justification of a line with this rule and these names begins.
@@ -70,7 +62,7 @@ fn justify(
     lines: &[u32],
     k: usize,
     trail: Trail,
-) -> Standing
+) -> Option<Trail>
     requires prepared { Prepared numbers.now tables.now }
     requires marks { Marks (graph_in numbers.now) (starts_of starts.now) begun.now }
     requires k_in_bounds { (6 * k + 6 ≤ length lines.now) × AllStand (graph_in numbers.now) (starts_of starts.now) lines.now k × (in_form (graph_in numbers.now) lines.now k ≡ true) × Trails numbers.now lines.now trail }
@@ -81,9 +73,9 @@ fn justify(
     let rule = determine_side_effects::rows_crate::wide(lines[p + 3]);
     if rule == 0 {
         if is_marked(numbers, tables, begun, fact) {
-            return Standing::Stands(trail);
+            return Some(trail);
         }
-        return Standing::Bad;
+        return None;
     }
     let because = determine_side_effects::rows_crate::wide(lines[p + 4]);
     let and = determine_side_effects::rows_crate::wide(lines[p + 5]);
@@ -92,8 +84,8 @@ fn justify(
     if rule == 1 {
         let other = keep_record::fact_at(lines, and - 1);
         match justification::joins(numbers, tables, premise, other, fact, cursor.index) {
-            Found::Nowhere => Standing::Bad,
-            Found::At(i) => Standing::Stands(Trail {
+            None => None,
+            Some(i) => Some(Trail {
                 rule,
                 because,
                 and,
@@ -104,8 +96,8 @@ fn justify(
         }
     } else {
         match justification::follows(numbers, tables, premise, rule, fact, cursor) {
-            Search::Unjustified => Standing::Bad,
-            Search::Justified(next) => Standing::Stands(Trail {
+            None => None,
+            Some(next) => Some(Trail {
                 rule,
                 because,
                 and,
@@ -127,24 +119,24 @@ fn judge_line(
     marks: &mut [u8],
     k: usize,
     trail: Trail,
-) -> Standing
+) -> Option<Trail>
     requires prepared { Prepared numbers.now tables.now }
     requires marks { Marks (graph_in numbers.now) (starts_of starts.now) begun.now × Marks (graph_in numbers.now) (facts_of (lines_of k lines.now)) marks.old }
     requires k_in_bounds { (6 * k + 6 ≤ length lines.now) × AllStand (graph_in numbers.now) (starts_of starts.now) lines.now k × Trails numbers.now lines.now trail }
     ensures { JudgesLine numbers.now (starts_of starts.now) lines.now marks.new k result }
 {
     if !record_form::is_in_form(numbers, tables, lines, k) {
-        return Standing::Bad;
+        return None;
     }
     let fact = keep_record::fact_at(lines, k);
     if is_marked(numbers, tables, marks, fact) {
-        return Standing::Bad;
+        return None;
     }
     match justify(numbers, tables, starts, begun, lines, k, trail) {
-        Standing::Bad => Standing::Bad,
-        Standing::Stands(next) => {
+        None => None,
+        Some(next) => {
             fact_marks::mark(numbers, tables, marks, fact);
-            Standing::Stands(next)
+            Some(next)
         }
     }
 }
@@ -171,17 +163,15 @@ pub fn judge_lines(
         index: 0,
         place: 0,
     };
-    let mut k: usize = 0;
-    while k < count {
+    for k in 0..count {
         match judge_line(numbers, tables, starts, begun, lines, marks, k, trail) {
-            Standing::Bad => {
+            None => {
                 return k;
             }
-            Standing::Stands(next) => {
+            Some(next) => {
                 trail = next;
-                k += 1;
             }
         }
     }
-    k
+    count
 }

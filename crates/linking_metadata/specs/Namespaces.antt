@@ -1,5 +1,5 @@
 -- CommonJS namespaces by symbol (005, `import_record_ns_to_cjs_module`), and a symbol's target.
-use Rattle.std.specs.Prelude.{ℕ, ◌+◌, ◌-◌, ◌<◌, ◌≤◌, ◌≡◌, Bool, true, false, List, [], ◌∷◌, eqb, length, get_or}
+use Rattle.std.specs.Prelude.{ℕ, ◌+◌, ◌-◌, Bool, true, false, List, [], ◌∷◌, eqb}
 use Rattle.graph_access.specs.graph_crate.Check.{Graph}
 use Rattle.graph_access.specs.Names.{owner, alias_namespace, namespace, common_js_namespaces, namespace_symbol, namespace_module}
 use Rattle.graph_access.specs.Words.{root_of}

@@ -14,6 +14,7 @@ use graph_access::tables_crate::NAMESPACES;
 use graph_access::{modules, symbols};
 
 // Whether a symbol is the namespace of its owner.
+#[tactic(auto, unfolding(crate::specs::Namespaces::is_namespace))]
 pub fn is_namespace(numbers: &[u32], tables: &[usize], s: SymbolIdx) -> bool
     requires loaded { Loaded numbers.now tables.now }
     requires s_bound { s.0 < (header_in numbers.now).symbols }
@@ -24,6 +25,7 @@ pub fn is_namespace(numbers: &[u32], tables: &[usize], s: SymbolIdx) -> bool
 }
 
 // The alias namespace of the symbol's root if it has one, else the root.
+#[tactic(auto, using(crate::proofs::Targets::no_alias, crate::proofs::Targets::some_alias))]
 pub fn target_of(numbers: &[u32], tables: &[usize], s: SymbolIdx) -> SymbolIdx
     requires loaded { Loaded numbers.now tables.now }
     requires s_bound { s.0 < (header_in numbers.now).symbols }
@@ -57,15 +59,13 @@ fn enter_namespaces(numbers: &[u32], tables: &mut [usize], m: ModuleIdx)
 {
     let base = tables[NAMESPACES];
     let count = modules::commonjs_namespace_count(numbers, tables, m);
-    let mut k: usize = 0;
-    while k < count {
+    for k in 0..count {
         let s = modules::commonjs_namespace_symbol(numbers, tables, m, k);
         let owner = symbols::owner(numbers, tables, s);
         if owner.0 == m.0 {
             let n = modules::commonjs_namespace_module(numbers, tables, m, k);
             tables[base + s.0] = n.0 + 1;
         }
-        k += 1;
     }
 }
 
@@ -77,9 +77,7 @@ pub fn fill_namespaces(numbers: &[u32], tables: &mut [usize])
 {
     let h = graph_access::graph_crate::header_of(numbers);
     graph_access::tables_crate::clear(tables, NAMESPACES);
-    let mut m: usize = 0;
-    while m < h.modules {
+    for m in 0..h.modules {
         enter_namespaces(numbers, tables, ModuleIdx(m));
-        m += 1;
     }
 }

@@ -5,7 +5,7 @@ use mathlib.Core.List.{List, [], ◌∷◌}
 use native.Mathlib.Omega.{arith}
 use lib.ListN.{length, get_or}
 use Rattle.bit_row.specs.Row.{bytes_for}
-use Rattle.bit_row.proofs.Size.{bytes_hold, bytes_at_most}
+use Rattle.bit_row.proofs.Size.{bytes_hold}
 use Rattle.graph_access.specs.rows_crate.Walk.{Item, no_item}
 use Rattle.graph_access.specs.graph_crate.Check.{Graph}
 use Rattle.graph_access.specs.Names.{import_records}

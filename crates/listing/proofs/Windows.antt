@@ -1,11 +1,11 @@
 -- A row that holds the window on a text, and a byte more.
-use Prim.Native.Nat.{ℕ, zero, suc, ◌+◌, ◌-◌, ◌<◌, ◌≤◌}
+use Prim.Native.Nat.{ℕ, suc, ◌-◌, ◌<◌, ◌≤◌}
 use mathlib.Core.Path.{◌≡◌, refl, ap, ◌∙◌, sym}
 use mathlib.Core.List.{List, [], ◌∷◌, ◌++◌}
 use native.Mathlib.Omega.{arith}
 use lib.ListN.{length, get_or, take, drop, set, length-append, length-take, length-drop, drop_of_length-le}
-use lib.Seq.{drop-nil, take-nil, take_all, drop-cons, take-append-le, drop-append-le, set_at, append_snoc, length_front}
-use Rattle.listing.specs.Text.{window, shown_in, Emits}
+use lib.Seq.{drop-nil, take-nil, take_all, drop-cons, take-append-le, drop-append-le, set_at, append_snoc}
+use Rattle.listing.specs.Text.{window, shown_in}
 
 -- a row keeps its length
 pub shown-length : (skip : ℕ) (text lent : List ℕ) → length (shown_in skip text lent) ≡ length lent

@@ -37,10 +37,8 @@ fn put_word(word: &[u8], skip: usize, at: usize, out: &mut [u8]) -> usize
     ensures { Emits skip word.now at out.old out.new result × (result ≤ at + 16) }
 {
     let mut end = at;
-    let mut i: usize = 0;
-    while i < word.len() {
+    for i in 0..word.len() {
         end = put_byte(skip, end, word[i], out);
-        i += 1;
     }
     end
 }
@@ -75,10 +73,8 @@ fn put_numbers(numbers: &[usize], skip: usize, at: usize, out: &mut [u8]) -> usi
     ensures { Emits skip (numbers_text numbers.now) at out.old out.new result × (result ≤ at + 106) }
 {
     let mut end = at;
-    let mut i: usize = 0;
-    while i < numbers.len() {
+    for i in 0..numbers.len() {
         end = put_number(numbers[i], skip, end, out);
-        i += 1;
     }
     put_byte(skip, end, b'\n', out)
 }
@@ -153,10 +149,8 @@ fn put_entries(
     ensures { Emits skip (text_of (entry_text (graph_in numbers.now) (of_entries row.now)) 0 count) at out.old out.new result × (result ≤ at + 131072) }
 {
     let mut end = at;
-    let mut k: usize = 0;
-    while k < count {
+    for k in 0..count {
         end = put_entry(numbers, tables, row, k, skip, end, out);
-        k += 1;
     }
     end
 }
@@ -216,12 +210,10 @@ fn put_modules(
     ensures { Emits skip (text_of (module_text (graph_in numbers.now) (of_modules verdicts.now kept.now reason.now helpers.now)) 0 count) at out.old out.new result × (result ≤ at + 131072) }
 {
     let mut end = at;
-    let mut m: usize = 0;
-    while m < count {
+    for m in 0..count {
         end = put_module(
             numbers, tables, verdicts, kept, reason, helpers, m, skip, end, out,
         );
-        m += 1;
     }
     end
 }
@@ -241,11 +233,9 @@ fn put_pairs(
     ensures { Emits skip (text_of (pair_text word.now row.now first m) 0 count) at out.old out.new result × (result ≤ at + 2097152) }
 {
     let mut end = at;
-    let mut i: usize = 0;
-    while i < count {
+    for i in 0..count {
         let line = [m, i];
         end = put_line_if(bit_row::test(row, first + i), word, &line, skip, end, out);
-        i += 1;
     }
     end
 }
@@ -282,12 +272,10 @@ fn put_statements(
 {
     let mut end = at;
     let mut first: usize = 0;
-    let mut m: usize = 0;
-    while m < count {
+    for m in 0..count {
         let size = modules::statement_count(numbers, tables, ModuleIdx(m));
         end = put_statements_of(row, first, m, size, skip, end, out);
         first += bit_row::bytes_for(size);
-        m += 1;
     }
     end
 }
@@ -305,11 +293,9 @@ fn put_symbols(
     ensures { Emits skip (text_of (symbol_text word.now row.now) 0 count) at out.old out.new result × (result ≤ at + 2097152) }
 {
     let mut end = at;
-    let mut s: usize = 0;
-    while s < count {
+    for s in 0..count {
         let line = [s];
         end = put_line_if(bit_row::test(row, s), word, &line, skip, end, out);
-        s += 1;
     }
     end
 }
@@ -363,10 +349,8 @@ fn put_json_of(
     ensures { Emits skip (text_of (json_text (graph_in numbers.now) (of_json row.now) m) 0 count) at out.old out.new result × (result ≤ at + 2097152) }
 {
     let mut end = at;
-    let mut s: usize = 0;
-    while s < count {
+    for s in 0..count {
         end = put_json_symbol(numbers, tables, row, m, s, skip, end, out);
-        s += 1;
     }
     end
 }
@@ -387,10 +371,8 @@ fn put_json(
     ensures { Emits skip (text_of (λ m. text_of (json_text (graph_in numbers.now) (of_json row.now) m) 0 symbols) 0 count) at out.old out.new result × (result ≤ at + 2147483648) }
 {
     let mut end = at;
-    let mut m: usize = 0;
-    while m < count {
+    for m in 0..count {
         end = put_json_of(numbers, tables, row, m, symbols, skip, end, out);
-        m += 1;
     }
     end
 }
@@ -427,12 +409,10 @@ fn put_dead(
 {
     let mut end = at;
     let mut first: usize = 0;
-    let mut m: usize = 0;
-    while m < count {
+    for m in 0..count {
         let size = modules::import_record_count(numbers, tables, ModuleIdx(m));
         end = put_dead_of(row, first, m, size, skip, end, out);
         first += size;
-        m += 1;
     }
     end
 }

@@ -1,6 +1,6 @@
 -- The marks of a record's lines say which facts have a line.
 use Prim.Native.Nat.{ℕ}
-use mathlib.Core.Path.{◌≡◌, refl}
+use mathlib.Core.Path.{◌≡◌}
 use mathlib.Core.Bool.{Bool}
 use mathlib.Core.List.{List}
 use Rattle.facts.specs.graph_crate.Check.{Graph}

@@ -31,13 +31,11 @@ fn mark_kept(numbers: &[u32], tables: &[usize], marks: &mut [u8], lines: &[u32],
 {
     let bytes = marks.len();
     bit_row::clear(marks, bytes);
-    let mut k: usize = 0;
-    while k < count {
+    for k in 0..count {
         let fact = keep_record::fact_at(lines, k);
         if stays(fact) {
             bit_row::set(marks, facts::mark_of(numbers, tables, fact));
         }
-        k += 1;
     }
 }
 
@@ -47,10 +45,8 @@ fn forget_forwards(partners: &mut [usize], firsts: usize, nexts: usize)
     requires { nexts ≤ length partners.old }
     ensures { (length partners.new ≡ length partners.old) × ((i : ℕ) → i < firsts → get_or partners.new i 0 ≡ get_or partners.old i 0) × ((i : ℕ) → firsts ≤ i → i < nexts → get_or partners.new i 0 ≡ 0) }
 {
-    let mut i = firsts;
-    while i < nexts {
+    for i in firsts..nexts {
         partners[i] = 0;
-        i += 1;
     }
 }
 

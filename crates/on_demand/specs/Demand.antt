@@ -1,11 +1,9 @@
 -- Bodies that are included on demand (001, on_demand.rs).
-use Rattle.std.specs.Prelude.{ℕ, zero, suc, ◌+◌, ◌<◌, ◌≤◌, ◌≡◌, Bool, true, false, ◌&&◌, ◌||◌, not, List, [], ◌∷◌, eqb, ltb, length, get_or}
-use Rattle.determine_side_effects.specs.rows_crate.Walk.{Item}
+use Rattle.std.specs.Prelude.{ℕ, zero, suc, ◌+◌, Bool, true, false, ◌&&◌, ◌||◌, not, List, eqb, ltb, length, get_or}
 use Rattle.determine_side_effects.specs.graph_crate.Check.{Graph}
 use Rattle.determine_side_effects.specs.graph_access_crate.Names.{exports, flags, namespace, own_exports, only, entry_module, entry_kind, statement_bits, statement_import_records, references}
 use Rattle.determine_side_effects.specs.graph_access_crate.Words.{root_of}
 use Rattle.determine_side_effects.specs.graph_access_crate.Words.{flag, tabulate, some, module_of, statement_list, statement_of, normal, option}
-use Rattle.determine_side_effects.specs.Effects.{last_verdicts}
 
 -- module m is the module of a user-defined entry, kind 0 or 1 (001:128-136)
 unfoldable pub user_entry : Graph → ℕ → Bool

@@ -50,13 +50,11 @@ fn mark_user_defined_entries(numbers: &[u32], tables: &mut [usize])
     let h = determine_side_effects::graph_crate::header_of(numbers);
     determine_side_effects::tables_crate::clear(tables, ON_DEMAND);
     let base = tables[ON_DEMAND];
-    let mut e: usize = 0;
-    while e < h.entries {
+    for e in 0..h.entries {
         if entries::entry_kind(numbers, tables, EntryIdx(e)) < 2 {
             let m = entries::entry_module(numbers, tables, EntryIdx(e));
             tables[base + m.0] = 1;
         }
-        e += 1;
     }
 }
 
@@ -92,15 +90,9 @@ pub fn fill_on_demand(numbers: &[u32], tables: &mut [usize])
     mark_user_defined_entries(numbers, tables);
     let h = determine_side_effects::graph_crate::header_of(numbers);
     let base = tables[ON_DEMAND];
-    let mut m: usize = 0;
-    while m < h.modules {
-        tables[base + m] = side_effects_included_on_demand(
-            numbers,
-            tables,
-            tables[base + m],
-            ModuleIdx(m),
-        );
-        m += 1;
+    for m in 0..h.modules {
+        let entry = tables[base + m];
+        tables[base + m] = side_effects_included_on_demand(numbers, tables, entry, ModuleIdx(m));
     }
 }
 
@@ -137,12 +129,10 @@ fn has_gated_stmts(numbers: &[u32], tables: &[usize], m: ModuleIdx) -> bool
     ensures { result ≡ has_gated (graph_in numbers.now) m.0 }
 {
     let count = modules::statement_count(numbers, tables, m);
-    let mut i: usize = 0;
-    while i < count {
+    for i in 0..count {
         if is_gated_side_effect_stmt(numbers, tables, m, StmtIdx(i)) {
             return true;
         }
-        i += 1;
     }
     false
 }
@@ -171,12 +161,10 @@ fn enter_keys(numbers: &[u32], tables: &mut [usize], m: ModuleIdx)
 {
     let base = tables[BODY_OF_KEY];
     let count = modules::own_export_count(numbers, tables, m);
-    let mut k: usize = 0;
-    while k < count {
+    for k in 0..count {
         let own = modules::own_export(numbers, tables, m, k);
         let root = symbols::root(numbers, tables, own);
         tables[base + root.0] = m.0 + 1;
-        k += 1;
     }
     let namespace = modules::namespace(numbers, tables, m);
     tables[base + (namespace - 1)] = m.0 + 1;
@@ -192,11 +180,9 @@ pub fn compute_body_demand_keys(numbers: &[u32], tables: &mut [usize])
     if !determine_side_effects::facts_crate::flag(h.options, TREESHAKE) {
         return;
     }
-    let mut m: usize = 0;
-    while m < h.modules {
+    for m in 0..h.modules {
         if has_body(numbers, tables, ModuleIdx(m)) {
             enter_keys(numbers, tables, ModuleIdx(m));
         }
-        m += 1;
     }
 }

@@ -1,5 +1,5 @@
 -- Starts as triples, each once, where it stands first.
-use Rattle.std.specs.Prelude.{ℕ, Bool, true, false, List, [], ◌∷◌, ◌++◌, map}
+use Rattle.std.specs.Prelude.{ℕ, true, false, List, [], ◌∷◌, ◌++◌, map}
 use Rattle.facts.specs.graph_crate.Check.{Graph}
 use Rattle.facts.specs.declared.Fact.{Fact}
 use Rattle.facts.specs.Facts.{kind_of, first_part, second_part, mark_of}

@@ -78,11 +78,9 @@ fn note_declaring_statements(
     let owner = symbols::owner(numbers, tables, s);
     let declaring = symbols::declaring_count(numbers, tables, s);
     let mut total = n;
-    let mut i: usize = 0;
-    while i < declaring {
+    for i in 0..declaring {
         let fact = Fact::Statement(owner, symbols::declaring(numbers, tables, s, i));
         total = note(numbers, tables, seen, out, total, fact);
-        i += 1;
     }
     total
 }
@@ -135,11 +133,9 @@ fn note_entry(
     }
     let references = modules::entry_reference_count(numbers, tables, m);
     let mut total = n;
-    let mut k: usize = 0;
-    while k < references {
+    for k in 0..references {
         let s = modules::entry_reference(numbers, tables, m, k);
         total = note_reference(numbers, tables, seen, out, total, s);
-        k += 1;
     }
     note(numbers, tables, seen, out, total, Fact::Module(m))
 }
@@ -181,14 +177,12 @@ fn note_cjs_exports(
 {
     let exports = modules::resolved_export_count(numbers, tables, m);
     let mut total = n;
-    let mut k: usize = 0;
-    while k < exports {
+    for k in 0..exports {
         if modules::resolved_export_from_commonjs(numbers, tables, m, k) == 1 {
             let s = modules::resolved_export_symbol(numbers, tables, m, k);
             let fact = Fact::CheckedUse(s, Reason { bits: 1 });
             total = note(numbers, tables, seen, out, total, fact);
         }
-        k += 1;
     }
     total
 }
@@ -209,14 +203,12 @@ fn note_cjs_bailout_exports(
     ensures { Notes (graph_in numbers.now) (bailouts_starts (graph_in numbers.now) (lines_of count lines.now)) seen.old out.old n seen.new out.new result }
 {
     let mut total = n;
-    let mut k: usize = 0;
-    while k < count {
+    for k in 0..count {
         let fact = keep_record::fact_at(lines, k);
         if facts::kind_of(fact) == 6 {
             let m = ModuleIdx(facts::first_part(fact));
             total = note_cjs_exports(numbers, tables, seen, out, total, m);
         }
-        k += 1;
     }
     total
 }
@@ -235,11 +227,9 @@ fn note_user_entries(
     ensures { Notes (graph_in numbers.now) (users_starts (graph_in numbers.now) (user_entries (graph_in numbers.now))) seen.old out.old 0 seen.new out.new result }
 {
     let mut total: usize = 0;
-    let mut i: usize = 0;
-    while i < users {
+    for i in 0..users {
         let m = entries::entry_module(numbers, tables, EntryIdx(plan[i]));
         total = note_user_entry(numbers, tables, seen, out, total, m);
-        i += 1;
     }
     total
 }
@@ -260,12 +250,10 @@ fn note_live_modules(
     let h = facts::graph_crate::header_of(numbers);
     let live = entry_order::live_at(h);
     let mut total = n;
-    let mut m: usize = 0;
-    while m < h.modules {
+    for m in 0..h.modules {
         if plan[live + m] == 1 {
             total = note_entry(numbers, tables, seen, out, total, ModuleIdx(m));
         }
-        m += 1;
     }
     total
 }

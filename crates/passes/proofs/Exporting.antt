@@ -15,12 +15,13 @@ use Rattle.determine_side_effects.specs.facts_crate.declared.Fact.TheVariants.{C
 use Rattle.determine_side_effects.specs.facts_crate.Facts.{checked_fact}
 use Rattle.determine_side_effects.specs.Effects.{last_verdicts}
 use Rattle.keep_record.specs.declared.Line.{Line}
-use Rattle.keep_record.specs.declared.Added.TheVariants.{Lines, Full}
 use Rattle.keep_record.specs.Held.{lines_of}
 use Rattle.worklist.specs.Drain.{drained_all}
 use Rattle.entry_starts.specs.Working.{Working, Started}
 use Rattle.entry_starts.proofs.Together.{Along, along_start, along_step, along_full, along_done, along_as}
 use Rattle.passes.specs.Bailouts.{export_starts}
+use Rattle.std.specs.Prelude.{Ok}
+use Rattle.keep_record.specs.Held.{no_room}
 
 module _ (rows : List (List ℕ)) (n : ℕ) (size : n ≡ length rows) (k : ℕ) where
   exports_over : n ≤ k → export_starts (drop k rows) ≡ []
@@ -50,16 +51,16 @@ module _ (g : Graph) (base : ℕ) (rows : List (List ℕ)) (n : ℕ) (size : n �
 
   module _ (facts : List Fact) (before : List Line) (p m row : List ℕ) (c k : ℕ) (a : Along g base (drained_all g (last_verdicts g) base facts before) (export_starts (drop k rows)) p m row c) where
     module _ (h : k < n) (x : ℕ) (is : x ≡ export_from_common_js (get_or rows k [])) where
-      pub exporting-step : x ≡ 1 → (s : SymbolIdx) → s.0 ≡ export_symbol (get_or rows k []) → (p' m' row' : List ℕ) (d : ℕ) → Started g base (CheckedUse s (record { bits = 1 }) ∷ []) (lines_of c row) p' m' row' (Lines d)
+      pub exporting-step : x ≡ 1 → (s : SymbolIdx) → s.0 ≡ export_symbol (get_or rows k []) → (p' m' row' : List ℕ) (d : ℕ) → Started g base (CheckedUse s (record { bits = 1 }) ∷ []) (lines_of c row) p' m' row' (Ok d)
           → Along g base (drained_all g (last_verdicts g) base facts before) (export_starts (drop (k + 1) rows)) p' m' row' d
       exporting-step e s q p' m' row' d t = along_step g base _ _ _ p m row c (along_as g base _ _ _ p m row c (exports-here rows n size k h x is e s q) a) p' m' row' d t
 
       pub exporting-other : (x ≡ 1 → ⊥) → Along g base (drained_all g (last_verdicts g) base facts before) (export_starts (drop (k + 1) rows)) p m row c
       exporting-other e = along_as g base _ _ _ p m row c (exports-other rows n size k h x is e) a
 
-      pub exporting-full : x ≡ 1 → (s : SymbolIdx) → s.0 ≡ export_symbol (get_or rows k []) → (p' m' row' : List ℕ) → Started g base (CheckedUse s (record { bits = 1 }) ∷ []) (lines_of c row) p' m' row' Full
-          → Started g base facts before p' m' row' Full
+      pub exporting-full : x ≡ 1 → (s : SymbolIdx) → s.0 ≡ export_symbol (get_or rows k []) → (p' m' row' : List ℕ) → Started g base (CheckedUse s (record { bits = 1 }) ∷ []) (lines_of c row) p' m' row' no_room
+          → Started g base facts before p' m' row' no_room
       exporting-full e s q p' m' row' t = along_full g base facts before _ _ p m row c (along_as g base _ _ _ p m row c (exports-here rows n size k h x is e s q) a) p' m' row' t
 
-    pub exporting-done : n ≤ k → Started g base facts before p m row (Lines c)
+    pub exporting-done : n ≤ k → Started g base facts before p m row (Ok c)
     exporting-done h = along_done g base facts before p m row c (along_as g base _ _ _ p m row c (exports_over rows n size k h) a)

@@ -14,7 +14,6 @@ use Rattle.determine_side_effects.specs.facts_crate.declared.Fact.TheVariants.{M
 use Rattle.determine_side_effects.specs.facts_crate.Facts.{kind_of, first_part, module_fact, Good}
 use Rattle.determine_side_effects.specs.Effects.{last_verdicts}
 use Rattle.keep_record.specs.declared.Line.{Line}
-use Rattle.keep_record.specs.declared.Added.TheVariants.{Lines, Full}
 use Rattle.keep_record.specs.Held.{line_at, lines_of}
 use Rattle.keep_record.proofs.Rows.{lines-length, lines-take}
 use Rattle.worklist.specs.Drain.{line, drained_all}
@@ -22,6 +21,8 @@ use Rattle.entry_starts.specs.Working.{Working, Started}
 use Rattle.entry_starts.proofs.Together.{Along, along_start, along_step, along_full, along_done, along_as}
 use Rattle.passes.specs.Bailouts.{export_starts, bailout_starts, bailouts_starts}
 use Rattle.passes.proofs.Staying.{started_more, take-started, line_in_front}
+use Rattle.std.specs.Prelude.{Ok}
+use Rattle.keep_record.specs.Held.{no_room}
 
 -- a fact of kind 6 is a bailout
 bailout_is : (g : Graph) (f : Fact) → kind_of f ≡ 6 → bailout_starts g f ≡ export_starts (resolved_exports (module_of g (first_part f)))
@@ -68,7 +69,7 @@ module _ (g : Graph) (facts : List Fact) (before front : List Line) (count k : �
   pub gathering_room : k < count → 6 * k + 6 ≤ length row
   gathering_room h = omega (arith, s.along.working.held.room, s.more, h)
 
-  pub gathering_over : count ≤ k → Started g 0 facts before p m row (Lines c)
+  pub gathering_over : count ≤ k → Started g 0 facts before p m row (Ok c)
   unfolding bailouts_starts
   gathering_over h =
       let l : length front ≤ k = omega (arith, s.size, h) in
@@ -103,7 +104,7 @@ module _ (g : Graph) (facts : List Fact) (before front : List Line) (count k : �
       pub gathering-below : x < g.header.modules
       gathering-below = rw part (bailout_below g f e (subst (λ (y : Fact). Good g y) (sym is) (s.along.working.held.good k (omega (arith, s.more, h)))))
 
-      pub gathering-step : (p' m' row' : List ℕ) (d : ℕ) → Started g 0 (export_starts (resolved_exports (module_of g x))) (lines_of c row) p' m' row' (Lines d)
+      pub gathering-step : (p' m' row' : List ℕ) (d : ℕ) → Started g 0 (export_starts (resolved_exports (module_of g x))) (lines_of c row) p' m' row' (Ok d)
           → Gathering g (drained_all g (last_verdicts g) 0 facts before) front count (k + 1) p' m' row' d
       gathering-step p' m' row' d t =
           record {
@@ -113,7 +114,7 @@ module _ (g : Graph) (facts : List Fact) (before front : List Line) (count k : �
             size = s.size;
           }
 
-      pub gathering-full : (p' m' row' : List ℕ) → Started g 0 (export_starts (resolved_exports (module_of g x))) (lines_of c row) p' m' row' Full → Started g 0 facts before p' m' row' Full
+      pub gathering-full : (p' m' row' : List ℕ) → Started g 0 (export_starts (resolved_exports (module_of g x))) (lines_of c row) p' m' row' no_room → Started g 0 facts before p' m' row' no_room
       gathering-full p' m' row' t = along_full g 0 facts before _ _ p m row c (along_as g 0 _ _ _ p m row c next-is s.along) p' m' row' t
 
 -- of rows that are the same

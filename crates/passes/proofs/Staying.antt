@@ -11,7 +11,6 @@ use Rattle.determine_side_effects.specs.facts_crate.declared.Fact.{Fact}
 use Rattle.determine_side_effects.specs.facts_crate.Facts.{mark_count}
 use Rattle.determine_side_effects.specs.Effects.{last_verdicts}
 use Rattle.keep_record.specs.declared.Line.{Line}
-use Rattle.keep_record.specs.declared.Added.TheVariants.{Lines}
 use Rattle.keep_record.specs.Lines.{added, adds}
 use Rattle.keep_record.specs.Held.{line_at, lines_of}
 use Rattle.keep_record.proofs.Rows.{lines-length, lines_at}
@@ -20,6 +19,7 @@ use Rattle.worklist.specs.Drain.{line, news, drained, started, drained_all}
 use Rattle.worklist.proofs.Ends.{drained_stop, drained_next, all_longer}
 use Rattle.entry_starts.specs.Working.{Started}
 use Rattle.entry_starts.proofs.Together.{Along, lines_after}
+use Rattle.std.specs.Prelude.{Ok}
 
 -- lines behind others
 Behind : List Line → List Line → Type 0
@@ -53,7 +53,7 @@ module _ (g : Graph) (v : List ℕ) (base : ℕ) where
   unfolding Behind
   take-drained_all fs lines n h = let p = all_behind fs lines in ap (take n) p.1 ∙ take-append-le n lines p.0 h
 
-module _ (g : Graph) (base : ℕ) (fs : List Fact) (row : List ℕ) (c : ℕ) (p' m' row' : List ℕ) (d : ℕ) (s : Started g base fs (lines_of c row) p' m' row' (Lines d)) where
+module _ (g : Graph) (base : ℕ) (fs : List Fact) (row : List ℕ) (c : ℕ) (p' m' row' : List ℕ) (d : ℕ) (s : Started g base fs (lines_of c row) p' m' row' (Ok d)) where
   pub started_more : c ≤ d
   started_more = omega (arith, lines-length c row, lines-length d row', ap length (lines_after g base fs (lines_of c row) p' m' row' d s), all_longer g (last_verdicts g) base fs (lines_of c row))
 

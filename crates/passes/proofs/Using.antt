@@ -17,13 +17,14 @@ use Rattle.determine_side_effects.specs.facts_crate.Facts.{module_fact, use_fact
 use Rattle.determine_side_effects.proofs.facts_crate.Folds.{tabulate_next, tabulate-none}
 use Rattle.determine_side_effects.specs.Effects.{last_verdicts, has_effects}
 use Rattle.keep_record.specs.declared.Line.{Line}
-use Rattle.keep_record.specs.declared.Added.TheVariants.{Lines, Full}
 use Rattle.keep_record.specs.Held.{lines_of}
 use Rattle.entry_order.specs.Order.{those}
 use Rattle.worklist.specs.Drain.{drained_all}
 use Rattle.entry_starts.specs.Working.{Working, Started}
 use Rattle.entry_starts.proofs.Together.{Along, along_start, along_step, along_full, along_done, along_as}
 use Rattle.passes.specs.Helpers.{runtime_starts}
+use Rattle.std.specs.Prelude.{Ok}
+use Rattle.keep_record.specs.Held.{no_room}
 
 -- the helpers of a word, and those from number k on
 abbrev pub helper_uses : Graph → ℕ → ℕ → List Fact
@@ -60,18 +61,18 @@ module _ (g : Graph) (base word n : ℕ) where
 
   module _ (facts : List Fact) (before : List Line) (p m row : List ℕ) (c k : ℕ) (a : Along g base (drained_all g (last_verdicts g) base facts before) (uses_from g word n k) p m row c) where
     module _ (l : k < n) (b : Bool) (say : b ≡ flag k word) where
-      pub using-step : b ≡ true → (s : SymbolIdx) → s.0 ≡ only (get_or g.helpers k []) → (p' m' row' : List ℕ) (d : ℕ) → Started g base (Use s (record { bits = 1 }) ∷ []) (lines_of c row) p' m' row' (Lines d)
+      pub using-step : b ≡ true → (s : SymbolIdx) → s.0 ≡ only (get_or g.helpers k []) → (p' m' row' : List ℕ) (d : ℕ) → Started g base (Use s (record { bits = 1 }) ∷ []) (lines_of c row) p' m' row' (Ok d)
           → Along g base (drained_all g (last_verdicts g) base facts before) (uses_from g word n (k + 1)) p' m' row' d
       using-step e s q p' m' row' d t = along_step g base _ _ _ p m row c (along_as g base _ _ _ p m row c (uses-here g word n k l b say e s q) a) p' m' row' d t
 
       pub using-other : b ≡ false → Along g base (drained_all g (last_verdicts g) base facts before) (uses_from g word n (k + 1)) p m row c
       using-other e = along_as g base _ _ _ p m row c (uses-other g word n k l b say e) a
 
-      pub using-full : b ≡ true → (s : SymbolIdx) → s.0 ≡ only (get_or g.helpers k []) → (p' m' row' : List ℕ) → Started g base (Use s (record { bits = 1 }) ∷ []) (lines_of c row) p' m' row' Full
-          → Started g base facts before p' m' row' Full
+      pub using-full : b ≡ true → (s : SymbolIdx) → s.0 ≡ only (get_or g.helpers k []) → (p' m' row' : List ℕ) → Started g base (Use s (record { bits = 1 }) ∷ []) (lines_of c row) p' m' row' no_room
+          → Started g base facts before p' m' row' no_room
       using-full e s q p' m' row' t = along_full g base facts before _ _ p m row c (along_as g base _ _ _ p m row c (uses-here g word n k l b say e s q) a) p' m' row' t
 
-    pub using-done : n ≤ k → Started g base facts before p m row (Lines c)
+    pub using-done : n ≤ k → Started g base facts before p m row (Ok c)
     using-done l = along_done g base facts before p m row c (along_as g base _ _ _ p m row c (uses_over g word n k l) a)
 
 -- what the runtime stage starts

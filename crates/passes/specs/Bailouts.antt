@@ -1,5 +1,5 @@
 -- The exports of CommonJS modules that were bailed out (004:26-42, `include_cjs_bailout_exports`).
-use Rattle.std.specs.Prelude.{ℕ, zero, suc, Bool, true, false, List, [], ◌∷◌, ◌++◌, eqb}
+use Rattle.std.specs.Prelude.{ℕ, true, false, List, [], ◌∷◌, ◌++◌, eqb}
 use Rattle.determine_side_effects.specs.graph_crate.Check.{Graph}
 use Rattle.determine_side_effects.specs.graph_access_crate.Names.{resolved_exports, export_symbol, export_from_common_js}
 use Rattle.determine_side_effects.specs.graph_access_crate.Words.{module_of}

@@ -1,5 +1,5 @@
 -- Runtime helpers: which a module needs, their union, and what it starts (docs/RULES.md, Step 6; 000:410-445; 004).
-use Rattle.std.specs.Prelude.{ℕ, zero, suc, ◌+◌, Bool, true, false, not, ◌||◌, ◌&&◌, List, [], ◌∷◌, ◌++◌, map, eqb, get_or}
+use Rattle.std.specs.Prelude.{ℕ, zero, suc, ◌+◌, Bool, true, false, not, ◌||◌, ◌&&◌, List, [], ◌∷◌, map, eqb, get_or}
 use Rattle.determine_side_effects.specs.graph_crate.Check.{Graph}
 use Rattle.determine_side_effects.specs.graph_access_crate.Names.{module_helpers, helper_number, helper_statement, only}
 use Rattle.determine_side_effects.specs.graph_access_crate.Words.{flag, some, tabulate, module_of}

@@ -20,7 +20,7 @@ ghost use Rattle.passes.specs.Helpers.{has_all, needs_helper, helper_word, helpe
 use determine_side_effects::facts_crate::{Fact, Reason};
 use determine_side_effects::graph_access_crate::{helpers, modules};
 use determine_side_effects::index_crate::ModuleIdx;
-use keep_record::{Added, Stage};
+use keep_record::{Full, Stage};
 
 // Uses the exports from CommonJS of module m.
 fn include_cjs_exports(
@@ -31,7 +31,7 @@ fn include_cjs_exports(
     lines: &mut [u32],
     count: usize,
     m: ModuleIdx,
-) -> Added
+) -> Result<usize, Full>
     requires prepared { Prepared numbers.now tables.now }
     requires working { Working (graph_in numbers.now) 0 partners.old marks.old lines.old count }
     requires m_bound { m.0 < (header_in numbers.now).modules }
@@ -39,11 +39,10 @@ fn include_cjs_exports(
 {
     let exports = modules::resolved_export_count(numbers, tables, m);
     let mut total = count;
-    let mut k: usize = 0;
-    while k < exports {
+    for k in 0..exports {
         if modules::resolved_export_from_commonjs(numbers, tables, m, k) == 1 {
             let s = modules::resolved_export_symbol(numbers, tables, m, k);
-            match entry_starts::start_one(
+            total = entry_starts::start_one(
                 numbers,
                 tables,
                 partners,
@@ -54,18 +53,10 @@ fn include_cjs_exports(
                     count: total,
                 },
                 Fact::CheckedUse(s, Reason { bits: 1 }),
-            ) {
-                Added::Full => {
-                    return Added::Full;
-                }
-                Added::Lines(n) => {
-                    total = n;
-                }
-            }
+            )?;
         }
-        k += 1;
     }
-    Added::Lines(total)
+    Ok(total)
 }
 
 // Uses the exports from CommonJS of the modules that the lines from number `taken` on bail out. Lines that come to them meanwhile wait for the
@@ -78,30 +69,21 @@ pub fn include_cjs_bailout_exports(
     lines: &mut [u32],
     count: usize,
     taken: usize,
-) -> Added
+) -> Result<usize, Full>
     requires prepared { Prepared numbers.now tables.now }
     requires working { Working (graph_in numbers.now) 0 partners.old marks.old lines.old count }
     requires taken_le_count { taken ≤ count }
     ensures { Started (graph_in numbers.now) 0 (bailouts_starts (graph_in numbers.now) (drop taken (lines_of count lines.old))) (lines_of count lines.old) partners.new marks.new lines.new result }
 {
     let mut total = count;
-    let mut k = taken;
-    while k < count {
+    for k in taken..count {
         let fact = keep_record::fact_at(lines, k);
         if determine_side_effects::facts_crate::kind_of(fact) == 6 {
             let m = ModuleIdx(determine_side_effects::facts_crate::first_part(fact));
-            match include_cjs_exports(numbers, tables, partners, marks, lines, total, m) {
-                Added::Full => {
-                    return Added::Full;
-                }
-                Added::Lines(n) => {
-                    total = n;
-                }
-            }
+            total = include_cjs_exports(numbers, tables, partners, marks, lines, total, m)?;
         }
-        k += 1;
     }
-    Added::Lines(total)
+    Ok(total)
 }
 
 // Whether module m has all its listed helpers: it is not kept, and not the runtime.
@@ -132,8 +114,7 @@ fn needs_helper(
     ensures { result ≡ needs_helper (graph_in numbers.now) (marked (graph_in numbers.now) marks.now) m.0 helper }
 {
     let rows = modules::helper_count(numbers, tables, m);
-    let mut k: usize = 0;
-    while k < rows {
+    for k in 0..rows {
         if modules::helper(numbers, tables, m, k) == helper {
             if all {
                 return true;
@@ -143,7 +124,6 @@ fn needs_helper(
                 return true;
             }
         }
-        k += 1;
     }
     false
 }
@@ -163,12 +143,10 @@ fn helper_word(numbers: &[u32], tables: &[usize], marks: &[u8], m: ModuleIdx) ->
     }
     let all = has_all(numbers, tables, marks, m);
     let mut word: usize = 0;
-    let mut k: usize = 0;
-    while k < h.helpers {
+    for k in 0..h.helpers {
         if needs_helper(numbers, tables, marks, m, k, all) {
             word += 1usize << k;
         }
-        k += 1;
     }
     word
 }
@@ -182,10 +160,8 @@ pub fn collect_helpers(numbers: &[u32], tables: &[usize], marks: &[u8], plan: &m
 {
     let h = determine_side_effects::graph_crate::header_of(numbers);
     let at = entry_order::words_at(h);
-    let mut m: usize = 0;
-    while m < h.modules {
+    for m in 0..h.modules {
         plan[at + m] = helper_word(numbers, tables, marks, ModuleIdx(m));
-        m += 1;
     }
 }
 
@@ -198,14 +174,12 @@ fn is_needed(numbers: &[u32], tables: &[usize], marks: &[u8], plan: &[usize], he
 {
     let h = determine_side_effects::graph_crate::header_of(numbers);
     let at = entry_order::words_at(h);
-    let mut m: usize = 0;
-    while m < h.modules {
+    for m in 0..h.modules {
         if determine_side_effects::facts_crate::flag(plan[at + m], helper) {
             if bit_row::test(marks, m) {
                 return true;
             }
         }
-        m += 1;
     }
     false
 }
@@ -224,12 +198,10 @@ pub fn collect_depended_runtime_helpers(
 {
     let h = determine_side_effects::graph_crate::header_of(numbers);
     let mut word: usize = 0;
-    let mut k: usize = 0;
-    while k < h.helpers {
+    for k in 0..h.helpers {
         if is_needed(numbers, tables, marks, plan, k) {
             word += 1usize << k;
         }
-        k += 1;
     }
     word
 }
@@ -243,7 +215,7 @@ fn include_helpers(
     lines: &mut [u32],
     stage: Stage,
     word: usize,
-) -> Added
+) -> Result<usize, Full>
     requires prepared { Prepared numbers.now tables.now }
     requires working { Working (graph_in numbers.now) stage.base partners.old marks.old lines.old stage.count }
     ensures { Started (graph_in numbers.now) stage.base (map (λ h. use_fact (only (get_or (graph_in numbers.now).helpers h [])) 1) (those (λ h. flag h word) (tabulate (λ h. h) 0 (header_in numbers.now).helpers))) (lines_of stage.count lines.old) partners.new marks.new lines.new result }
@@ -251,11 +223,10 @@ fn include_helpers(
     let h = determine_side_effects::graph_crate::header_of(numbers);
     let base = stage.base;
     let mut total = stage.count;
-    let mut k: usize = 0;
-    while k < h.helpers {
+    for k in 0..h.helpers {
         if determine_side_effects::facts_crate::flag(word, k) {
             let s = helpers::helper_symbol(numbers, tables, k);
-            match entry_starts::start_one(
+            total = entry_starts::start_one(
                 numbers,
                 tables,
                 partners,
@@ -263,18 +234,10 @@ fn include_helpers(
                 lines,
                 Stage { base, count: total },
                 Fact::Use(s, Reason { bits: 1 }),
-            ) {
-                Added::Full => {
-                    return Added::Full;
-                }
-                Added::Lines(n) => {
-                    total = n;
-                }
-            }
+            )?;
         }
-        k += 1;
     }
-    Added::Lines(total)
+    Ok(total)
 }
 
 // Starts what the runtime stage starts: the helpers of a word; with none the runtime, if it has effects.
@@ -286,7 +249,7 @@ pub fn include_runtime_symbol(
     lines: &mut [u32],
     stage: Stage,
     word: usize,
-) -> Added
+) -> Result<usize, Full>
     requires prepared { Prepared numbers.now tables.now }
     requires working { Working (graph_in numbers.now) stage.base partners.old marks.old lines.old stage.count }
     ensures { Started (graph_in numbers.now) stage.base (runtime_starts (graph_in numbers.now) (last_verdicts (graph_in numbers.now)) word) (lines_of stage.count lines.old) partners.new marks.new lines.new result }
@@ -297,7 +260,7 @@ pub fn include_runtime_symbol(
     let h = determine_side_effects::graph_crate::header_of(numbers);
     let runtime = ModuleIdx(h.runtime);
     if !determine_side_effects::has_effects(numbers, tables, runtime) {
-        return Added::Lines(stage.count);
+        return Ok(stage.count);
     }
     entry_starts::start_one(
         numbers,

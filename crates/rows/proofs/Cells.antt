@@ -1,23 +1,24 @@
 -- What was read: the numbers that stand there, each as its rule asks.
-use Prim.Native.Nat.{ℕ, zero, suc, ◌+◌, ◌-◌, ◌<◌, ◌≤◌}
+use Prim.Native.Nat.{ℕ, zero, suc, ◌+◌, ◌<◌, ◌≤◌}
 use mathlib.Core.Path.{◌≡◌, refl, ap, ◌∙◌, sym}
 use mathlib.Core.Bool.{Bool, true, false}
-use mathlib.Core.List.{List, [], ◌∷◌, map}
+use mathlib.Core.List.{List, [], ◌∷◌}
 use native.Mathlib.Omega.{arith}
 use native.Mathlib.Nat.{add-zero}
-use borrow.Author.Tests.{ltb-true, ltb-false, leb-true, leb-false}
+use borrow.Author.Tests.{ltb-true, ltb-false, leb-false}
 use lib.Dec.{ltb, leb}
 use lib.ListN.{length, get_or}
-use Rattle.rows.specs.Walk.{Parsed, got, fault, and_then, Rule, value, count, below, within, obeys, number, cells}
+use Rattle.rows.specs.Walk.{Parsed, got, fault, and_then, Rule, value, count, within, obeys, number, cells}
+use Rattle.refusal.specs.declared.Refusal.{Refusal}
 
-pub no_fault : {A : Type 0} {a : A} {q n p : ℕ} → ◌≡◌ {A = Parsed A} (fault n p) (got a q) → ⊥
+pub no_fault : {A : Type 0} {a : A} {q : ℕ} {why : Refusal} → ◌≡◌ {A = Parsed A} (fault why) (got a q) → ⊥
 no_fault e = let z : ◌≡◌ {A = ℕ} 0 1 = cc in omega arith
 
 -- a walk of two parts that was not refused
 pub then_got : {A B : Type 0} (x : Parsed A) (k : A → ℕ → Parsed B) {b : B} {q : ℕ} → and_then x k ≡ got b q → (a : A) × (p : ℕ) × (x ≡ got a p) × (k a p ≡ got b q)
 unfolding and_then
 then_got (got a p) k e = (a, p, refl, e)
-then_got (fault n p) k e = absurd (no_fault e)
+then_got (fault why) k e = absurd (no_fault e)
 
 -- what a rule asks of a number
 abbrev pub Obeys : Rule → ℕ → Type 0

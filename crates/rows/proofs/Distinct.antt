@@ -4,16 +4,17 @@ use Prim.Native.Nat.{ℕ, zero, suc, ◌+◌, ◌-◌, ◌*◌, ◌<◌, ◌≤�
 use mathlib.Core.Path.{◌≡◌, refl, ap, ◌∙◌, sym}
 use mathlib.Core.Logic.{◌≢◌}
 use mathlib.Core.Bool.{Bool, true, false}
-use mathlib.Core.List.{List, [], ◌∷◌, map}
+use mathlib.Core.List.{List, [], map}
 use native.Mathlib.Nat.{mul-suc, mul-le-mul_left, add-zero}
 use native.Mathlib.Numerals.{add-one}
 use native.Mathlib.Omega.{arith}
 use borrow.Author.Tests.{eq-eqb, ne_eqb, lt-ltb, le-ltb}
-use lib.ListN.{length, get_or, take}
-use Rattle.rows.specs.declared.Walk.{Walk}
-use Rattle.rows.specs.declared.Walk.TheVariants.{At}
-use Rattle.rows.specs.Walk.{Parsed, got, fault, below, cells, many, elem, repeated, firsts, firsts_at, plain_row, distinct_row, row_of, columns_of, walk_of}
+use lib.ListN.{length, get_or}
+use Rattle.rows.specs.Walk.{Parsed, got, fault, below, many, elem, repeated, firsts, firsts_at, plain_row, distinct_row, row_of, columns_of, walk_of}
 use Rattle.rows.proofs.Cells.{Cells, cells_got}
+use Rattle.std.specs.Prelude.{Result, Ok}
+use Rattle.refusal.specs.declared.Refusal.{Refusal}
+use Rattle.refusal.specs.declared.Refusal.TheVariants.{OutOfRange}
 
 -- row k of `count` rows is inside
 pub place_in : (at width count k l : ℕ) → at + width * count ≤ l → k < count → 0 < width → at + width * k < l
@@ -53,7 +54,7 @@ module _ (numbers seen : List ℕ) (q : ℕ) where
   unfolding repeated
   repeated_in h = rw (lt-ltb q (length numbers) h, repeated)
 
-  pub distinct_hit : (columns : List ℕ) → repeated numbers seen q ≡ true → distinct_row columns numbers seen q ≡ fault 3 q
+  pub distinct_hit : (columns : List ℕ) → repeated numbers seen q ≡ true → distinct_row columns numbers seen q ≡ fault (OutOfRange q)
   unfolding distinct_row
   distinct_hit columns e = rw (e, distinct_row)
 
@@ -97,7 +98,7 @@ module _ (numbers : List ℕ) (at width a b c k q p : ℕ) (row : List ℕ) (som
       rw (add-one k, f)
 
 -- which rows a list has
-module _ (columns numbers : List ℕ) (k q : ℕ) (r : Walk) (b : Bool) where
+module _ (columns numbers : List ℕ) (k q : ℕ) (r : Result ℕ Refusal) (b : Bool) where
   pub by_distinct : b ≡ true → r ≡ walk_of (many (distinct_row columns numbers) firsts k [] q) → r ≡ walk_of (many (row_of b columns numbers) firsts k [] q)
   unfolding row_of
   by_distinct h e = rw (h, row_of) e
@@ -107,6 +108,6 @@ module _ (columns numbers : List ℕ) (k q : ℕ) (r : Walk) (b : Bool) where
   by_plain h e = rw (h, row_of) e
 
 -- an empty list ends where it begins
-pub no_rows : (step : List ℕ → ℕ → Parsed (List ℕ)) (q k : ℕ) → k ≡ 0 → At q ≡ walk_of (many step firsts k [] q)
+pub no_rows : (step : List ℕ → ℕ → Parsed (List ℕ)) (q k : ℕ) → k ≡ 0 → Ok q ≡ walk_of (many step firsts k [] q)
 unfolding many walk_of
 no_rows step q k e = rw (e, many, walk_of)

@@ -1,14 +1,12 @@
 -- What was read without a fault: the things of a list one by one, the parts of an item, the rows of a list.
-use Prim.Native.Nat.{ℕ, zero, suc, ◌+◌, ◌-◌, ◌*◌, ◌<◌, ◌≤◌}
+use Prim.Native.Nat.{ℕ, zero, suc, ◌+◌, ◌*◌, ◌<◌, ◌≤◌}
 use mathlib.Core.Path.{◌≡◌, refl, ap, ◌∙◌, sym}
-use mathlib.Core.Bool.{Bool, true, false}
-use mathlib.Core.List.{List, [], ◌∷◌, ◌++◌, map}
-use native.Mathlib.Nat.{add-zero, mul-suc, mul-zero}
-use native.Mathlib.Numerals.{add-one}
+use mathlib.Core.List.{List, [], ◌∷◌, map}
+use native.Mathlib.Nat.{mul-suc, mul-zero}
 use native.Mathlib.Omega.{arith}
 use lib.ListN.{length, get_or, length-map}
-use Rattle.rows.specs.Walk.{Parsed, got, fault, and_then, Rule, value, count, below, number, cells, many, ListRule, firsts, list, lists, plain_row, distinct_row, Item, no_item, item}
-use Rattle.rows.proofs.Cells.{no_fault, then_got, Number, number_got, Cells, cells_got}
+use Rattle.rows.specs.Walk.{Parsed, got, Rule, count, below, number, cells, many, ListRule, firsts, list, lists, plain_row, Item, item}
+use Rattle.rows.proofs.Cells.{then_got, number_got, Cells, cells_got}
 
 pub got_same : {A : Type 0} {a b : A} {p q : ℕ} → ◌≡◌ {A = Parsed A} (got a p) (got b q) → (a ≡ b) × (p ≡ q)
 got_same e = (cc, cc)

@@ -1,53 +1,51 @@
 -- Where a walk ends, by the walks that it is made of.
 -- One number by its rule, a list by its count.
-use Prim.Native.Nat.{ℕ, zero, suc, ◌+◌, ◌-◌, ◌<◌, ◌≤◌}
+use Prim.Native.Nat.{ℕ, suc, ◌+◌, ◌<◌, ◌≤◌}
 use mathlib.Core.Path.{◌≡◌, refl, ap, ◌∙◌, sym}
-use mathlib.Core.Logic.{◌≢◌}
-use mathlib.Core.Bool.{Bool, true, false}
-use mathlib.Core.List.{List, [], ◌∷◌, map}
-use native.Mathlib.Omega.{arith}
+use mathlib.Core.List.{List, [], ◌∷◌}
 use borrow.Author.Tests.{lt-ltb, le-ltb, le-leb, lt-leb}
-use lib.ListN.{length, get_or, take}
-use Rattle.rows.specs.declared.Walk.{Walk}
-use Rattle.rows.specs.declared.Walk.TheVariants.{At, Fault}
-use Rattle.rows.specs.Walk.{Parsed, got, fault, and_then, Rule, value, count, below, within, obeys, number, cells, many, ListRule, list, lists, firsts, plain_row, walk_of, onward, columns_of}
+use lib.ListN.{length, get_or}
+use Rattle.rows.specs.Walk.{Parsed, got, fault, and_then, Rule, value, count, within, obeys, number, cells, many, ListRule, list, lists, firsts, walk_of, onward}
+use Rattle.std.specs.Prelude.{Result, Ok, Err}
+use Rattle.refusal.specs.declared.Refusal.{Refusal}
+use Rattle.refusal.specs.declared.Refusal.TheVariants.{OverLimit, OutOfRange, WrongLength}
 
-pub clash : {q n p : ℕ} → At q ≡ Fault n p → ⊥
-clash e = let z : ◌≡◌ {A = ℕ} 0 1 = cc in omega arith
+pub clash : {q : ℕ} {why : Refusal} → ◌≡◌ {A = Result ℕ Refusal} (Ok q) (Err why) → ⊥
+clash e = cc
 
-pub at_same : {q p : ℕ} → At q ≡ At p → q ≡ p
+pub at_same : {q p : ℕ} → ◌≡◌ {A = Result ℕ Refusal} (Ok q) (Ok p) → q ≡ p
 at_same e = cc
 
 -- a walk that goes on has read something
-pub at_got : {A : Type 0} (x : Parsed A) (q : ℕ) → walk_of x ≡ At q → (a : A) × (x ≡ got a q)
+pub at_got : {A : Type 0} (x : Parsed A) (q : ℕ) → walk_of x ≡ Ok q → (a : A) × (x ≡ got a q)
 unfolding walk_of
 at_got (got a p) q e = (a, ap (got a) (at_same e))
-at_got (fault n p) q e = absurd (clash (sym e))
+at_got (fault why) q e = absurd (clash (sym e))
 
 -- one that does not has the same fault
-pub fault_is : {A : Type 0} (x : Parsed A) (n p : ℕ) → walk_of x ≡ Fault n p → x ≡ fault n p
+pub fault_is : {A : Type 0} (x : Parsed A) (why : Refusal) → walk_of x ≡ Err why → x ≡ fault why
 unfolding walk_of
-fault_is (got a q) n p e = absurd (clash e)
-fault_is (fault m q) n p e = cc
+fault_is (got a q) why e = absurd (clash e)
+fault_is (fault other) why e = cc
 
 -- a walk by two walks, of which the second goes by the first one's end alone
-pub walk_then : {A B : Type 0} (x : Parsed A) (k : A → ℕ → Parsed B) (f : ℕ → Walk) → ((a : A) (q : ℕ) → x ≡ got a q → walk_of (k a q) ≡ f q)
+pub walk_then : {A B : Type 0} (x : Parsed A) (k : A → ℕ → Parsed B) (f : ℕ → Result ℕ Refusal) → ((a : A) (q : ℕ) → x ≡ got a q → walk_of (k a q) ≡ f q)
     → walk_of (and_then x k) ≡ onward (walk_of x) f
 unfolding walk_of and_then onward
 walk_then (got a q) k f h = h a q refl
-walk_then (fault n p) k f h = refl
+walk_then (fault why) k f h = refl
 
 -- what is made of the things read does not move the end
 pub walk-map : {A B : Type 0} (x : Parsed A) (f : A → B) → walk_of (and_then x (λ a q. got (f a) q)) ≡ walk_of x
 unfolding walk_of and_then
 walk-map (got a q) f = refl
-walk-map (fault n p) f = refl
+walk-map (fault why) f = refl
 
-pub onward_at : {w : Walk} {q : ℕ} (f : ℕ → Walk) → w ≡ At q → onward w f ≡ f q
+pub onward_at : {w : Result ℕ Refusal} {q : ℕ} (f : ℕ → Result ℕ Refusal) → w ≡ Ok q → onward w f ≡ f q
 unfolding onward
 onward_at f e = rw e
 
-pub onward_fault : {w : Walk} {n p : ℕ} (f : ℕ → Walk) → w ≡ Fault n p → onward w f ≡ Fault n p
+pub onward_fault : {w : Result ℕ Refusal} {why : Refusal} (f : ℕ → Result ℕ Refusal) → w ≡ Err why → onward w f ≡ Err why
 unfolding onward
 onward_fault f e = rw e
 
@@ -63,7 +61,7 @@ lists_cons r rs numbers at = walk_then (list r numbers at) _ _ (λ x q e. walk-m
 
 -- what stands at one place, by the tests of its rule
 module _ (numbers : List ℕ) (at x : ℕ) (is : x ≡ get_or numbers at 0) where
-  pub number_missing : (r : Rule) → length numbers ≤ at → number r numbers at ≡ fault 4 at
+  pub number_missing : (r : Rule) → length numbers ≤ at → number r numbers at ≡ fault (WrongLength at)
   unfolding number
   number_missing r h = rw (le-ltb at (length numbers) h, number)
 
@@ -71,11 +69,11 @@ module _ (numbers : List ℕ) (at x : ℕ) (is : x ≡ get_or numbers at 0) wher
   unfolding number
   there r h = rw (lt-ltb at (length numbers) h, is, number)
 
-  within_low : (low limit : ℕ) → x < low → within low limit x at ≡ fault 3 at
+  within_low : (low limit : ℕ) → x < low → within low limit x at ≡ fault (OutOfRange at)
   unfolding within
   within_low low limit l = rw (lt-ltb x low l, within)
 
-  within_high : (low limit : ℕ) → low ≤ x → limit ≤ x → within low limit x at ≡ fault 3 at
+  within_high : (low limit : ℕ) → low ≤ x → limit ≤ x → within low limit x at ≡ fault (OutOfRange at)
   unfolding within
   within_high low limit l m = rw (le-ltb x low l, le-leb limit x m, within)
 
@@ -87,11 +85,11 @@ module _ (numbers : List ℕ) (at x : ℕ) (is : x ≡ get_or numbers at 0) wher
   unfolding obeys
   counted most low limit o = rw (le-ltb most x o, obeys)
 
-  pub value_low : (low limit : ℕ) → at < length numbers → x < low → number (value low limit) numbers at ≡ fault 3 at
+  pub value_low : (low limit : ℕ) → at < length numbers → x < low → number (value low limit) numbers at ≡ fault (OutOfRange at)
   unfolding obeys
   value_low low limit h l = there (value low limit) h ∙ within_low low limit l
 
-  pub value_high : (low limit : ℕ) → at < length numbers → low ≤ x → limit ≤ x → number (value low limit) numbers at ≡ fault 3 at
+  pub value_high : (low limit : ℕ) → at < length numbers → low ≤ x → limit ≤ x → number (value low limit) numbers at ≡ fault (OutOfRange at)
   unfolding obeys
   value_high low limit h l m = there (value low limit) h ∙ within_high low limit l m
 
@@ -99,7 +97,7 @@ module _ (numbers : List ℕ) (at x : ℕ) (is : x ≡ get_or numbers at 0) wher
   unfolding obeys
   value_good low limit h l m = there (value low limit) h ∙ within_good low limit l m
 
-  pub count_over : (most low limit : ℕ) → at < length numbers → most < x → number (count most low limit) numbers at ≡ fault 2 at
+  pub count_over : (most low limit : ℕ) → at < length numbers → most < x → number (count most low limit) numbers at ≡ fault (OverLimit at)
   unfolding obeys
   count_over most low limit h o = there (count most low limit) h ∙ rw (lt-ltb most x o, obeys)
 
@@ -116,11 +114,11 @@ module _ {S A : Type 0} (step : S → ℕ → Parsed A) (next : S → A → S) w
   unfolding many and_then
   many_go k at s {q} {a} e = rw (e, many, and_then) (walk-map (many step next k (next s a) q) (λ xs. a ∷ xs))
 
-  pub many_stop : (k at : ℕ) (s : S) {n p : ℕ} → walk_of (step s at) ≡ Fault n p → walk_of (many step next (suc k) s at) ≡ Fault n p
+  pub many_stop : (k at : ℕ) (s : S) {why : Refusal} → walk_of (step s at) ≡ Err why → walk_of (many step next (suc k) s at) ≡ Err why
   unfolding many walk_of
-  many_stop k at s {n} {p} e = walk_then (step s at) _ (λ q. Fault n p) (λ a q f. absurd (clash (sym (ap walk_of f) ∙ e))) ∙ onward_fault _ e
+  many_stop k at s {why} e = walk_then (step s at) _ (λ q. Err why) (λ a q f. absurd (clash (sym (ap walk_of f) ∙ e))) ∙ onward_fault _ e
 
-  pub many_none : (at : ℕ) (s : S) → walk_of (many step next 0 s at) ≡ At at
+  pub many_none : (at : ℕ) (s : S) → walk_of (many step next 0 s at) ≡ Ok at
   unfolding many walk_of
   many_none at s = refl
 
@@ -130,9 +128,9 @@ module _ (rule : ListRule) (numbers : List ℕ) (at : ℕ) where
   unfolding list and_then
   list_go e f = rw (e, f, list, and_then)
 
-  pub list_stop : {n p : ℕ} → walk_of (number (count 16384 0 rule.counts) numbers at) ≡ Fault n p → walk_of (list rule numbers at) ≡ Fault n p
+  pub list_stop : {why : Refusal} → walk_of (number (count 16384 0 rule.counts) numbers at) ≡ Err why → walk_of (list rule numbers at) ≡ Err why
   unfolding list and_then walk_of
-  list_stop {n} {p} e = ap walk_of (list-fault (fault_is _ n p e))
+  list_stop {why} e = ap walk_of (list-fault (fault_is _ why e))
     where
-      list-fault : number (count 16384 0 rule.counts) numbers at ≡ fault n p → list rule numbers at ≡ fault n p
+      list-fault : number (count 16384 0 rule.counts) numbers at ≡ fault why → list rule numbers at ≡ fault why
       list-fault f = rw (f, list, and_then)

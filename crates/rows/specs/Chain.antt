@@ -1,5 +1,5 @@
 -- Rows of `width` numbers from `at` on, in chains: those whose first numbers are the same modulo 1024, the latest first.
-use Rattle.std.specs.Prelude.{ℕ, zero, suc, ◌+◌, ◌*◌, ◌%◌, ◌<◌, ◌≡◌, Bool, true, false, List, eqb, length, get_or}
+use Rattle.std.specs.Prelude.{ℕ, zero, suc, ◌+◌, ◌*◌, ◌%◌, ◌<◌, ◌≡◌, true, false, List, eqb, length, get_or}
 
 -- 1 more than the last of k rows whose first number is h modulo 1024, or 0 where there is none
 unfoldable pub last_of : List ℕ → ℕ → ℕ → ℕ → ℕ → ℕ

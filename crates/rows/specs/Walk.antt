@@ -1,17 +1,18 @@
 -- Reading numbers from the left, up to the first fault. `numbers` is the whole input and `at` the place of the next number.
 use Rattle.std.specs.Prelude.{ℕ, zero, suc, ◌+◌, ◌*◌, Bool, true, false, List, [], ◌∷◌, map, ltb, leb, eqb, length, get_or, take}
-use Rattle.rows.specs.declared.Walk.{Walk}
-use Rattle.rows.specs.declared.Walk.TheVariants.{At, Fault}
+use Rattle.std.specs.Prelude.{Result, Ok, Err}
+use Rattle.refusal.specs.declared.Refusal.{Refusal}
+use Rattle.refusal.specs.declared.Refusal.TheVariants.{OverLimit, OutOfRange, WrongLength}
 
 -- what was read and the place of the number behind it; or a refusal's number and its place
 pub data Parsed (A : Type 0) : Type 0 where
   got : A → ℕ → Parsed A
-  fault : ℕ → ℕ → Parsed A
+  fault : Refusal → Parsed A
 
 -- reads on, unless there was a fault
 unfoldable pub and_then : {A B : Type 0} → Parsed A → (A → ℕ → Parsed B) → Parsed B
 and_then (got a q) f = f a q
-and_then (fault n p) f = fault n p
+and_then (fault why) f = fault why
 
 -- What may stand at one place. A value is from `low` on and below `limit`, else the refusal is 3; a count that is over
 -- `most` is refused 2 before that (docs/OPERATIONS.md, Check).
@@ -29,15 +30,15 @@ any = 4294967296
 
 unfoldable pub within : ℕ → ℕ → ℕ → ℕ → Parsed ℕ
 within low limit x at =
-    elim (ltb x low) [ true ↦ fault 3 at | false ↦ elim (leb limit x) [ true ↦ fault 3 at | false ↦ got x (at + 1) ] ]
+    elim (ltb x low) [ true ↦ fault (OutOfRange at) | false ↦ elim (leb limit x) [ true ↦ fault (OutOfRange at) | false ↦ got x (at + 1) ] ]
 
 unfoldable pub obeys : Rule → ℕ → ℕ → Parsed ℕ
 obeys (value low limit) x at = within low limit x at
-obeys (count most low limit) x at = elim (ltb most x) [ true ↦ fault 2 at | false ↦ within low limit x at ]
+obeys (count most low limit) x at = elim (ltb most x) [ true ↦ fault (OverLimit at) | false ↦ within low limit x at ]
 
 -- one number, which may be missing
 unfoldable pub number : Rule → List ℕ → ℕ → Parsed ℕ
-number rule numbers at = elim (ltb at (length numbers)) [ true ↦ obeys rule (get_or numbers at 0) at | false ↦ fault 4 at ]
+number rule numbers at = elim (ltb at (length numbers)) [ true ↦ obeys rule (get_or numbers at 0) at | false ↦ fault (WrongLength at) ]
 
 -- a number for each rule
 unfoldable pub cells : List Rule → List ℕ → ℕ → Parsed (List ℕ)
@@ -77,7 +78,7 @@ repeated numbers seen at = elim (ltb at (length numbers)) [ true ↦ elem (get_o
 -- the same, where the first number of a row is in no row before it
 unfoldable pub distinct_row : List ℕ → List ℕ → List ℕ → ℕ → Parsed (List ℕ)
 distinct_row columns numbers seen at =
-    elim (repeated numbers seen at) [ true ↦ fault 3 at | false ↦ plain_row columns numbers seen at ]
+    elim (repeated numbers seen at) [ true ↦ fault (OutOfRange at) | false ↦ plain_row columns numbers seen at ]
 
 -- the rule of a list of such rows, with any count that lists may have
 abbrev pub plain : List ℕ → List ℕ → ListRule
@@ -107,14 +108,14 @@ item rules rest numbers at =
     (λ h q. and_then (lists (rest h) numbers q) (λ ls p. got (record { place = at; head = h; rows = ls }) p))
 
 -- where reading ends, without what was read
-unfoldable pub walk_of : {A : Type 0} → Parsed A → Walk
-walk_of (got a q) = At q
-walk_of (fault n p) = Fault n p
+unfoldable pub walk_of : {A : Type 0} → Parsed A → Result ℕ Refusal
+walk_of (got a q) = Ok q
+walk_of (fault why) = Err why
 
 -- the walk goes on from where it is, or has ended in a fault
-unfoldable pub onward : Walk → (ℕ → Walk) → Walk
-onward (At q) f = f q
-onward (Fault n p) f = Fault n p
+unfoldable pub onward : Result ℕ Refusal → (ℕ → Result ℕ Refusal) → Result ℕ Refusal
+onward (Ok q) f = f q
+onward (Err why) f = Err why
 
 -- the rules of a row of up to three columns, and of a list of such rows, as the code hands them on
 unfoldable pub columns_of : ℕ → ℕ → ℕ → ℕ → List ℕ

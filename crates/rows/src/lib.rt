@@ -5,12 +5,9 @@ ghost use Rattle.std.specs.Prelude.{◌≡◌, ℕ, ◌+◌, ◌*◌, ◌<◌, �
 ghost use Rattle.rows.specs.Walk.{Parsed, walk_of, number, value, count, cells, many, list, firsts, firsts_at, repeated, elem, plain_row, distinct_row, row_of, columns_of};
 ghost use Rattle.rows.specs.Chain.{Linked, Chained};
 
-// Where a walk stands: at the place of the next number, or at a fault with a refusal's number and its place.
-#[derive(Clone, Copy)]
-pub enum Walk {
-    At(usize),
-    Fault(u32, usize),
-}
+// The crate below, for the crates above, which list this one alone.
+pub use refusal as refusal_crate;
+use refusal::Refusal;
 
 pub fn wide(x: u32) -> usize
     ensures { result ≡ x }
@@ -19,58 +16,63 @@ pub fn wide(x: u32) -> usize
 }
 
 // One number, from `low` on and below `limit`.
-pub fn within(numbers: &[u32], at: usize, low: usize, limit: usize) -> Walk
+pub fn within(numbers: &[u32], at: usize, low: usize, limit: usize) -> Result<usize, Refusal>
     ensures { result ≡ walk_of (number (value low limit) numbers.now at) }
 {
     if at >= numbers.len() {
-        return Walk::Fault(4, at);
+        return Err(Refusal::WrongLength(at));
     }
     let x = wide(numbers[at]);
     if x < low {
-        return Walk::Fault(3, at);
+        return Err(Refusal::OutOfRange(at));
     }
     if x >= limit {
-        return Walk::Fault(3, at);
+        return Err(Refusal::OutOfRange(at));
     }
-    Walk::At(at + 1)
+    Ok(at + 1)
 }
 
 // A count, at most `most`, from `low` on and below `limit`.
-pub fn counter(numbers: &[u32], at: usize, most: usize, low: usize, limit: usize) -> Walk
+pub fn counter(
+    numbers: &[u32],
+    at: usize,
+    most: usize,
+    low: usize,
+    limit: usize,
+) -> Result<usize, Refusal>
     ensures { result ≡ walk_of (number (count most low limit) numbers.now at) }
 {
     if at < numbers.len() {
         if wide(numbers[at]) > most {
-            return Walk::Fault(2, at);
+            return Err(Refusal::OverLimit(at));
         }
     }
     within(numbers, at, low, limit)
 }
 
 // A row of up to three columns, each below its limit.
-pub fn row(numbers: &[u32], at: usize, width: usize, a: usize, b: usize, c: usize) -> Walk
+pub fn row(
+    numbers: &[u32],
+    at: usize,
+    width: usize,
+    a: usize,
+    b: usize,
+    c: usize,
+) -> Result<usize, Refusal>
     ensures { result ≡ walk_of (plain_row (columns_of width a b c) numbers.now [] at) }
 {
     if width == 0 {
-        return Walk::At(at);
+        return Ok(at);
     }
-    match within(numbers, at, 0, a) {
-        Walk::Fault(n, p) => Walk::Fault(n, p),
-        Walk::At(q) => {
-            if width == 1 {
-                return Walk::At(q);
-            }
-            match within(numbers, q, 0, b) {
-                Walk::Fault(n, p) => Walk::Fault(n, p),
-                Walk::At(s) => {
-                    if width == 2 {
-                        return Walk::At(s);
-                    }
-                    within(numbers, s, 0, c)
-                }
-            }
-        }
+    let q = within(numbers, at, 0, a)?;
+    if width == 1 {
+        return Ok(q);
     }
+    let s = within(numbers, q, 0, b)?;
+    if width == 2 {
+        return Ok(s);
+    }
+    within(numbers, s, 0, c)
 }
 
 // `count` rows.
@@ -82,23 +84,14 @@ pub fn plain_rows(
     a: usize,
     b: usize,
     c: usize,
-) -> Walk
+) -> Result<usize, Refusal>
     ensures { result ≡ walk_of (many (plain_row (columns_of width a b c) numbers.now) firsts count [] at) }
 {
-    let mut i: usize = 0;
     let mut q = at;
-    while i < count {
-        match row(numbers, q, width, a, b, c) {
-            Walk::Fault(n, p) => {
-                return Walk::Fault(n, p);
-            }
-            Walk::At(next) => {
-                q = next;
-            }
-        }
-        i += 1;
+    for _i in 0..count {
+        q = row(numbers, q, width, a, b, c)?;
     }
-    Walk::At(q)
+    Ok(q)
 }
 
 // Whether x is the first number of one of the `count` rows from `at` on.
@@ -137,27 +130,18 @@ fn short_distinct_rows(
     a: usize,
     b: usize,
     c: usize,
-) -> Walk
+) -> Result<usize, Refusal>
     requires { (0 < width) × (width ≤ 3) }
     ensures { result ≡ walk_of (many (distinct_row (columns_of width a b c) numbers.now) firsts count [] at) }
 {
-    let mut k: usize = 0;
     let mut q = at;
-    while k < count {
+    for k in 0..count {
         if repeats(numbers, at, k, width, q) {
-            return Walk::Fault(3, q);
+            return Err(Refusal::OutOfRange(q));
         }
-        match row(numbers, q, width, a, b, c) {
-            Walk::Fault(n, p) => {
-                return Walk::Fault(n, p);
-            }
-            Walk::At(next) => {
-                q = next;
-            }
-        }
-        k += 1;
+        q = row(numbers, q, width, a, b, c)?;
     }
-    Walk::At(q)
+    Ok(q)
 }
 
 // Puts row `count` into its chain.
@@ -226,27 +210,18 @@ fn chained_rows(
     c: usize,
     heads: &mut [u32; 1024],
     nexts: &mut [u32; 16384],
-) -> Walk
+) -> Result<usize, Refusal>
     requires { (0 < width) × (width ≤ 3) × (count ≤ 16384) × Chained numbers.now at width 0 heads.old nexts.old }
     ensures { result ≡ walk_of (many (distinct_row (columns_of width a b c) numbers.now) firsts count [] at) }
 {
-    let mut k: usize = 0;
     let mut place = at;
-    while k < count {
+    for k in 0..count {
         if chained_repeats(numbers, at, k, width, place, heads, nexts) {
-            return Walk::Fault(3, place);
+            return Err(Refusal::OutOfRange(place));
         }
-        match row(numbers, place, width, a, b, c) {
-            Walk::Fault(n, p) => {
-                return Walk::Fault(n, p);
-            }
-            Walk::At(next) => {
-                place = next;
-            }
-        }
-        k += 1;
+        place = row(numbers, place, width, a, b, c)?;
     }
-    Walk::At(place)
+    Ok(place)
 }
 
 // chained_rows with tables of its own. `again` is 0: the call of itself keeps a compiler from merging this frame into its caller's (docs/DECISIONS.md).
@@ -259,7 +234,7 @@ fn long_distinct_rows(
     b: usize,
     c: usize,
     again: usize,
-) -> Walk
+) -> Result<usize, Refusal>
     requires { (0 < width) × (width ≤ 3) × (count ≤ 16384) }
     ensures { result ≡ walk_of (many (distinct_row (columns_of width a b c) numbers.now) firsts count [] at) }
 {
@@ -281,7 +256,7 @@ pub fn distinct_rows(
     a: usize,
     b: usize,
     c: usize,
-) -> Walk
+) -> Result<usize, Refusal>
     requires { (0 < width) × (width ≤ 3) × (count ≤ 16384) }
     ensures { result ≡ walk_of (many (distinct_row (columns_of width a b c) numbers.now) firsts count [] at) }
 {
@@ -302,7 +277,7 @@ fn some_rows(
     a: usize,
     b: usize,
     c: usize,
-) -> Walk
+) -> Result<usize, Refusal>
     requires { (0 < width) × (width ≤ 3) × (count ≤ 16384) }
     ensures { result ≡ walk_of (many (row_of distinct (columns_of width a b c) numbers.now) firsts count [] q) }
 {
@@ -323,18 +298,14 @@ pub fn rows(
     a: usize,
     b: usize,
     c: usize,
-) -> Walk
+) -> Result<usize, Refusal>
     requires { (0 < width) × (width ≤ 3) }
     ensures { result ≡ walk_of (list (record { counts = counts; row = row_of distinct (columns_of width a b c) numbers.now }) numbers.now at) }
 {
-    match counter(numbers, at, 16384, 0, counts) {
-        Walk::Fault(n, p) => Walk::Fault(n, p),
-        Walk::At(q) => {
-            let count = wide(numbers[at]);
-            if count == 0 {
-                return Walk::At(q);
-            }
-            some_rows(numbers, q, count, distinct, width, a, b, c)
-        }
+    let q = counter(numbers, at, 16384, 0, counts)?;
+    let count = wide(numbers[at]);
+    if count == 0 {
+        return Ok(q);
     }
+    some_rows(numbers, q, count, distinct, width, a, b, c)
 }

@@ -9,12 +9,13 @@ use Rattle.determine_side_effects.specs.tables_crate.Layout.{start_of, Laid, at_
 use Rattle.determine_side_effects.proofs.tables_crate.Sections.{start_mono, laid_more}
 use Rattle.determine_side_effects.specs.graph_format_crate.declared.Header.{Header}
 use Rattle.determine_side_effects.specs.graph_tables_crate.Tables.{header_in}
-use Rattle.determine_side_effects.specs.graph_crate.declared.Checked.TheVariants.{Accepted, Refused}
 use Rattle.determine_side_effects.specs.graph_crate.Check.{Graph, graph_in, check_of, answer_of}
 use Rattle.determine_side_effects.specs.graph_crate.Loaded.{Loaded}
 use Rattle.determine_side_effects.proofs.graph_crate.Checking.{once_refused}
 use Rattle.determine_side_effects.proofs.graph_crate.WellFormed.{accepted_is}
 use Rattle.determine_side_effects.specs.facts_crate.Facts.{mark_count}
+use Rattle.std.specs.Prelude.{Ok, Err}
+use Rattle.determine_side_effects.specs.refusal_crate.declared.Refusal.{Refusal}
 
 -- the tables of a graph that is loaded, by all sections
 pub all_laid : (numbers tables : List ℕ) (h : Header) (n : ℕ) → h ≡ header_in numbers → Loaded numbers tables → length tables ≡ n → start_of h all_sections ≤ n → Laid (header_in numbers) all_sections tables
@@ -29,20 +30,20 @@ unfolding mark_count graph_in
 few_marks numbers tables l = omega (arith, l.few_modules, l.few_symbols, l.few_statements)
 
 -- how an operation ends is told by the check's answer first
-module _ {A : Type 0} (numbers : List ℕ) (on : Graph → A) (off : ℕ → ℕ → A) where
+module _ {A : Type 0} (numbers : List ℕ) (on : Graph → A) (off : Refusal → A) where
   abbrev by_check : Parsed Graph → A
-  by_check x = elim x [ got g q ↦ on g | fault n p ↦ off n p ]
+  by_check x = elim x [ got g q ↦ on g | fault why ↦ off why ]
 
-  pub by_refusal : {n p : ℕ} → answer_of (check_of numbers) ≡ Refused n p → by_check (check_of numbers) ≡ off n p
+  pub by_refusal : {why : Refusal} → answer_of (check_of numbers) ≡ Err why → by_check (check_of numbers) ≡ off why
   unfolding answer_of
-  by_refusal {n} {p} e = go (check_of numbers) refl
+  by_refusal {why} e = go (check_of numbers) refl
     where
-      go : (x : Parsed Graph) → check_of numbers ≡ x → by_check (check_of numbers) ≡ off n p
+      go : (x : Parsed Graph) → check_of numbers ≡ x → by_check (check_of numbers) ≡ off why
       go (got g q) i = absurd ((once_refused ⊥).known (sym e ∙ ap answer_of i))
-      go (fault m o) i =
-          let f : Refused m o ≡ Refused n p = sym (ap answer_of i) ∙ e in
-          let b : off m o ≡ off n p = cc in
+      go (fault q) i =
+          let f : Err q ≡ Err why = sym (ap answer_of i) ∙ e in
+          let b : off q ≡ off why = cc in
           ap by_check i ∙ b
 
-  pub by_graph : answer_of (check_of numbers) ≡ Accepted → by_check (check_of numbers) ≡ on (graph_in numbers)
+  pub by_graph : answer_of (check_of numbers) ≡ Ok tt → by_check (check_of numbers) ≡ on (graph_in numbers)
   by_graph e = ap by_check (accepted_is numbers e).1

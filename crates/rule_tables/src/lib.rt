@@ -9,8 +9,8 @@ ghost use Rattle.determine_side_effects.specs.graph_crate.Loaded.{Loaded};
 ghost use Rattle.keep_rules.specs.Prepared.{Prepared};
 ghost use Rattle.answer_rows.specs.Tabled.{FirstBytes};
 
-use determine_side_effects::graph_crate::Checked;
 use determine_side_effects::graph_format_crate::Header;
+use determine_side_effects::refusal_crate::Refusal;
 
 // Fills them: the last verdicts, the modules on demand, the keys of their bodies, the CommonJS namespaces, the modules' first bytes.
 fn fill(numbers: &[u32], tables: &mut [usize])
@@ -26,16 +26,12 @@ fn fill(numbers: &[u32], tables: &mut [usize])
 }
 
 // Gets ready for an operation over a graph: loads and checks it, and fills all sections.
-pub fn ready(numbers: &[u32], h: Header, tables: &mut [usize]) -> Checked
+pub fn ready(numbers: &[u32], h: Header, tables: &mut [usize]) -> Result<(), Refusal>
     requires header_read { HeaderRead numbers.now h }
     requires all_sections_in_bounds { (start_of h all_sections ≤ length tables.old) × (length tables.old < 4294967296) }
     ensures { (result ≡ answer_of (check_of numbers.now)) × OnceAccepted result (Prepared numbers.now tables.new × FirstBytes numbers.now tables.new) }
 {
-    match determine_side_effects::graph_crate::load(numbers, h, tables) {
-        Checked::Refused(n, p) => Checked::Refused(n, p),
-        Checked::Accepted => {
-            fill(numbers, tables);
-            Checked::Accepted
-        }
-    }
+    determine_side_effects::graph_crate::load(numbers, h, tables)?;
+    fill(numbers, tables);
+    Ok(())
 }

@@ -8,22 +8,24 @@ use borrow.Author.Tests.{ltb-false}
 use lib.Dec.{ltb}
 use lib.ListN.{length}
 use Rattle.determine_side_effects.specs.rows_crate.Walk.{Parsed, got, fault}
-use Rattle.determine_side_effects.specs.graph_crate.declared.Checked.TheVariants.{Accepted}
 use Rattle.determine_side_effects.specs.graph_crate.Check.{Graph, graph_in, check_of, answer_of}
 use Rattle.determine_side_effects.proofs.graph_crate.WellFormed.{accepted_is}
 use Rattle.run_rows.specs.Run.{Run, run_of}
 use Rattle.run_parts.specs.Operation.{Rooms, before, short, done, worked, enough, outcome_in, outcome_of}
+use Rattle.std.specs.Prelude.{Ok}
+use Rattle.determine_side_effects.specs.refusal_crate.declared.Refusal.{Refusal}
+use Rattle.determine_side_effects.specs.refusal_crate.declared.Refusal.TheVariants.{NoRoom}
 
 pub record Done (numbers : List ℕ) (room : Rooms) (g : Graph) (r : Run) : Type 0 where
-  pub accepted : answer_of (check_of numbers) ≡ Accepted
+  pub accepted : answer_of (check_of numbers) ≡ Ok tt
   pub graph_is : g ≡ graph_in numbers
   pub long_enough : enough (graph_in numbers) room ≡ true
   pub run_is : r ≡ run_of (graph_in numbers)
   pub have_room : 6 * length r.lines ≤ room.lines
 
 -- done is neither of the other outcomes
-not_before : (n p : ℕ) (g : Graph) (r : Run) → before n p ≡ done g r → ⊥
-not_before n p g r e = let z : ◌≡◌ {A = ℕ} 0 1 = cc in omega arith
+not_before : (why : Refusal) (g : Graph) (r : Run) → before why ≡ done g r → ⊥
+not_before why g r e = let z : ◌≡◌ {A = ℕ} 0 1 = cc in omega arith
 
 not_short : (g : Graph) (r : Run) → short ≡ done g r → ⊥
 not_short g r e = let z : ◌≡◌ {A = ℕ} 0 1 = cc in omega arith
@@ -42,7 +44,7 @@ pub outcome_work : (g : Graph) (room : Rooms) → enough g room ≡ true → out
 unfolding outcome_in
 outcome_work g room e = rw (e, outcome_in)
 
-pub outcome_accepted : (numbers : List ℕ) (room : Rooms) → answer_of (check_of numbers) ≡ Accepted → outcome_of numbers room ≡ outcome_in (graph_in numbers) room
+pub outcome_accepted : (numbers : List ℕ) (room : Rooms) → answer_of (check_of numbers) ≡ Ok tt → outcome_of numbers room ≡ outcome_in (graph_in numbers) room
 unfolding outcome_of
 outcome_accepted numbers room e = rw ((accepted_is numbers e).1, outcome_of)
 
@@ -52,16 +54,16 @@ with_room g room h r e = go (enough g room) refl
   where
     go : (b : Bool) → enough g room ≡ b → enough g room ≡ true
     go true t = t
-    go false t = absurd (not_before 5 0 h r (rw (t, outcome_in) at e))
+    go false t = absurd (not_before NoRoom h r (rw (t, outcome_in) at e))
 
 module _ (numbers : List ℕ) (room : Rooms) (g : Graph) (r : Run) (e : outcome_of numbers room ≡ done g r) where
-  passed : answer_of (check_of numbers) ≡ Accepted
+  passed : answer_of (check_of numbers) ≡ Ok tt
   unfolding outcome_of answer_of
   passed = go (check_of numbers) refl
     where
-      go : (x : Parsed Graph) → check_of numbers ≡ x → answer_of (check_of numbers) ≡ Accepted
+      go : (x : Parsed Graph) → check_of numbers ≡ x → answer_of (check_of numbers) ≡ Ok tt
       go (got h q) t = ap answer_of t
-      go (fault n p) t = absurd (not_before n p g r (rw (t, outcome_of) at e))
+      go (fault why) t = absurd (not_before why g r (rw (t, outcome_of) at e))
 
   pub run_done : Done numbers room g r
   run_done =

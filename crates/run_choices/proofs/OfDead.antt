@@ -9,7 +9,6 @@ use lib.Dec.{eqb}
 use lib.ListN.{get_or, drop}
 use Rattle.bit_row.specs.Row.{bit_at, bytes_for}
 use Rattle.bit_row.proofs.Size.{bytes_hold}
-use Rattle.determine_side_effects.specs.graph_crate.declared.Checked.TheVariants.{Accepted}
 use Rattle.determine_side_effects.specs.graph_tables_crate.Tables.{header_in}
 use Rattle.determine_side_effects.specs.graph_crate.Check.{Graph, graph_in, check_of, answer_of}
 use Rattle.determine_side_effects.specs.graph_access_crate.Names.{related, related_module, related_statement, unreachable}
@@ -40,6 +39,7 @@ use Rattle.run_choices.proofs.Growing.{main_whole}
 use Rattle.run_choices.proofs.Done.{run_done}
 use Rattle.run_choices.proofs.Further.{try_live, try_dead}
 use Rattle.run_choices.proofs.EachTried.{live_after, was_dead}
+use Rattle.std.specs.Prelude.{Ok}
 
 all : (a b : Bool) → a ≡ true → b ≡ true → (a && b) ≡ true
 all true b e f = f
@@ -195,7 +195,7 @@ module _ (g : Graph) (r : Run) (e k : ℕ) (s : RelatesLive g r e k) where
       (all (r.live (module_of_entry g e)) _ s.live (some_holds (exempts g (kept g r) (record_number g row)) [] (related (entry_of g e)) k s.row row_exempts)))
 
 -- over accepted numbers
-module _ (numbers : List ℕ) (accepted : answer_of (check_of numbers) ≡ Accepted) (on : option (graph_in numbers) 6 ≡ true) where
+module _ (numbers : List ℕ) (accepted : answer_of (check_of numbers) ≡ Ok tt) (on : option (graph_in numbers) 6 ≡ true) where
   abbrev G : Graph
   G = graph_in numbers
 

@@ -9,7 +9,6 @@ use native.Mathlib.Nat.{le_refl}
 use borrow.Author.Tests.{le-ltb}
 use lib.Dec.{ltb}
 use lib.ListN.{length}
-use Rattle.determine_side_effects.specs.graph_crate.declared.Checked.TheVariants.{Accepted}
 use Rattle.determine_side_effects.specs.graph_crate.Check.{Graph, graph_in, check_of, answer_of}
 use Rattle.determine_side_effects.specs.facts_crate.Facts.{mark_count}
 use Rattle.determine_side_effects.specs.Effects.{last_verdicts}
@@ -32,9 +31,10 @@ use Rattle.run_choices.proofs.OnCycles.{on_cycle_is}
 use Rattle.run_choices.proofs.Rounds.{main_rounds}
 use Rattle.run_choices.proofs.FewRounds.{few_without}
 use Rattle.run_choices.proofs.Done.{outcome_work, outcome_accepted, run_done}
+use Rattle.std.specs.Prelude.{Ok}
 
 -- the run of accepted numbers
-module _ (numbers : List ℕ) (accepted : answer_of (check_of numbers) ≡ Accepted) where
+module _ (numbers : List ℕ) (accepted : answer_of (check_of numbers) ≡ Ok tt) where
   abbrev g : Graph
   g = graph_in numbers
 

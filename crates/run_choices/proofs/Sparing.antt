@@ -11,7 +11,6 @@ use borrow.Author.Tests.{eqb-true}
 use lib.Dec.{eqb}
 use lib.ListN.{length, get_or, drop, get_or-append}
 use Rattle.bit_row.specs.Row.{bit_at, bit_of, bytes_for}
-use Rattle.determine_side_effects.specs.graph_crate.declared.Checked.TheVariants.{Accepted}
 use Rattle.determine_side_effects.specs.graph_tables_crate.Tables.{header_in}
 use Rattle.determine_side_effects.specs.graph_crate.Check.{Graph, graph_in, check_of, answer_of}
 use Rattle.determine_side_effects.specs.graph_crate.Loaded.{Loaded}
@@ -50,6 +49,7 @@ use Rattle.run_choices.specs.Operation.{RunSpares}
 use Rattle.run_choices.proofs.GoodStarts.{runtime_starts_good}
 use Rattle.run_choices.proofs.Stages.{not_among, whole_more, whole_next}
 use Rattle.run_choices.proofs.Growing.{main_whole}
+use Rattle.std.specs.Prelude.{Ok}
 
 -- the bits of bytes that stand in front of others
 pub bit_before : (xs rest : List ℕ) (j : ℕ) → j < 8 * length xs → bit_at (xs ++ rest) j ≡ bit_at xs j
@@ -164,7 +164,7 @@ module _ {numbers tables : List ℕ} (t : Loaded numbers tables) where
         go (no u) = bit_behind (bytes_of marked (length lent)) j (omega (arith, bytes_long marked (length lent)))
 
 -- the run of accepted numbers
-module _ (numbers : List ℕ) (accepted : answer_of (check_of numbers) ≡ Accepted) where
+module _ (numbers : List ℕ) (accepted : answer_of (check_of numbers) ≡ Ok tt) where
   abbrev G : Graph
   G = graph_in numbers
 

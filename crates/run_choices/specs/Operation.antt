@@ -2,7 +2,6 @@
 -- `run_enough` and `run_spares` in proofs/OfRuns.antt.
 use Rattle.std.specs.Prelude.{ℕ, ◌+◌, ◌*◌, ◌<◌, ◌≤◌, ◌≡◌, ◌↔◌, true, false, List}
 use Rattle.bit_row.specs.Row.{bit_at, bytes_for}
-use Rattle.determine_side_effects.specs.graph_crate.declared.Checked.TheVariants.{Accepted}
 use Rattle.determine_side_effects.specs.graph_crate.Check.{Graph, graph_in, check_of, answer_of}
 use Rattle.determine_side_effects.specs.graph_access_crate.Words.{option}
 use Rattle.determine_side_effects.specs.facts_crate.Facts.{mark_count}
@@ -19,6 +18,7 @@ use Rattle.run_rows.specs.Run.{Run}
 use Rattle.run_parts.specs.Operation.{Rooms, done, enough, outcome_of, marks_after, row_after, dead_after}
 use Rattle.closed_choices.specs.Choice.{Smallest, HasLine}
 use Rattle.closed_choices.specs.Operation.{Spare}
+use Rattle.std.specs.Prelude.{Ok}
 
 -- What is known of a run over graph g:
 -- the facts of its main part are the smallest closed choice that holds its own starts, which are good facts; it made at least one round, and at
@@ -40,7 +40,7 @@ EveryRunKeeps = (numbers : List ℕ) (room : Rooms) (g : Graph) (r : Run) → ou
 -- in each of two stages
 abbrev pub EnoughRuns : Type 0
 EnoughRuns =
-    (numbers : List ℕ) (room : Rooms) → answer_of (check_of numbers) ≡ Accepted → enough (graph_in numbers) room ≡ true
+    (numbers : List ℕ) (room : Rooms) → answer_of (check_of numbers) ≡ Ok tt → enough (graph_in numbers) room ≡ true
     → 12 * mark_count (graph_in numbers) ≤ room.lines → (r : Run) × (outcome_of numbers room ≡ done (graph_in numbers) r)
 
 -- The rows of a run have nothing beside their answer: a spare bit of an answer row, a bit of the dead row behind the last import record and a mark

@@ -17,10 +17,11 @@ use Rattle.entry_order.specs.Plan.{plan_size}
 use Rattle.answer_rows.specs.Shown.{rows_enough}
 use Rattle.answer_rows.specs.Together.{SixRows, six_rows, lengths_of}
 use Rattle.dead_records.specs.Dead.{record_count}
-use Rattle.run_parts.specs.declared.Ran.{Ran}
-use Rattle.run_parts.specs.declared.Ran.TheVariants.{Refused as Stopped}
+use Rattle.run_parts.specs.declared.Totals.{Totals}
 use Rattle.run_parts.specs.Operation.{Rows, rooms_of, Outcome, before, enough, answered, marks_after, record_after, row_after, dead_after, helpers_after, entries_after, Ends}
 use Rattle.run_parts.specs.Parts.{ScratchFits, RowsFit}
+use Rattle.std.specs.Prelude.{Result, Err}
+use Rattle.determine_side_effects.specs.refusal_crate.declared.Refusal.{Refusal}
 
 -- the rows that a drain has too
 abbrev pub six_of : Rows → SixRows
@@ -62,9 +63,9 @@ module _ (numbers : List ℕ) (h : Header) (e : h ≡ header_in numbers) (n : �
       omega (arith, i, j, l)
 
 -- a refusal before the work leaves every row
-stopped : (n p : ℕ) (lent : Rows) → Ends (before n p) (Stopped n p) lent lent
+stopped : (why : Refusal) (lent : Rows) → Ends (before why) (Err why) lent lent
 unfolding answered marks_after record_after row_after dead_after helpers_after entries_after
-stopped n p lent =
+stopped why lent =
     record {
       answer = refl;
       marks_are = refl;
@@ -80,8 +81,8 @@ stopped n p lent =
       entries_are = refl;
     }
 
-pub ends_before : (o : Outcome) (n p : ℕ) (lent : Rows) → o ≡ before n p → Ends o (Stopped n p) lent lent
-ends_before o n p lent e = rw e (stopped n p lent)
+pub ends_before : (o : Outcome) (why : Refusal) (lent : Rows) → o ≡ before why → Ends o (Err why) lent lent
+ends_before o why lent e = rw e (stopped why lent)
 
-pub ends_same : (o q : Outcome) (r : Ran) (lent after : Rows) → o ≡ q → Ends q r lent after → Ends o r lent after
+pub ends_same : (o q : Outcome) (r : Result Totals Refusal) (lent after : Rows) → o ≡ q → Ends q r lent after → Ends o r lent after
 ends_same o q r lent after e h = rw e h

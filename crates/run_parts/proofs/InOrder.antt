@@ -7,8 +7,6 @@ use native.Mathlib.Omega.{arith}
 use borrow.Author.Tests.{lt-ltb, le-ltb}
 use lib.ListN.{length, get_or, replicate}
 use Rattle.bit_row.specs.Row.{bytes_for}
-use Rattle.determine_side_effects.specs.graph_crate.declared.Checked.{Checked}
-use Rattle.determine_side_effects.specs.graph_crate.declared.Checked.TheVariants.{Accepted, Refused}
 use Rattle.determine_side_effects.specs.graph_crate.Check.{Graph, graph_in}
 use Rattle.determine_side_effects.specs.facts_crate.Facts.{mark_count}
 use Rattle.keep_record.specs.Lines.{written, elem, marks_from}
@@ -19,17 +17,18 @@ use Rattle.answer_rows.specs.Shown.{bytes_of, shown_row, rows_enough}
 use Rattle.answer_rows.specs.Together.{lengths_of, RowsShown}
 use Rattle.answer_rows.proofs.Bytes.{whole_row_is}
 use Rattle.tree_shaking.specs.declared.Reached.{Reached}
-use Rattle.tree_shaking.specs.declared.Work.{Work}
-use Rattle.tree_shaking.specs.declared.Work.TheVariants.{Full}
 use Rattle.run_rows.specs.Run.{run_of}
 use Rattle.run_parts.specs.declared.Lengths.{Lengths}
 use Rattle.run_parts.specs.declared.Part.TheVariants.{Whole}
 use Rattle.run_parts.specs.declared.Totals.{Totals}
-use Rattle.run_parts.specs.declared.Ran.{Ran}
-use Rattle.run_parts.specs.declared.Ran.TheVariants.{Done, Refused as Stopped}
 use Rattle.run_parts.specs.Operation.{Rows, rooms_of, short, done, worked, enough, outcome_of, totals_of, answered, marks_after, record_after, row_after, dead_after, helpers_after, entries_after, Ends}
 use Rattle.run_parts.specs.Parts.{room_for, MayBegin, WorkEnds, Holds, RowsFit, RunShown}
 use Rattle.run_parts.proofs.Ending.{six_of, fits, ends_before, ends_same}
+use Rattle.std.specs.Prelude.{Result, Ok, Err}
+use Rattle.determine_side_effects.specs.refusal_crate.declared.Refusal.{Refusal}
+use Rattle.determine_side_effects.specs.refusal_crate.declared.Refusal.TheVariants.{NoRoom}
+use Rattle.keep_record.specs.declared.Full.{Full}
+use Rattle.keep_record.specs.Held.{no_room}
 
 -- the lengths of marks and answer rows
 abbrev pub all_lengths : Rows → Lengths
@@ -65,12 +64,12 @@ works_on lent marks row =
     }
 
 -- a record found short
-module _ (g : Graph) (lent : Rows) (marks row plan : List ℕ) (r : Work) (w : WorkEnds g Whole lent.marks lent.lines marks row plan r) (e : r ≡ Full) where
+module _ (g : Graph) (lent : Rows) (marks row plan : List ℕ) (r : Result Reached Full) (w : WorkEnds g Whole lent.marks lent.lines marks row plan r) (e : r ≡ no_room) where
   short_is : worked g (run_of g) (length lent.lines) ≡ short
   unfolding worked
   short_is = rw (lt-ltb (length lent.lines) (6 * length (run_of g).lines) (w.too_long e).0, worked)
 
-  ended_short : Ends short (Stopped 5 0) lent (works_on lent marks row)
+  ended_short : Ends short (Err NoRoom) lent (works_on lent marks row)
   unfolding answered marks_after record_after row_after dead_after helpers_after entries_after
   ended_short =
       record {
@@ -88,7 +87,7 @@ module _ (g : Graph) (lent : Rows) (marks row plan : List ℕ) (r : Work) (w : W
         entries_are = refl;
       }
 
-  pub ends_short : Ends (worked g (run_of g) (length lent.lines)) (Stopped 5 0) lent (works_on lent marks row)
+  pub ends_short : Ends (worked g (run_of g) (length lent.lines)) (Err NoRoom) lent (works_on lent marks row)
   ends_short = ends_same _ short _ _ _ short_is ended_short
 
 -- lines
@@ -128,13 +127,13 @@ module _ (g : Graph) (lent after : Rows) (plan : List ℕ) (x : Reached) (h : Ho
         let d : x.total - x.main ≡ length (run_of g).lines - length (run_of g).main = omega (arith, main_is, total_is) in
         λ i. record { rounds = h.rounds_are i; lines = main_is i; runtime_lines = d i; entries = only.counted i }
 
-    ended-done : Ends (done g (run_of g)) (Done totals) lent after
+    ended-done : Ends (done g (run_of g)) (Ok totals) lent after
     unfolding answered marks_after record_after row_after dead_after helpers_after entries_after
     ended-done =
         let all = h.all_lines in
         let first = h.main_lines in
         record {
-          answer = ap Done totals-are;
+          answer = ap Ok totals-are;
           marks_are = marks_done small;
           record_is = record_done;
           modules_are = shown.modules_shown ∙ ap (λ ls. shown_row g Modules ls lent.modules) all;
@@ -148,21 +147,21 @@ module _ (g : Graph) (lent after : Rows) (plan : List ℕ) (x : Reached) (h : Ho
           entries_are = only.entries_shown;
         }
 
-    pub ends_done : Ends (worked g (run_of g) (length lent.lines)) (Done totals) lent after
+    pub ends_done : Ends (worked g (run_of g) (length lent.lines)) (Ok totals) lent after
     ends_done = ends_same _ (done g (run_of g)) _ _ _ done_is ended-done
 
 -- whether it may begin, and the run by what that says
-module _ (numbers tables : List ℕ) (r : Checked) (lent : Rows) (begins : MayBegin numbers (all_lengths lent) tables r) where
+module _ (numbers tables : List ℕ) (r : Result Unit Refusal) (lent : Rows) (begins : MayBegin numbers (all_lengths lent) tables r) where
   rooms_are : rooms_of lent ≡ room_for (length lent.lines) (all_lengths lent)
   unfolding rooms_of
   rooms_are = refl
 
-  pub begins_fits : r ≡ Accepted
+  pub begins_fits : r ≡ Ok tt
       → (bytes_for (mark_count (graph_in numbers)) ≤ length lent.marks) × (rows_enough (graph_in numbers) (lengths_of (six_of lent)) ≡ true) × RowsFit (graph_in numbers) (length lent.dead) (length lent.helpers) (length lent.entries)
   begins_fits e = fits (graph_in numbers) lent (ap (λ w. enough (graph_in numbers) w) rooms_are ∙ begins.fits e (length lent.lines))
 
-  pub ends_refused : {n p : ℕ} → r ≡ Refused n p → Ends (outcome_of numbers (rooms_of lent)) (Stopped n p) lent lent
-  ends_refused {n} {p} e = ends_before _ n p lent (ap (λ w. outcome_of numbers w) rooms_are ∙ begins.refused n p e (length lent.lines))
+  pub ends_refused : {why : Refusal} → r ≡ Err why → Ends (outcome_of numbers (rooms_of lent)) (Err why) lent lent
+  ends_refused {why} e = ends_before _ why lent (ap (λ w. outcome_of numbers w) rooms_are ∙ begins.refused why e (length lent.lines))
 
-  pub ends_worked : r ≡ Accepted → {q : Ran} {after : Rows} → Ends (worked (graph_in numbers) (run_of (graph_in numbers)) (length lent.lines)) q lent after → Ends (outcome_of numbers (rooms_of lent)) q lent after
+  pub ends_worked : r ≡ Ok tt → {q : Result Totals Refusal} {after : Rows} → Ends (worked (graph_in numbers) (run_of (graph_in numbers)) (length lent.lines)) q lent after → Ends (outcome_of numbers (rooms_of lent)) q lent after
   ends_worked e {q} {after} w = ends_same _ _ q lent after (ap (λ w. outcome_of numbers w) rooms_are ∙ begins.goes e (length lent.lines)) w

@@ -1,13 +1,12 @@
 -- Whether a run may begin, by the ends.
 use Prim.Native.Nat.{ℕ, ◌<◌, ◌≤◌}
 use mathlib.Core.Path.{◌≡◌, ap, ◌∙◌, sym}
-use mathlib.Core.Bool.{Bool, true, false, ◌&&◌}
+use mathlib.Core.Bool.{Bool, true, false}
 use mathlib.Core.List.{List}
 use native.Mathlib.Omega.{arith}
 use borrow.Author.Tests.{lt-leb, le-leb}
 use lib.Dec.{leb}
 use Rattle.bit_row.specs.Row.{bytes_for}
-use Rattle.determine_side_effects.specs.graph_crate.declared.Checked.TheVariants.{Accepted, Refused}
 use Rattle.determine_side_effects.specs.graph_crate.Check.{Graph, graph_in, check_of, answer_of}
 use Rattle.determine_side_effects.proofs.graph_crate.Checking.{once_refused}
 use Rattle.determine_side_effects.specs.facts_crate.Facts.{mark_count}
@@ -21,6 +20,9 @@ use Rattle.run_rows.specs.Run.{run_of}
 use Rattle.run_parts.specs.declared.Lengths.{Lengths}
 use Rattle.run_parts.specs.Operation.{Rooms, before, worked, enough, outcome_in, outcome_of}
 use Rattle.run_parts.specs.Parts.{room_for, MayBegin}
+use Rattle.std.specs.Prelude.{Ok, Err}
+use Rattle.determine_side_effects.specs.refusal_crate.declared.Refusal.{Refusal}
+use Rattle.determine_side_effects.specs.refusal_crate.declared.Refusal.TheVariants.{NoRoom}
 
 -- the lengths of the six rows that a drain has too
 abbrev six_of : Lengths → SixLengths
@@ -71,7 +73,7 @@ module _ (g : Graph) (l : Lengths) {k b : ℕ} (i : k ≡ mark_count g) (j : b �
 
 -- the outcome over an accepted graph
 module _ (g : Graph) (room : Rooms) where
-  pub outcome_short : enough g room ≡ false → outcome_in g room ≡ before 5 0
+  pub outcome_short : enough g room ≡ false → outcome_in g room ≡ before NoRoom
   unfolding outcome_in
   outcome_short e = rw (e, outcome_in)
 
@@ -81,35 +83,35 @@ module _ (g : Graph) (room : Rooms) where
 
 -- the outcome by the check's answer
 module _ (numbers : List ℕ) (room : Rooms) where
-  pub outcome_refused : {n p : ℕ} → answer_of (check_of numbers) ≡ Refused n p → outcome_of numbers room ≡ before n p
+  pub outcome_refused : {why : Refusal} → answer_of (check_of numbers) ≡ Err why → outcome_of numbers room ≡ before why
   unfolding outcome_of
   outcome_refused e = by_refusal numbers (λ g. outcome_in g room) before e
 
-  pub outcome_accepted : answer_of (check_of numbers) ≡ Accepted → outcome_of numbers room ≡ outcome_in (graph_in numbers) room
+  pub outcome_accepted : answer_of (check_of numbers) ≡ Ok tt → outcome_of numbers room ≡ outcome_in (graph_in numbers) room
   unfolding outcome_of
   outcome_accepted e = by_graph numbers (λ g. outcome_in g room) before e
 
 module _ (numbers : List ℕ) (lengths : Lengths) (tables : List ℕ) where
-  begins_refused : (n p : ℕ) → ((lines : ℕ) → outcome_of numbers (room_for lines lengths) ≡ before n p) → MayBegin numbers lengths tables (Refused n p)
-  begins_refused n p e =
+  begins_refused : (why : Refusal) → ((lines : ℕ) → outcome_of numbers (room_for lines lengths) ≡ before why) → MayBegin numbers lengths tables (Err why)
+  begins_refused why e =
       record {
-        refused = λ m o q lines. let b : before n p ≡ before m o = cc in e lines ∙ b;
+        refused = λ w q lines. let b : before why ≡ before w = cc in e lines ∙ b;
         good = λ q. (once_refused _).known q;
         fits = λ q lines. absurd ((once_refused ⊥).known q);
         goes = λ q lines. absurd ((once_refused ⊥).known q);
       }
 
-  pub begins_rejected : {n p : ℕ} → answer_of (check_of numbers) ≡ Refused n p → MayBegin numbers lengths tables (Refused n p)
-  begins_rejected {n} {p} e = begins_refused n p (λ lines. outcome_refused numbers (room_for lines lengths) e)
+  pub begins_rejected : {why : Refusal} → answer_of (check_of numbers) ≡ Err why → MayBegin numbers lengths tables (Err why)
+  begins_rejected {why} e = begins_refused why (λ lines. outcome_refused numbers (room_for lines lengths) e)
 
-  module _ (a : answer_of (check_of numbers) ≡ Accepted) {r : Bool} (o : (lines : ℕ) → r ≡ enough (graph_in numbers) (room_for lines lengths)) where
-    pub begins-short : r ≡ false → MayBegin numbers lengths tables (Refused 5 0)
-    begins-short e = begins_refused 5 0 (λ lines. outcome_accepted numbers (room_for lines lengths) a ∙ outcome_short (graph_in numbers) (room_for lines lengths) (sym (o lines) ∙ e))
+  module _ (a : answer_of (check_of numbers) ≡ Ok tt) {r : Bool} (o : (lines : ℕ) → r ≡ enough (graph_in numbers) (room_for lines lengths)) where
+    pub begins-short : r ≡ false → MayBegin numbers lengths tables (Err NoRoom)
+    begins-short e = begins_refused NoRoom (λ lines. outcome_accepted numbers (room_for lines lengths) a ∙ outcome_short (graph_in numbers) (room_for lines lengths) (sym (o lines) ∙ e))
 
-    pub begins-good : r ≡ true → Prepared numbers tables × FirstBytes numbers tables → MayBegin numbers lengths tables Accepted
+    pub begins-good : r ≡ true → Prepared numbers tables × FirstBytes numbers tables → MayBegin numbers lengths tables (Ok tt)
     begins-good e p =
         record {
-          refused = λ n m k lines. absurd ((once_refused ⊥).known (sym k));
+          refused = λ w k lines. absurd ((once_refused ⊥).known (sym k));
           good = λ k. p;
           fits = λ k lines. sym (o lines) ∙ e;
           goes = λ k lines. outcome_accepted numbers (room_for lines lengths) a ∙ outcome_work (graph_in numbers) (room_for lines lengths) (sym (o lines) ∙ e);

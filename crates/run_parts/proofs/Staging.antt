@@ -12,27 +12,26 @@ use lib.Seq.{take_all, get_or-take, length-take-le, ext_get_or}
 use Rattle.determine_side_effects.specs.graph_crate.Check.{Graph}
 use Rattle.determine_side_effects.specs.Effects.{last_verdicts}
 use Rattle.keep_record.specs.declared.Line.{Line}
-use Rattle.keep_record.specs.declared.Added.{Added}
-use Rattle.keep_record.specs.declared.Added.TheVariants.{Lines, Full as AddedFull}
 use Rattle.keep_record.specs.Lines.{has}
 use Rattle.keep_record.specs.Held.{lines_of, Held}
 use Rattle.keep_record.proofs.Rows.{lines-length, lines-take}
 use Rattle.worklist.specs.Drain.{drained_all}
 use Rattle.worklist.proofs.Ends.{all_longer}
 use Rattle.entry_order.specs.Plan.{is_set, live_in, dead_in, live_at, dead_at, cycled_at, words_at, plan_size, Untouched}
-use Rattle.dynamic_entries.specs.Tries.{Progress, progress_in, Planned}
+use Rattle.dynamic_entries.specs.Tries.{progress_in, Planned}
 use Rattle.passes.specs.Helpers.{helper_word, helper_union, runtime_starts}
 use Rattle.passes.proofs.Staying.{take-drained_all}
 use Rattle.tree_shaking.specs.declared.Reached.{Reached}
-use Rattle.tree_shaking.specs.declared.Work.{Work}
-use Rattle.tree_shaking.specs.declared.Work.TheVariants.{Done, Full}
 use Rattle.tree_shaking.specs.Rounds.{main_part, runtime_stage}
 use Rattle.tree_shaking.specs.Parts.{MainEnds, StageEnds}
 use Rattle.tree_shaking.proofs.Longer.{main_taken}
-use Rattle.run_rows.specs.Run.{Run, run_of, with_runtime}
+use Rattle.run_rows.specs.Run.{run_of, with_runtime}
 use Rattle.run_parts.specs.declared.Part.{Part}
 use Rattle.run_parts.specs.declared.Part.TheVariants.{Whole, Main}
 use Rattle.run_parts.specs.Parts.{lines_of_part, Leaves, Holds, StagesEnd}
+use Rattle.std.specs.Prelude.{Result, Ok}
+use Rattle.keep_record.specs.declared.Full.{Full}
+use Rattle.keep_record.specs.Held.{no_room}
 
 -- a part of the plan that was not written
 same_part : (at count : ℕ) (before after : List ℕ) → ((i : ℕ) → i < count → get_or after (at + i) 0 ≡ get_or before (at + i) 0) → (m : ℕ) → is_set at count after m ≡ is_set at count before m
@@ -80,14 +79,14 @@ module _ (g : Graph) (before after : List ℕ) (u : Untouched (words_at g.header
       }
 
 -- a record that is too short
-pub stages_short : (g : Graph) (part : Part) (marks row plan : List ℕ) → length row < 6 * length (lines_of_part part (run_of g)) → StagesEnd g part marks row plan Full
+pub stages_short : (g : Graph) (part : Part) (marks row plan : List ℕ) → length row < 6 * length (lines_of_part part (run_of g)) → StagesEnd g part marks row plan no_room
 stages_short g part marks row plan h =
     record {
       holds = λ x e. let z : ◌≡◌ {A = ℕ} 0 1 = cc in absurd (omega arith);
       too_long = λ e. h;
     }
 
-pub stages_held : (g : Graph) (part : Part) (marks row plan : List ℕ) (x : Reached) → Holds g part marks row plan x → StagesEnd g part marks row plan (Done x)
+pub stages_held : (g : Graph) (part : Part) (marks row plan : List ℕ) (x : Reached) → Holds g part marks row plan x → StagesEnd g part marks row plan (Ok x)
 stages_held g part marks row plan x h =
     record {
       holds = λ y e. let z : x ≡ y = cc in subst (λ (w : Reached). Holds g part marks row plan w) z h;
@@ -95,7 +94,7 @@ stages_held g part marks row plan x h =
     }
 
 -- the part that is asked for
-pub stages_of : {g : Graph} {part asked : Part} {marks row plan : List ℕ} {r : Work} → asked ≡ part → StagesEnd g part marks row plan r → StagesEnd g asked marks row plan r
+pub stages_of : {g : Graph} {part asked : Part} {marks row plan : List ℕ} {r : Result Reached Full} → asked ≡ part → StagesEnd g part marks row plan r → StagesEnd g asked marks row plan r
 stages_of {g} {part} {asked} {marks} {row} {plan} {r} e s = subst (λ (p : Part). StagesEnd g p marks row plan r) (sym e) s
 
 -- the main part is the front of the run
@@ -109,13 +108,13 @@ run_taken : (g : Graph) → (run_of g).taken ≤ length (run_of g).main
 unfolding run_of with_runtime
 run_taken g = main_taken g (last_verdicts g)
 
-module _ (g : Graph) (users : ℕ) (partners₁ marks₁ row₁ plan₁ : List ℕ) (r : Work) (m : MainEnds g users (main_part g (last_verdicts g)) partners₁ marks₁ row₁ plan₁ r) where
-  pub main_short : (part : Part) → r ≡ Full → StagesEnd g part marks₁ row₁ plan₁ Full
+module _ (g : Graph) (users : ℕ) (partners₁ marks₁ row₁ plan₁ : List ℕ) (r : Result Reached Full) (m : MainEnds g users (main_part g (last_verdicts g)) partners₁ marks₁ row₁ plan₁ r) where
+  pub main_short : (part : Part) → r ≡ no_room → StagesEnd g part marks₁ row₁ plan₁ no_room
   unfolding run_of with_runtime
   main_short Whole e = stages_short g Whole marks₁ row₁ plan₁ (omega (arith, m.full e, run_longer g))
   main_short Main e = stages_short g Main marks₁ row₁ plan₁ (m.full e)
 
-  module _ {x : Reached} (e : r ≡ Done x) where
+  module _ {x : Reached} (e : r ≡ Ok x) where
     main_is : lines_of x.main row₁ ≡ (run_of g).main
     unfolding progress_in run_of with_runtime
     main_is = ap (λ p. p.lines) (m.is x e)
@@ -146,7 +145,7 @@ module _ (g : Graph) (users : ℕ) (partners₁ marks₁ row₁ plan₁ : List �
     total_is : x.main ≡ x.total
     total_is = ap (λ (y : Reached). y.main) (m.reached x e) ∙ sym (ap (λ (y : Reached). y.total) (m.reached x e))
 
-    pub main-done : StagesEnd g Main marks₁ row₁ plan₁ (Done x)
+    pub main-done : StagesEnd g Main marks₁ row₁ plan₁ (Ok x)
     main-done =
         stages_held g Main marks₁ row₁ plan₁ x
         (record {
@@ -160,7 +159,7 @@ module _ (g : Graph) (users : ℕ) (partners₁ marks₁ row₁ plan₁ : List �
           words = λ q. let z : ◌≡◌ {A = ℕ} 0 1 = cc in absurd (omega arith);
         })
 
-    module _ (partners₂ marks₂ row₂ plan₂ : List ℕ) (q : Added) (s : StageEnds g (lines_of x.main row₁) plan₁ partners₂ marks₂ row₂ plan₂ q) where
+    module _ (partners₂ marks₂ row₂ plan₂ : List ℕ) (q : Result ℕ Full) (s : StageEnds g (lines_of x.main row₁) plan₁ partners₂ marks₂ row₂ plan₂ q) where
       staged : List Line
       staged = drained_all g (last_verdicts g) (length (lines_of x.main row₁)) (runtime_starts g (last_verdicts g) (helper_union g (has g 0 (lines_of x.main row₁)))) (lines_of x.main row₁)
 
@@ -168,11 +167,11 @@ module _ (g : Graph) (users : ℕ) (partners₁ marks₁ row₁ plan₁ : List �
       unfolding staged run_of with_runtime runtime_stage
       staged-is = ap (λ ls. runtime_stage g (last_verdicts g) ls (helper_union g (has g 0 ls))) main_is
 
-      pub stage-short : q ≡ AddedFull → StagesEnd g Whole marks₂ row₂ plan₂ Full
+      pub stage-short : q ≡ no_room → StagesEnd g Whole marks₂ row₂ plan₂ no_room
       unfolding staged
       stage-short f = stages_short g Whole marks₂ row₂ plan₂ (omega (arith, s.started.grown.full f, ap length staged-is))
 
-      module _ {total : ℕ} (f : q ≡ Lines total) where
+      module _ {total : ℕ} (f : q ≡ Ok total) where
         held₂ : Held g x.main marks₂ row₂ total
         held₂ = rw (lines-length x.main row₁) at (s.started.grown.held total f).1
 
@@ -186,7 +185,7 @@ module _ (g : Graph) (users : ℕ) (partners₁ marks₁ row₁ plan₁ : List �
             ∙ take-drained_all g (last_verdicts g) (length (lines_of x.main row₁)) (runtime_starts g (last_verdicts g) (helper_union g (has g 0 (lines_of x.main row₁)))) (lines_of x.main row₁) x.main n
             ∙ take_all x.main (lines_of x.main row₁) k
 
-        pub stages-done : StagesEnd g Whole marks₂ row₂ plan₂ (Done (record { users = x.users; rounds = x.rounds; taken = x.taken; main = x.main; total = total }))
+        pub stages-done : StagesEnd g Whole marks₂ row₂ plan₂ (Ok (record { users = x.users; rounds = x.rounds; taken = x.taken; main = x.main; total = total }))
         unfolding staged
         stages-done =
             stages_held g Whole marks₂ row₂ plan₂ (record { users = x.users; rounds = x.rounds; taken = x.taken; main = x.main; total = total })

@@ -13,10 +13,11 @@ use Rattle.worklist.specs.Drain.{module_line}
 use Rattle.worklist.specs.Links.{first_forward, last_forward, Linked}
 use Rattle.entry_starts.specs.Working.{Working}
 use Rattle.tree_shaking.specs.declared.Reached.{Reached}
-use Rattle.tree_shaking.specs.declared.Work.{Work}
-use Rattle.tree_shaking.specs.declared.Work.TheVariants.{Done, Full}
 use Rattle.run_parts.specs.declared.Part.{Part}
 use Rattle.run_parts.specs.Parts.{StagesEnd, WorkEnds}
+use Rattle.std.specs.Prelude.{Result, Ok}
+use Rattle.keep_record.specs.declared.Full.{Full}
+use Rattle.keep_record.specs.Held.{no_room}
 
 linked_none : (g : Graph) (links : List ℕ) → 3 * g.header.modules + g.header.symbols ≤ length links → ((i : ℕ) → get_or links i 0 ≡ 0) → Linked g 0 links []
 unfolding module_line first_forward last_forward
@@ -44,12 +45,12 @@ working_start g marks₀ row₀ partners marks row h l z a b =
       linked = rw (no_lines row) (linked_none g partners l z);
     }
 
-module _ (g : Graph) (part : Part) (marks₀ row₀ marks₁ row₁ plan : List ℕ) (r : Work) (s : StagesEnd g part marks₁ row₁ plan r) where
-  pub work_holds : {x : Reached} → r ≡ Done x → WorkEnds g part marks₀ row₀ marks₁ row₁ plan (Done x)
+module _ (g : Graph) (part : Part) (marks₀ row₀ marks₁ row₁ plan : List ℕ) (r : Result Reached Full) (s : StagesEnd g part marks₁ row₁ plan r) where
+  pub work_holds : {x : Reached} → r ≡ Ok x → WorkEnds g part marks₀ row₀ marks₁ row₁ plan (Ok x)
   work_holds e = record { holds = λ y q. s.holds y (e ∙ q); too_long = λ q. let z : ◌≡◌ {A = ℕ} 0 1 = cc in absurd (omega arith) }
 
-  pub work_short : (marks row : List ℕ) → r ≡ Full → length marks₁ ≡ length marks₀ → length row₁ ≡ length row₀ → marks ≡ replicate (length marks₁) 0 → row ≡ replicate (length row₁) 0
-      → WorkEnds g part marks₀ row₀ marks row plan Full
+  pub work_short : (marks row : List ℕ) → r ≡ no_room → length marks₁ ≡ length marks₀ → length row₁ ≡ length row₀ → marks ≡ replicate (length marks₁) 0 → row ≡ replicate (length row₁) 0
+      → WorkEnds g part marks₀ row₀ marks row plan no_room
   work_short marks row e a b m n =
       record {
         holds = λ x q. let z : ◌≡◌ {A = ℕ} 0 1 = cc in absurd (omega arith);

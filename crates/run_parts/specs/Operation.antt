@@ -1,8 +1,8 @@
 -- What a run answers, and every lent row afterwards (docs/OPERATIONS.md, Run; docs/RULES.md, Step 6, says what is as before the runtime
 -- stage).
-use Rattle.std.specs.Prelude.{ℕ, ◌+◌, ◌*◌, ◌-◌, ◌≡◌, Bool, true, false, ◌&&◌, List, [], ◌∷◌, ◌++◌, ltb, leb, length, replicate}
+use Rattle.std.specs.Prelude.{ℕ, ◌*◌, ◌-◌, ◌≡◌, Bool, true, false, ◌&&◌, List, ◌++◌, ltb, leb, length, replicate}
 use Rattle.bit_row.specs.Row.{bytes_for}
-use Rattle.determine_side_effects.specs.rows_crate.Walk.{Parsed, got, fault}
+use Rattle.determine_side_effects.specs.rows_crate.Walk.{got, fault}
 use Rattle.determine_side_effects.specs.graph_crate.Check.{Graph, check_of}
 use Rattle.determine_side_effects.specs.facts_crate.Facts.{mark_count}
 use Rattle.keep_record.specs.declared.Line.{Line}
@@ -12,10 +12,11 @@ use Rattle.answer_rows.specs.declared.Row.TheVariants.{Modules, Statements, Used
 use Rattle.answer_rows.specs.Shown.{bytes_of, shown_row, rows_enough}
 use Rattle.tree_shaking.specs.Rounds.{final_entries}
 use Rattle.run_parts.specs.declared.Totals.{Totals}
-use Rattle.run_parts.specs.declared.Ran.{Ran}
-use Rattle.run_parts.specs.declared.Ran.TheVariants.{Done, Refused}
 use Rattle.dead_records.specs.Dead.{record_count, dead_row}
 use Rattle.run_rows.specs.Run.{Run, run_of, helpers_row, entries_row}
+use Rattle.std.specs.Prelude.{Result, Ok, Err}
+use Rattle.determine_side_effects.specs.refusal_crate.declared.Refusal.{Refusal}
+use Rattle.determine_side_effects.specs.refusal_crate.declared.Refusal.TheVariants.{NoRoom}
 
 -- the eleven lent rows
 pub record Rows : Type 0 where
@@ -86,7 +87,7 @@ enough g room =
 
 -- how a run ends: refused before the work, with a record found short during the work, or with an answer
 pub data Outcome : Type 0 where
-  before : ℕ → ℕ → Outcome
+  before : Refusal → Outcome
   short : Outcome
   done : Graph → Run → Outcome
 
@@ -95,11 +96,11 @@ unfoldable pub worked : Graph → Run → ℕ → Outcome
 worked g r room = elim (ltb room (6 * length r.lines)) [ true ↦ short | false ↦ done g r ]
 
 unfoldable pub outcome_in : Graph → Rooms → Outcome
-outcome_in g room = elim (enough g room) [ true ↦ worked g (run_of g) room.lines | false ↦ before 5 0 ]
+outcome_in g room = elim (enough g room) [ true ↦ worked g (run_of g) room.lines | false ↦ before NoRoom ]
 
 -- "Drain and run: as check, .. then 5"
 unfoldable pub outcome_of : List ℕ → Rooms → Outcome
-outcome_of numbers room = elim (check_of numbers) [ got g q ↦ outcome_in g room | fault n p ↦ before n p ]
+outcome_of numbers room = elim (check_of numbers) [ got g q ↦ outcome_in g room | fault why ↦ before why ]
 
 -- what a run comes to: rounds, lines of the main part, lines of the runtime stage, final entries
 abbrev pub totals_of : Graph → Run → Totals
@@ -112,20 +113,20 @@ totals_of g r =
     }
 
 -- the answer: that, or a refusal's number and place
-unfoldable pub answered : Outcome → Ran
-answered (before n p) = Refused n p
-answered short = Refused 5 0
-answered (done g r) = Done (totals_of g r)
+unfoldable pub answered : Outcome → Result Totals Refusal
+answered (before why) = Err why
+answered short = Err NoRoom
+answered (done g r) = Ok (totals_of g r)
 
 -- the marks: as the runtime stage leaves them, in a row that is cleared whole
 unfoldable pub marks_after : Outcome → List ℕ → List ℕ
-marks_after (before n p) lent = lent
+marks_after (before why) lent = lent
 marks_after short lent = replicate (length lent) 0
 marks_after (done g r) lent = bytes_of (λ j. elem j (marks_from g (length r.main) r.lines)) (length lent)
 
 -- the record: the lines of both stages, and zero behind them
 unfoldable pub record_after : Outcome → List ℕ → List ℕ
-record_after (before n p) lent = lent
+record_after (before why) lent = lent
 record_after short lent = replicate (length lent) 0
 record_after (done g r) lent = written r.lines ++ replicate (length lent - 6 * length r.lines) 0
 
@@ -139,27 +140,27 @@ lines_for Json r = r.main
 lines_for NamespaceReason r = r.main
 
 unfoldable pub row_after : Row → Outcome → List ℕ → List ℕ
-row_after row (before n p) lent = lent
+row_after row (before why) lent = lent
 row_after row short lent = lent
 row_after row (done g r) lent = shown_row g row (lines_for row r) lent
 
 unfoldable pub dead_after : Outcome → List ℕ → List ℕ
-dead_after (before n p) lent = lent
+dead_after (before why) lent = lent
 dead_after short lent = lent
 dead_after (done g r) lent = dead_row g r.main r.live r.dead lent
 
 unfoldable pub helpers_after : Outcome → List ℕ → List ℕ
-helpers_after (before n p) lent = lent
+helpers_after (before why) lent = lent
 helpers_after short lent = lent
 helpers_after (done g r) lent = helpers_row g r.main lent
 
 unfoldable pub entries_after : Outcome → List ℕ → List ℕ
-entries_after (before n p) lent = lent
+entries_after (before why) lent = lent
 entries_after short lent = lent
 entries_after (done g r) lent = entries_row g r.live lent
 
 -- an answer and the rows after it are those of an outcome, where `lent` were the rows before
-pub record Ends (o : Outcome) (r : Ran) (lent after : Rows) : Type 0 where
+pub record Ends (o : Outcome) (r : Result Totals Refusal) (lent after : Rows) : Type 0 where
   pub answer : r ≡ answered o
   pub marks_are : after.marks ≡ marks_after o lent.marks
   pub record_is : after.lines ≡ record_after o lent.lines
@@ -174,5 +175,5 @@ pub record Ends (o : Outcome) (r : Ran) (lent after : Rows) : Type 0 where
   pub entries_are : after.entries ≡ entries_after o lent.entries
 
 -- the run of these numbers ends so
-abbrev pub Runs : List ℕ → Ran → Rows → Rows → Type 0
+abbrev pub Runs : List ℕ → Result Totals Refusal → Rows → Rows → Type 0
 Runs numbers r lent after = Ends (outcome_of numbers (rooms_of lent)) r lent after

@@ -2,8 +2,6 @@
 use Rattle.std.specs.Prelude.{ℕ, ◌+◌, ◌*◌, ◌<◌, ◌≤◌, ◌≡◌, Bool, true, List, length, get_or, replicate}
 use Rattle.bit_row.specs.Row.{bytes_for}
 use Rattle.determine_side_effects.specs.graph_format_crate.declared.Header.{Header}
-use Rattle.determine_side_effects.specs.graph_crate.declared.Checked.{Checked}
-use Rattle.determine_side_effects.specs.graph_crate.declared.Checked.TheVariants.{Accepted, Refused}
 use Rattle.determine_side_effects.specs.graph_crate.Check.{Graph, graph_in}
 use Rattle.keep_rules.specs.Prepared.{Prepared}
 use Rattle.keep_record.specs.declared.Line.{Line}
@@ -14,8 +12,6 @@ use Rattle.entry_order.specs.Plan.{live_in, dead_in, words_at}
 use Rattle.dynamic_entries.specs.Tries.{Planned}
 use Rattle.passes.specs.Helpers.{helper_word}
 use Rattle.tree_shaking.specs.declared.Reached.{Reached}
-use Rattle.tree_shaking.specs.declared.Work.{Work}
-use Rattle.tree_shaking.specs.declared.Work.TheVariants.{Done, Full}
 use Rattle.tree_shaking.specs.Rounds.{final_entries}
 use Rattle.dead_records.specs.Dead.{record_count, dead_row}
 use Rattle.run_rows.specs.Run.{Run, run_of, helpers_row, entries_row}
@@ -23,6 +19,10 @@ use Rattle.run_parts.specs.declared.Lengths.{Lengths}
 use Rattle.run_parts.specs.declared.Part.{Part}
 use Rattle.run_parts.specs.declared.Part.TheVariants.{Whole, Main}
 use Rattle.run_parts.specs.Operation.{Rooms, before, enough, worked, outcome_of}
+use Rattle.std.specs.Prelude.{Result, Ok, Err}
+use Rattle.determine_side_effects.specs.refusal_crate.declared.Refusal.{Refusal}
+use Rattle.keep_record.specs.declared.Full.{Full}
+use Rattle.keep_record.specs.Held.{no_room}
 
 -- the lengths of the lent rows
 abbrev pub room_for : ℕ → Lengths → Rooms
@@ -43,11 +43,11 @@ room_for lines l =
 
 -- Whether a run may begin: a refusal is the run's outcome whatever the record's length; without one the graph is accepted with all its tables, marks
 -- and answer rows are long enough, and the outcome is that of the work.
-pub record MayBegin (numbers : List ℕ) (lengths : Lengths) (tables : List ℕ) (r : Checked) : Type 0 where
-  pub refused : (n p : ℕ) → r ≡ Refused n p → (lines : ℕ) → outcome_of numbers (room_for lines lengths) ≡ before n p
-  pub good : r ≡ Accepted → Prepared numbers tables × FirstBytes numbers tables
-  pub fits : r ≡ Accepted → (lines : ℕ) → enough (graph_in numbers) (room_for lines lengths) ≡ true
-  pub goes : r ≡ Accepted → (lines : ℕ) → outcome_of numbers (room_for lines lengths) ≡ worked (graph_in numbers) (run_of (graph_in numbers)) lines
+pub record MayBegin (numbers : List ℕ) (lengths : Lengths) (tables : List ℕ) (r : Result Unit Refusal) : Type 0 where
+  pub refused : (why : Refusal) → r ≡ Err why → (lines : ℕ) → outcome_of numbers (room_for lines lengths) ≡ before why
+  pub good : r ≡ Ok tt → Prepared numbers tables × FirstBytes numbers tables
+  pub fits : r ≡ Ok tt → (lines : ℕ) → enough (graph_in numbers) (room_for lines lengths) ≡ true
+  pub goes : r ≡ Ok tt → (lines : ℕ) → outcome_of numbers (room_for lines lengths) ≡ worked (graph_in numbers) (run_of (graph_in numbers)) lines
 
 -- the lines of a part of a run
 abbrev pub lines_of_part : Part → Run → List Line
@@ -84,14 +84,14 @@ pub record Holds (g : Graph) (part : Part) (marks row plan : List ℕ) (x : Reac
   pub words : part ≡ Whole → HasWords g plan
 
 -- over cleared rows, or the record is too short for the lines
-pub record StagesEnd (g : Graph) (part : Part) (marks row plan : List ℕ) (r : Work) : Type 0 where
-  pub holds : (x : Reached) → r ≡ Done x → Holds g part marks row plan x
-  pub too_long : r ≡ Full → length row < 6 * length (lines_of_part part (run_of g))
+pub record StagesEnd (g : Graph) (part : Part) (marks row plan : List ℕ) (r : Result Reached Full) : Type 0 where
+  pub holds : (x : Reached) → r ≡ Ok x → Holds g part marks row plan x
+  pub too_long : r ≡ no_room → length row < 6 * length (lines_of_part part (run_of g))
 
 -- the work: the same over rows as lent, and in a record that is too short marks and record are zero
-pub record WorkEnds (g : Graph) (part : Part) (marks₀ row₀ marks row plan : List ℕ) (r : Work) : Type 0 where
-  pub holds : (x : Reached) → r ≡ Done x → Holds g part marks row plan x
-  pub too_long : r ≡ Full → (length row₀ < 6 * length (lines_of_part part (run_of g))) × (marks ≡ replicate (length marks₀) 0) × (row ≡ replicate (length row₀) 0)
+pub record WorkEnds (g : Graph) (part : Part) (marks₀ row₀ marks row plan : List ℕ) (r : Result Reached Full) : Type 0 where
+  pub holds : (x : Reached) → r ≡ Ok x → Holds g part marks row plan x
+  pub too_long : r ≡ no_room → (length row₀ < 6 * length (lines_of_part part (run_of g))) × (marks ≡ replicate (length marks₀) 0) × (row ≡ replicate (length row₀) 0)
 
 -- what the rows that only a run has are shown from: marks and lines of both stages, the plan and the helper words
 pub record Shows (g : Graph) (plan marks row : List ℕ) (x : Reached) : Type 0 where

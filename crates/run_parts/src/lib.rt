@@ -17,10 +17,10 @@ ghost use Rattle.entry_starts.specs.Working.{Working};
 ghost use Rattle.run_parts.specs.Operation.{rows as rows_of, enough, Runs};
 ghost use Rattle.run_parts.specs.Parts.{room_for, MayBegin, StagesEnd, WorkEnds, Shows, ScratchFits, RowsFit, RunShown};
 
-use determine_side_effects::graph_crate::Checked;
 use determine_side_effects::graph_format_crate::Header;
-use keep_record::Added;
-use tree_shaking::{Reached, Work};
+use determine_side_effects::refusal_crate::Refusal;
+use keep_record::Full;
+use tree_shaking::Reached;
 
 // What a run comes to: how many rounds it made, how many lines the main part and the runtime stage have, and how many final entries there are.
 #[derive(Clone, Copy)]
@@ -29,13 +29,6 @@ pub struct Totals {
     pub lines: usize,
     pub runtime_lines: usize,
     pub entries: usize,
-}
-
-// How a run ends; or a refusal's number and its place.
-#[derive(Clone, Copy)]
-pub enum Ran {
-    Done(Totals),
-    Refused(u32, usize),
 }
 
 // Which part of a run is made: all of it, or what comes before the runtime stage.
@@ -92,20 +85,21 @@ fn are_enough(numbers: &[u32], tables: &[usize], l: Lengths) -> bool
 }
 
 // Whether a run may begin: the graph is accepted and its tables are filled, and all lengths but the record's are enough.
-fn may_begin(numbers: &[u32], h: Header, lengths: Lengths, tables: &mut [usize]) -> Checked
+fn may_begin(
+    numbers: &[u32],
+    h: Header,
+    lengths: Lengths,
+    tables: &mut [usize],
+) -> Result<(), Refusal>
     requires header_read { HeaderRead numbers.now h }
     requires all_sections_in_bounds { (start_of h all_sections ≤ length tables.old) × (length tables.old < 4294967296) }
     ensures { MayBegin numbers.now lengths tables.new result }
 {
-    match rule_tables::ready(numbers, h, tables) {
-        Checked::Refused(n, p) => Checked::Refused(n, p),
-        Checked::Accepted => {
-            if !are_enough(numbers, tables, lengths) {
-                return Checked::Refused(5, 0);
-            }
-            Checked::Accepted
-        }
+    rule_tables::ready(numbers, h, tables)?;
+    if !are_enough(numbers, tables, lengths) {
+        return Err(Refusal::NoRoom);
     }
+    Ok(())
 }
 
 // The stages of a part over cleared rows.
@@ -117,32 +111,28 @@ fn stages(
     lines: &mut [u32],
     plan: &mut [usize],
     part: Part,
-) -> Work
+) -> Result<Reached, Full>
     requires prepared { Prepared numbers.now tables.now }
     requires working { Working (graph_in numbers.now) 0 partners.old marks.old lines.old 0 }
     requires numbers_in_bounds { (plan_size (header_in numbers.now) ≤ length plan.old) × (length plan.old < 4294967296) × ((i : ℕ) → get_or plan.old i 0 ≡ 0) }
     ensures { StagesEnd (graph_in numbers.now) part marks.new lines.new plan.new result }
 {
     let users = entry_sizes::order_entries(numbers, tables, plan);
-    match tree_shaking::main_part(numbers, tables, partners, marks, lines, plan, users) {
-        Work::Full => Work::Full,
-        Work::Done(x) => match part {
-            Part::Main => Work::Done(x),
-            Part::Whole => {
-                match tree_shaking::runtime_stage(
-                    numbers, tables, partners, marks, lines, plan, x.main,
-                ) {
-                    Added::Full => Work::Full,
-                    Added::Lines(total) => Work::Done(Reached {
-                        users: x.users,
-                        rounds: x.rounds,
-                        taken: x.taken,
-                        main: x.main,
-                        total,
-                    }),
-                }
-            }
-        },
+    let x = tree_shaking::main_part(numbers, tables, partners, marks, lines, plan, users)?;
+    match part {
+        Part::Main => Ok(x),
+        Part::Whole => {
+            let total = tree_shaking::runtime_stage(
+                numbers, tables, partners, marks, lines, plan, x.main,
+            )?;
+            Ok(Reached {
+                users: x.users,
+                rounds: x.rounds,
+                taken: x.taken,
+                main: x.main,
+                total,
+            })
+        }
     }
 }
 
@@ -155,7 +145,7 @@ pub fn work(
     lines: &mut [u32],
     plan: &mut [usize],
     part: Part,
-) -> Work
+) -> Result<Reached, Full>
     requires prepared { Prepared numbers.now tables.now }
     requires numbers_in_bounds { (bytes_for (mark_count (graph_in numbers.now)) ≤ length marks.old) × (partners_size (header_in numbers.now) ≤ length partners.old) × ((i : ℕ) → get_or partners.old i 0 ≡ 0) }
     requires numbers_in_bounds_2 { (plan_size (header_in numbers.now) ≤ length plan.old) × (length plan.old < 4294967296) × ((i : ℕ) → get_or plan.old i 0 ≡ 0) }
@@ -163,11 +153,11 @@ pub fn work(
 {
     keep_record::clear(marks, lines);
     match stages(numbers, tables, partners, marks, lines, plan, part) {
-        Work::Full => {
+        Ok(x) => Ok(x),
+        Err(full) => {
             keep_record::clear(marks, lines);
-            Work::Full
+            Err(full)
         }
-        Work::Done(x) => Work::Done(x),
     }
 }
 
@@ -215,7 +205,7 @@ pub fn run_in(
     dead: &mut [u8],
     helpers: &mut [u32],
     entries: &mut [u32],
-) -> Ran
+) -> Result<Totals, Refusal>
     requires header_read { HeaderRead numbers.now h }
     requires all_sections_in_bounds { (start_of h all_sections ≤ length tables.old) × (length tables.old < 4294967296) }
     requires h_in_bounds { (partners_size h ≤ length partners.old) × ScratchFits h (length partners.old) × ((i : ℕ) → get_or partners.old i 0 ≡ 0) }
@@ -234,42 +224,32 @@ pub fn run_in(
         helpers: helpers.len(),
         entries: entries.len(),
     };
-    match may_begin(numbers, h, lengths, tables) {
-        Checked::Refused(n, p) => Ran::Refused(n, p),
-        Checked::Accepted => match work(
-            numbers,
-            tables,
-            partners,
-            marks,
-            lines,
-            plan,
-            Part::Whole,
-        ) {
-            Work::Full => Ran::Refused(5, 0),
-            Work::Done(x) => {
-                answer_rows::show_all(
-                    numbers,
-                    tables,
-                    lines,
-                    x.main,
-                    x.total,
-                    modules_row,
-                    statements_row,
-                    used,
-                    external,
-                    json,
-                    reason,
-                );
-                let count = show_run(
-                    numbers, tables, marks, lines, plan, x, partners, dead, helpers, entries,
-                );
-                Ran::Done(Totals {
-                    rounds: x.rounds,
-                    lines: x.main,
-                    runtime_lines: x.total - x.main,
-                    entries: count,
-                })
-            }
-        },
+    may_begin(numbers, h, lengths, tables)?;
+    match work(numbers, tables, partners, marks, lines, plan, Part::Whole) {
+        Err(_) => Err(Refusal::NoRoom),
+        Ok(x) => {
+            answer_rows::show_all(
+                numbers,
+                tables,
+                lines,
+                x.main,
+                x.total,
+                modules_row,
+                statements_row,
+                used,
+                external,
+                json,
+                reason,
+            );
+            let count = show_run(
+                numbers, tables, marks, lines, plan, x, partners, dead, helpers, entries,
+            );
+            Ok(Totals {
+                rounds: x.rounds,
+                lines: x.main,
+                runtime_lines: x.total - x.main,
+                entries: count,
+            })
+        }
     }
 }

@@ -27,10 +27,8 @@ pub fn show_helpers(numbers: &[u32], plan: &[usize], words: &mut [u32])
 {
     let h = determine_side_effects::graph_crate::header_of(numbers);
     let at = entry_order::words_at(h);
-    let mut m: usize = 0;
-    while m < h.modules {
+    for m in 0..h.modules {
         words[m] = determine_side_effects::facts_crate::narrow(plan[at + m]);
-        m += 1;
     }
 }
 
@@ -70,13 +68,11 @@ fn keep_final(numbers: &[u32], tables: &[usize], plan: &mut [usize], users: usiz
     let h = determine_side_effects::graph_crate::header_of(numbers);
     let splits = !determine_side_effects::facts_crate::flag(h.options, SPLITTING_OFF);
     let mut n: usize = 0;
-    let mut i: usize = 0;
-    while i < h.entries {
+    for i in 0..h.entries {
         if is_final(numbers, tables, plan, users, splits, i) {
             plan[n] = plan[i];
             n += 1;
         }
-        i += 1;
     }
     n
 }

@@ -1,18 +1,21 @@
-// The run with tables for graphs of middle and large size and for the largest, in frames of their own (docs/DECISIONS.md, "Frames of their own").
+// The run with tables of a size, and the run with those for larger graphs, in frames of their own (docs/DECISIONS.md, "Frames of their own").
 #![tactic(auto)]
 
-ghost use Rattle.std.specs.Prelude.{◌≡◌};
-ghost use Rattle.graph.specs.tables_crate.Layout.{FitsSize};
-ghost use Rattle.graph.specs.tables_crate.declared.Size.TheVariants.{Middle, Large, Largest};
+ghost use Rattle.std.specs.Prelude.{◌≡◌, ◌<◌, ◌≤◌};
+ghost use Rattle.graph.specs.tables_crate.Layout.{start_of, all_sections};
 ghost use Rattle.graph.specs.Check.{HeaderRead};
+ghost use Rattle.run_parts.specs.Links.{partners_size};
+ghost use Rattle.run_parts.specs.Plan.{plan_size};
+ghost use Rattle.run_parts.specs.Parts.{ScratchFits};
 ghost use Rattle.run_parts.specs.Operation.{rows as rows_of, Runs};
 
 use graph::graph_format_crate::Header;
+use graph::refusal_crate::Refusal;
 use graph::tables_crate::{LARGE, LARGEST, MIDDLE, Size};
-use run_parts::Ran;
+use run_parts::Totals;
 
-// The run with tables for a graph of middle size.
-fn run_middle(
+// The run with tables of T words, partners of P words and a plan of L words.
+pub fn run_with<const T: usize, const P: usize, const L: usize>(
     numbers: &[u32],
     h: Header,
     marks: &mut [u8],
@@ -26,97 +29,14 @@ fn run_middle(
     dead: &mut [u8],
     helpers: &mut [u32],
     entries: &mut [u32],
-) -> Ran
-    requires { HeaderRead numbers.now h × FitsSize h Middle }
+) -> Result<Totals, Refusal>
+    requires header_read { HeaderRead numbers.now h }
+    requires room { (start_of h all_sections ≤ T) × (T < 4294967296) × (partners_size h ≤ P) × (P < 4294967296) × ScratchFits h P × (plan_size h ≤ L) × (L < 4294967296) }
     ensures { Runs numbers.now result (rows_of marks.old lines.old modules_row.old statements_row.old used.old external.old json.old reason.old dead.old helpers.old entries.old) (rows_of marks.new lines.new modules_row.new statements_row.new used.new external.new json.new reason.new dead.new helpers.new entries.new) }
 {
-    let mut tables = [0usize; MIDDLE];
-    let mut partners = [0usize; 1408];
-    let mut plan = [0usize; 640];
-    run_parts::run_in(
-        numbers,
-        h,
-        &mut tables,
-        &mut partners,
-        &mut plan,
-        marks,
-        lines,
-        modules_row,
-        statements_row,
-        used,
-        external,
-        json,
-        reason,
-        dead,
-        helpers,
-        entries,
-    )
-}
-
-// The run with tables for a graph of large size.
-fn run_large(
-    numbers: &[u32],
-    h: Header,
-    marks: &mut [u8],
-    lines: &mut [u32],
-    modules_row: &mut [u8],
-    statements_row: &mut [u8],
-    used: &mut [u8],
-    external: &mut [u8],
-    json: &mut [u8],
-    reason: &mut [u8],
-    dead: &mut [u8],
-    helpers: &mut [u32],
-    entries: &mut [u32],
-) -> Ran
-    requires { HeaderRead numbers.now h × FitsSize h Large }
-    ensures { Runs numbers.now result (rows_of marks.old lines.old modules_row.old statements_row.old used.old external.old json.old reason.old dead.old helpers.old entries.old) (rows_of marks.new lines.new modules_row.new statements_row.new used.new external.new json.new reason.new dead.new helpers.new entries.new) }
-{
-    let mut tables = [0usize; LARGE];
-    let mut partners = [0usize; 7168];
-    let mut plan = [0usize; 5120];
-    run_parts::run_in(
-        numbers,
-        h,
-        &mut tables,
-        &mut partners,
-        &mut plan,
-        marks,
-        lines,
-        modules_row,
-        statements_row,
-        used,
-        external,
-        json,
-        reason,
-        dead,
-        helpers,
-        entries,
-    )
-}
-
-// The run with tables for the largest graph.
-fn run_largest(
-    numbers: &[u32],
-    h: Header,
-    marks: &mut [u8],
-    lines: &mut [u32],
-    modules_row: &mut [u8],
-    statements_row: &mut [u8],
-    used: &mut [u8],
-    external: &mut [u8],
-    json: &mut [u8],
-    reason: &mut [u8],
-    dead: &mut [u8],
-    helpers: &mut [u32],
-    entries: &mut [u32],
-) -> Ran
-    requires { HeaderRead numbers.now h × FitsSize h Largest }
-    ensures { Runs numbers.now result (rows_of marks.old lines.old modules_row.old statements_row.old used.old external.old json.old reason.old dead.old helpers.old entries.old) (rows_of marks.new lines.new modules_row.new statements_row.new used.new external.new json.new reason.new dead.new helpers.new entries.new) }
-{
-    let mut tables = [0usize; LARGEST];
-    let mut partners = [0usize; 19456];
-    let mut plan = [0usize; 5120];
+    let mut tables = [0usize; T];
+    let mut partners = [0usize; P];
+    let mut plan = [0usize; L];
     run_parts::run_in(
         numbers,
         h,
@@ -153,7 +73,7 @@ pub fn run_larger(
     helpers: &mut [u32],
     entries: &mut [u32],
     again: usize,
-) -> Ran
+) -> Result<Totals, Refusal>
     requires { HeaderRead numbers.now h }
     ensures { Runs numbers.now result (rows_of marks.old lines.old modules_row.old statements_row.old used.old external.old json.old reason.old dead.old helpers.old entries.old) (rows_of marks.new lines.new modules_row.new statements_row.new used.new external.new json.new reason.new dead.new helpers.new entries.new) }
 {
@@ -176,7 +96,7 @@ pub fn run_larger(
         );
     }
     if graph::tables_crate::fits(h, Size::Middle) {
-        return run_middle(
+        return run_with::<MIDDLE, 1408, 640>(
             numbers,
             h,
             marks,
@@ -193,7 +113,7 @@ pub fn run_larger(
         );
     }
     if graph::tables_crate::fits(h, Size::Large) {
-        return run_large(
+        return run_with::<LARGE, 7168, 5120>(
             numbers,
             h,
             marks,
@@ -209,7 +129,7 @@ pub fn run_larger(
             entries,
         );
     }
-    run_largest(
+    run_with::<LARGEST, 19456, 5120>(
         numbers,
         h,
         marks,

@@ -19,9 +19,10 @@ use Rattle.tree_shaking.specs.Own.{starts_by_kind}
 use Rattle.run_rows.specs.Run.{run_of}
 use Rattle.own_starts.specs.Once.{notes, once, triples}
 use Rattle.own_starts.specs.Noting.{Noting, Noted, Notes}
-use Rattle.run_starts.specs.declared.StartsRead.TheVariants.{Numbers, Refused}
 use Rattle.run_starts.specs.Operation.{own_by_kind, own_starts_once}
 use Rattle.run_starts.specs.Parts.{MainReached, Given}
+use Rattle.std.specs.Prelude.{Ok, Err}
+use Rattle.facts.specs.refusal_crate.declared.Refusal.TheVariants.{NoRoom}
 
 -- marks that are wide enough and hold none
 abbrev pub Unmarked : Graph → List ℕ → Type 0
@@ -71,20 +72,20 @@ module _ (g : Graph) (seen lent none : List ℕ) (n : ℕ) (a : Noting g (own_st
   pub few_noted : (Noted g seen none n → n ≤ 1050624) → n ≤ 1050624
   few_noted f = f (record { facts = own_starts_once g; lent = lent; noting = a })
 
-  pub none_given : (out₀ : List ℕ) → length out₀ < 3 * n → Given g out₀ out₀ (Refused 5 0)
+  pub none_given : (out₀ : List ℕ) → length out₀ < 3 * n → Given g out₀ out₀ (Err NoRoom)
   none_given out₀ h =
       record {
-        given = λ k e. let z : ◌≡◌ {A = ℕ} 0 1 = cc in absurd (omega arith);
-        refused = λ k p e. let i : k ≡ 5 = cc in let j : p ≡ 0 = cc in (i, j, omega (arith, h, a.counted), refl);
+        given = λ k e. absurd cc;
+        refused = λ why e. (cc, omega (arith, h, a.counted), refl);
       }
 
   -- the second writes them
-  pub all_given : (out₀ : List ℕ) → 3 * n ≤ length out₀ → (seen₂ out : List ℕ) (k : ℕ) → Noting g (own_starts_once g) seen₂ out₀ out k → Given g out₀ out (Numbers (3 * n))
+  pub all_given : (out₀ : List ℕ) → 3 * n ≤ length out₀ → (seen₂ out : List ℕ) (k : ℕ) → Noting g (own_starts_once g) seen₂ out₀ out k → Given g out₀ out (Ok (3 * n))
   all_given out₀ h seen₂ out k b =
       let same : k ≡ n = b.counted ∙ sym a.counted in
       record {
         given = λ j e.
             let i : 3 * n ≡ j = cc in
             (omega (arith, i, a.counted), omega (arith, i, h), b.written (omega (arith, h, same)) ∙ ap (λ w. triples (own_starts_once g) ++ drop w out₀) (ap (λ w. 3 * w) same ∙ i));
-        refused = λ j p e. let z : ◌≡◌ {A = ℕ} 0 1 = cc in absurd (omega arith);
+        refused = λ why e. absurd cc;
       }

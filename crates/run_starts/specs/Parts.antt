@@ -7,9 +7,10 @@ use Rattle.tree_shaking.specs.declared.Reached.{Reached}
 use Rattle.run_rows.specs.Run.{run_of}
 use Rattle.run_parts.specs.Parts.{Leaves}
 use Rattle.own_starts.specs.Once.{triples}
-use Rattle.run_starts.specs.declared.StartsRead.{StartsRead}
-use Rattle.run_starts.specs.declared.StartsRead.TheVariants.{Numbers, Refused}
 use Rattle.run_starts.specs.Operation.{own_starts_once}
+use Rattle.std.specs.Prelude.{Result, Ok, Err}
+use Rattle.facts.specs.refusal_crate.declared.Refusal.{Refusal}
+use Rattle.facts.specs.refusal_crate.declared.Refusal.TheVariants.{NoRoom}
 
 -- what the main part leaves in record and plan, and what it has reached
 pub record MainReached (g : Graph) (row plan : List ℕ) (x : Reached) : Type 0 where
@@ -21,6 +22,6 @@ pub record MainReached (g : Graph) (row plan : List ℕ) (x : Reached) : Type 0 
   pub good : (k : ℕ) → k < x.main → Good g (line_at row k).fact
 
 -- the starts are given, or there is no room for them and nothing is written
-pub record Given (g : Graph) (out₀ out : List ℕ) (r : StartsRead) : Type 0 where
-  pub given : (n : ℕ) → r ≡ Numbers n → (n ≡ 3 * length (own_starts_once g)) × (n ≤ length out₀) × (out ≡ triples (own_starts_once g) ++ drop n out₀)
-  pub refused : (n p : ℕ) → r ≡ Refused n p → (n ≡ 5) × (p ≡ 0) × (length out₀ < 3 * length (own_starts_once g)) × (out ≡ out₀)
+pub record Given (g : Graph) (out₀ out : List ℕ) (r : Result ℕ Refusal) : Type 0 where
+  pub given : (n : ℕ) → r ≡ Ok n → (n ≡ 3 * length (own_starts_once g)) × (n ≤ length out₀) × (out ≡ triples (own_starts_once g) ++ drop n out₀)
+  pub refused : (why : Refusal) → r ≡ Err why → (why ≡ NoRoom) × (length out₀ < 3 * length (own_starts_once g)) × (out ≡ out₀)

@@ -4,8 +4,7 @@
 
 ghost use Rattle.std.specs.Prelude.{◌≡◌, ℕ, ◌+◌, ◌*◌, ◌<◌, ◌≤◌, false, length, get_or};
 ghost use Rattle.bit_row.specs.Row.{bytes_for, bit_at};
-ghost use Rattle.facts.specs.tables_crate.Layout.{start_of, FitsSize, all_sections};
-ghost use Rattle.facts.specs.tables_crate.declared.Size.TheVariants.{Small, Middle, Large, Largest};
+ghost use Rattle.facts.specs.tables_crate.Layout.{start_of, all_sections};
 ghost use Rattle.facts.specs.graph_tables_crate.Tables.{header_in};
 ghost use Rattle.facts.specs.graph_crate.Check.{graph_in, HeaderRead};
 ghost use Rattle.facts.specs.Facts.{mark_count};
@@ -15,19 +14,11 @@ ghost use Rattle.entry_order.specs.Plan.{plan_size};
 ghost use Rattle.run_starts.specs.Operation.{rows as rows_of, worked, Ends, ReadsStarts};
 ghost use Rattle.run_starts.specs.Parts.{MainReached, Given};
 
-use facts::graph_crate::Checked;
 use facts::graph_format_crate::Header;
-use facts::rows_crate::Walk;
+use facts::refusal_crate::Refusal;
 use facts::tables_crate::{LARGE, LARGEST, MIDDLE, SMALL, Size};
 use run_parts::Part;
-use tree_shaking::{Reached, Work};
-
-// How many numbers the starts have, or a refusal's number and its place.
-#[derive(Clone, Copy)]
-pub enum StartsRead {
-    Numbers(usize),
-    Refused(u32, usize),
-}
+use tree_shaking::Reached;
 
 // Gives the starts of a main part, if there is room for them: they are counted into a row of their own first, so that nothing is written before the
 // last refusal is excluded. The marks of starts are 0 before.
@@ -39,7 +30,7 @@ fn give(
     reached: Reached,
     seen: &mut [u8],
     out: &mut [u32],
-) -> StartsRead
+) -> Result<usize, Refusal>
     requires prepared { Prepared numbers.now tables.now }
     requires main_reached { MainReached (graph_in numbers.now) lines.now plan.now reached }
     requires numbers_bound { (mark_count (graph_in numbers.now) ≤ 8 * length seen.old) × ((j : ℕ) → bit_at seen.old j ≡ false) }
@@ -48,12 +39,12 @@ fn give(
     let mut none = [0u32; 1];
     let n = own_starts::note_all(numbers, tables, plan, lines, reached, seen, &mut none);
     if out.len() < 3 * n {
-        return StartsRead::Refused(5, 0);
+        return Err(Refusal::NoRoom);
     }
     let bytes = seen.len();
     bit_row::clear(seen, bytes);
     own_starts::note_all(numbers, tables, plan, lines, reached, seen, out);
-    StartsRead::Numbers(3 * n)
+    Ok(3 * n)
 }
 
 // The work and the starts, with marks that are long enough. Marks and record are cleared where record or starts are short.
@@ -66,7 +57,7 @@ fn work_and_give(
     marks: &mut [u8],
     lines: &mut [u32],
     out: &mut [u32],
-) -> StartsRead
+) -> Result<usize, Refusal>
     requires prepared { Prepared numbers.now tables.now }
     requires numbers_in_bounds { (bytes_for (mark_count (graph_in numbers.now)) ≤ length marks.old) × (partners_size (header_in numbers.now) ≤ length partners.old) × ((i : ℕ) → get_or partners.old i 0 ≡ 0) }
     requires numbers_in_bounds_2 { (plan_size (header_in numbers.now) ≤ length plan.old) × (length plan.old < 4294967296) × ((i : ℕ) → get_or plan.old i 0 ≡ 0) }
@@ -74,13 +65,13 @@ fn work_and_give(
     ensures { Ends (worked (graph_in numbers.now) (length lines.old) (length out.old)) result (rows_of marks.old lines.old out.old) (rows_of marks.new lines.new out.new) }
 {
     match run_parts::work(numbers, tables, partners, marks, lines, plan, Part::Main) {
-        Work::Full => StartsRead::Refused(5, 0),
-        Work::Done(x) => match give(numbers, tables, plan, lines, x, seen, out) {
-            StartsRead::Refused(n, p) => {
+        Err(_) => Err(Refusal::NoRoom),
+        Ok(x) => match give(numbers, tables, plan, lines, x, seen, out) {
+            Ok(n) => Ok(n),
+            Err(why) => {
                 keep_record::clear(marks, lines);
-                StartsRead::Refused(n, p)
+                Err(why)
             }
-            StartsRead::Numbers(n) => StartsRead::Numbers(n),
         },
     }
 }
@@ -96,7 +87,7 @@ fn starts_in(
     marks: &mut [u8],
     lines: &mut [u32],
     out: &mut [u32],
-) -> StartsRead
+) -> Result<usize, Refusal>
     requires header_read { HeaderRead numbers.now h }
     requires all_sections_in_bounds { (start_of h all_sections ≤ length tables.old) × (length tables.old < 4294967296) }
     requires h_in_bounds { (partners_size h ≤ length partners.old) × ((i : ℕ) → get_or partners.old i 0 ≡ 0) }
@@ -104,116 +95,29 @@ fn starts_in(
     requires symbols_bound { (2 * h.modules + h.statements + 63 * h.symbols ≤ 8 * length seen.old) × ((j : ℕ) → bit_at seen.old j ≡ false) }
     ensures { ReadsStarts numbers.now result (rows_of marks.old lines.old out.old) (rows_of marks.new lines.new out.new) }
 {
-    match rule_tables::ready(numbers, h, tables) {
-        Checked::Refused(n, p) => StartsRead::Refused(n, p),
-        Checked::Accepted => {
-            if marks.len() < bit_row::bytes_for(facts::mark_count(numbers, tables)) {
-                return StartsRead::Refused(5, 0);
-            }
-            work_and_give(numbers, tables, partners, plan, seen, marks, lines, out)
-        }
+    rule_tables::ready(numbers, h, tables)?;
+    if marks.len() < bit_row::bytes_for(facts::mark_count(numbers, tables)) {
+        return Err(Refusal::NoRoom);
     }
+    work_and_give(numbers, tables, partners, plan, seen, marks, lines, out)
 }
 
-// The starts with tables for a small graph.
-fn starts_small(
+// The starts with tables of T words, partners of P words, a plan of L words and marks of M bytes.
+fn starts_with<const T: usize, const P: usize, const L: usize, const M: usize>(
     numbers: &[u32],
     h: Header,
     marks: &mut [u8],
     lines: &mut [u32],
     out: &mut [u32],
-) -> StartsRead
-    requires { HeaderRead numbers.now h × FitsSize h Small }
+) -> Result<usize, Refusal>
+    requires header_read { HeaderRead numbers.now h }
+    requires room { (start_of h all_sections ≤ T) × (T < 4294967296) × (partners_size h ≤ P) × (P < 4294967296) × (plan_size h ≤ L) × (L < 4294967296) × (2 * h.modules + h.statements + 63 * h.symbols ≤ 8 * M) × (M < 4294967296) }
     ensures { ReadsStarts numbers.now result (rows_of marks.old lines.old out.old) (rows_of marks.new lines.new out.new) }
 {
-    let mut tables = [0usize; SMALL];
-    let mut partners = [0usize; 112];
-    let mut plan = [0usize; 80];
-    let mut seen = [0u8; 516];
-    starts_in(
-        numbers,
-        h,
-        &mut tables,
-        &mut partners,
-        &mut plan,
-        &mut seen,
-        marks,
-        lines,
-        out,
-    )
-}
-
-// The starts with tables for a graph of middle size.
-fn starts_middle(
-    numbers: &[u32],
-    h: Header,
-    marks: &mut [u8],
-    lines: &mut [u32],
-    out: &mut [u32],
-) -> StartsRead
-    requires { HeaderRead numbers.now h × FitsSize h Middle }
-    ensures { ReadsStarts numbers.now result (rows_of marks.old lines.old out.old) (rows_of marks.new lines.new out.new) }
-{
-    let mut tables = [0usize; MIDDLE];
-    let mut partners = [0usize; 1408];
-    let mut plan = [0usize; 640];
-    let mut seen = [0u8; 8224];
-    starts_in(
-        numbers,
-        h,
-        &mut tables,
-        &mut partners,
-        &mut plan,
-        &mut seen,
-        marks,
-        lines,
-        out,
-    )
-}
-
-// The starts with tables for a graph of large size.
-fn starts_large(
-    numbers: &[u32],
-    h: Header,
-    marks: &mut [u8],
-    lines: &mut [u32],
-    out: &mut [u32],
-) -> StartsRead
-    requires { HeaderRead numbers.now h × FitsSize h Large }
-    ensures { ReadsStarts numbers.now result (rows_of marks.old lines.old out.old) (rows_of marks.new lines.new out.new) }
-{
-    let mut tables = [0usize; LARGE];
-    let mut partners = [0usize; 7168];
-    let mut plan = [0usize; 5120];
-    let mut seen = [0u8; 33024];
-    starts_in(
-        numbers,
-        h,
-        &mut tables,
-        &mut partners,
-        &mut plan,
-        &mut seen,
-        marks,
-        lines,
-        out,
-    )
-}
-
-// The starts with tables for the largest graph. `again` is 0.
-fn starts_largest(
-    numbers: &[u32],
-    h: Header,
-    marks: &mut [u8],
-    lines: &mut [u32],
-    out: &mut [u32],
-) -> StartsRead
-    requires { HeaderRead numbers.now h × FitsSize h Largest }
-    ensures { ReadsStarts numbers.now result (rows_of marks.old lines.old out.old) (rows_of marks.new lines.new out.new) }
-{
-    let mut tables = [0usize; LARGEST];
-    let mut partners = [0usize; 19456];
-    let mut plan = [0usize; 5120];
-    let mut seen = [0u8; 131328];
+    let mut tables = [0usize; T];
+    let mut partners = [0usize; P];
+    let mut plan = [0usize; L];
+    let mut seen = [0u8; M];
     starts_in(
         numbers,
         h,
@@ -235,7 +139,7 @@ fn starts_larger(
     lines: &mut [u32],
     out: &mut [u32],
     again: usize,
-) -> StartsRead
+) -> Result<usize, Refusal>
     requires { HeaderRead numbers.now h }
     ensures { ReadsStarts numbers.now result (rows_of marks.old lines.old out.old) (rows_of marks.new lines.new out.new) }
 {
@@ -243,26 +147,27 @@ fn starts_larger(
         return starts_larger(numbers, h, marks, lines, out, again - 1);
     }
     if facts::tables_crate::fits(h, Size::Middle) {
-        return starts_middle(numbers, h, marks, lines, out);
+        return starts_with::<MIDDLE, 1408, 640, 8224>(numbers, h, marks, lines, out);
     }
     if facts::tables_crate::fits(h, Size::Large) {
-        return starts_large(numbers, h, marks, lines, out);
+        return starts_with::<LARGE, 7168, 5120, 33024>(numbers, h, marks, lines, out);
     }
-    starts_largest(numbers, h, marks, lines, out)
+    starts_with::<LARGEST, 19456, 5120, 131328>(numbers, h, marks, lines, out)
 }
 
 // Gives a run's own starts, with tables of the smallest size that holds the graph.
-pub fn starts(numbers: &[u32], marks: &mut [u8], lines: &mut [u32], out: &mut [u32]) -> StartsRead
+pub fn starts(
+    numbers: &[u32],
+    marks: &mut [u8],
+    lines: &mut [u32],
+    out: &mut [u32],
+) -> Result<usize, Refusal>
     ensures { ReadsStarts numbers.now result (rows_of marks.old lines.old out.old) (rows_of marks.new lines.new out.new) }
 {
-    match facts::graph_crate::header(numbers) {
-        Walk::Fault(n, p) => StartsRead::Refused(n, p),
-        Walk::At(_) => {
-            let h = facts::graph_crate::header_of(numbers);
-            if facts::tables_crate::fits(h, Size::Small) {
-                return starts_small(numbers, h, marks, lines, out);
-            }
-            starts_larger(numbers, h, marks, lines, out, frames::apart(numbers))
-        }
+    facts::graph_crate::header(numbers)?;
+    let h = facts::graph_crate::header_of(numbers);
+    if facts::tables_crate::fits(h, Size::Small) {
+        return starts_with::<SMALL, 112, 80, 516>(numbers, h, marks, lines, out);
     }
+    starts_larger(numbers, h, marks, lines, out, frames::apart(numbers))
 }

@@ -1,6 +1,5 @@
 -- Neither the order of the starts nor repeats matter: so no hash order does.
 use Rattle.std.proofs.Common.{◌≡◌, ℕ, List, get_or, subst}
-use Rattle.determine_side_effects.specs.graph_crate.declared.Checked.TheVariants.{Accepted}
 use Rattle.determine_side_effects.specs.graph_crate.Check.{Graph, graph_in, check_of, answer_of}
 use Rattle.determine_side_effects.specs.facts_crate.declared.Fact.{Fact}
 use Rattle.determine_side_effects.specs.facts_crate.Facts.{module_fact, Good}
@@ -11,6 +10,7 @@ use Rattle.rust_values.proofs.Members.{in_at, at_in}
 use Rattle.rust_engine.specs.Context.{Context}
 use Rattle.rust_engine.specs.EntryPoints.{InRows, SmallestOver, Exactly, Reached}
 use Rattle.rust_engine.proofs.OfAccepted.{engine_shows}
+use Rattle.std.specs.Prelude.{Ok}
 
 -- two lists of starts with the same members
 pub record Alike (ss ts : List Fact) : Type 0 where
@@ -41,7 +41,7 @@ smallest_over_alike g B C ss ts a s =
 
 -- two states of the Rust over the same base that were reached by starts with the same members, in whatever order and with whatever hash orders, show
 -- the same choice
-pub engine_alike : (numbers : List ℕ) → answer_of (check_of numbers) ≡ Accepted → (b : Context) → ((f : Fact) → InRows b f → Good (graph_in numbers) f)
+pub engine_alike : (numbers : List ℕ) → answer_of (check_of numbers) ≡ Ok tt → (b : Context) → ((f : Fact) → InRows b f → Good (graph_in numbers) f)
     → (ss ts : List Fact) (taken : List ℕ) (c : Context) → Reached (graph_in numbers) (last_verdicts (graph_in numbers)) b ss taken c
     → HoldsStarts ss (Good (graph_in numbers))
     → Alike ts ss → (C : Choice) → SmallestOver (graph_in numbers) (InRows b) ts C → Exactly (graph_in numbers) b C taken c

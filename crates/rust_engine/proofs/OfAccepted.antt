@@ -4,7 +4,6 @@ use Rattle.determine_side_effects.specs.rows_crate.Walk.{no_item}
 use Rattle.determine_side_effects.specs.graph_format_crate.Format.{module_rules, statement_limit}
 use Rattle.determine_side_effects.specs.graph_tables_crate.Tables.{header_in, modules_in}
 use Rattle.determine_side_effects.proofs.graph_tables_crate.Facts.{its-read, number_same}
-use Rattle.determine_side_effects.specs.graph_crate.declared.Checked.TheVariants.{Accepted}
 use Rattle.determine_side_effects.specs.graph_crate.Check.{Graph, graph_in, check_of, answer_of}
 use Rattle.determine_side_effects.specs.graph_crate.Loaded.{Loaded}
 use Rattle.determine_side_effects.specs.graph_access_crate.Names.{kind, owner, declaring_statements, only}
@@ -27,6 +26,7 @@ use Rattle.rust_engine.proofs.Links.{links}
 use Rattle.rust_engine.proofs.Handlers.{handlers}
 use Rattle.rust_engine.proofs.Exact.{engine_exact}
 use Rattle.rust_engine.proofs.Nothing.{not_in_empty, smallest_over_nothing}
+use Rattle.std.specs.Prelude.{Ok}
 
 -- a module that has a statement is normal
 limit_kind : (kind left n : ℕ) → 0 < n → n < statement_limit kind left → 0 < kind
@@ -77,14 +77,14 @@ module _ {numbers tables : List ℕ} (t : Loaded numbers tables) where
 
 -- over any base of good facts: where the Rust's entry points have returned on an accepted graph, its sets are exactly what the smallest choice shows
 -- that has base and starts and is closed but for the base
-pub engine_shows : (numbers : List ℕ) → answer_of (check_of numbers) ≡ Accepted → (b : Context) → ((f : Fact) → InRows b f → Good (graph_in numbers) f)
+pub engine_shows : (numbers : List ℕ) → answer_of (check_of numbers) ≡ Ok tt → (b : Context) → ((f : Fact) → InRows b f → Good (graph_in numbers) f)
     → (ss : List Fact) (taken : List ℕ) (c : Context) → Reached (graph_in numbers) (last_verdicts (graph_in numbers)) b ss taken c
     → HoldsStarts ss (Good (graph_in numbers))
     → (C : Choice) → SmallestOver (graph_in numbers) (InRows b) ss C → Exactly (graph_in numbers) b C taken c
 engine_shows numbers ok b base ss taken c r good C s = loaded_shows (accepted_tabled numbers ok).holds b base ss taken c r good C s
 
 -- over nothing: they are exactly what the drain of the same starts shows
-pub rust_shows_drain : (numbers : List ℕ) → answer_of (check_of numbers) ≡ Accepted → (ss : List Fact) (taken : List ℕ) (c : Context)
+pub rust_shows_drain : (numbers : List ℕ) → answer_of (check_of numbers) ≡ Ok tt → (ss : List Fact) (taken : List ℕ) (c : Context)
     → Reached (graph_in numbers) (last_verdicts (graph_in numbers)) empty ss taken c → HoldsStarts ss (Good (graph_in numbers))
     → Exactly (graph_in numbers) empty (HasLine (drain_of (graph_in numbers) (last_verdicts (graph_in numbers)) ss)) taken c
 rust_shows_drain numbers ok ss taken c r good =

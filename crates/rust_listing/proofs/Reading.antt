@@ -10,6 +10,7 @@ use lib.Dec.{ltb}
 use lib.ListN.{length, drop, length-drop}
 use Rattle.leb128.specs.Groups.{value, groups, good}
 use Rattle.leb128.specs.Read.{Decoded, all, refused, before, numbers_from, read_of}
+use Rattle.determine_side_effects.specs.refusal_crate.declared.Refusal.TheVariants.{NoNumber}
 
 -- a number has a group
 groups_some : (b : ℕ) (bs : List ℕ) → 0 < length (groups (b ∷ bs))
@@ -27,7 +28,7 @@ pub record Numbered (n : ℕ) (d : Decoded) : Type 0 where
   pub is : d ≡ all numbers
 
 abbrev pub RefusedOne : Decoded → Type 0
-RefusedOne d = (p : ℕ) × (d ≡ refused 1 p)
+RefusedOne d = (p : ℕ) × (d ≡ refused (NoNumber p))
 
 -- a number more in front
 one_more : (n k x : ℕ) (d : Decoded) → suc k ≤ n → Numbered k d ⊎ RefusedOne d → Numbered n (before x d) ⊎ RefusedOne (before x d)
@@ -71,6 +72,6 @@ numbers_few file room numbers l e = go (read_numbered file room l)
         let j : numbers ≡ r.numbers = cc in
         omega (arith, ap length j, r.few)
     go (inr r) =
-        let i : all numbers ≡ refused 1 r.0 = sym e ∙ r.1 in
+        let i : all numbers ≡ refused (NoNumber r.0) = sym e ∙ r.1 in
         let z : ◌≡◌ {A = ℕ} 0 1 = cc in
         absurd (omega arith)

@@ -6,7 +6,6 @@ use mathlib.Core.List.{List, [], ◌++◌}
 use native.Mathlib.Omega.{arith}
 use lib.ListN.{get_or, drop, get_or-append}
 use Rattle.bit_row.specs.Row.{bit_at}
-use Rattle.determine_side_effects.specs.graph_crate.declared.Checked.TheVariants.{Accepted}
 use Rattle.determine_side_effects.specs.graph_crate.Check.{Graph, graph_in, check_of, answer_of}
 use Rattle.determine_side_effects.specs.facts_crate.declared.Fact.{Fact}
 use Rattle.determine_side_effects.specs.facts_crate.Facts.{Good}
@@ -26,6 +25,7 @@ use Rattle.closed_choices.proofs.Spare.{spare_unshown}
 use Rattle.run_choices.proofs.Growing.{main_whole}
 use Rattle.rust_run.proofs.Level.{loaded}
 use Rattle.rust_listing.specs.Listing.{one_if}
+use Rattle.std.specs.Prelude.{Ok}
 
 -- a byte of which only the two lowest bits may be set
 two_bits : (a b : Bool)
@@ -53,7 +53,7 @@ reason_there : (g : Graph) (lines : List Line) (lent : List ℕ) (m : ℕ) → m
 unfolding shown_row row_bytes
 reason_there g lines lent m l = byte_there (shown g NamespaceReason lines) g.header.modules (drop g.header.modules lent) m l
 
-module _ (numbers : List ℕ) (ok : answer_of (check_of numbers) ≡ Accepted) where
+module _ (numbers : List ℕ) (ok : answer_of (check_of numbers) ≡ Ok tt) where
   abbrev g : Graph
   g = graph_in numbers
 

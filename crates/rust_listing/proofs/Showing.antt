@@ -8,7 +8,6 @@ use borrow.Author.Tests.{eqb-true, eq-eqb}
 use lib.Dec.{eqb}
 use lib.ListN.{length, get_or, replicate}
 use Rattle.bit_row.specs.Row.{bit_at}
-use Rattle.determine_side_effects.specs.graph_crate.declared.Checked.TheVariants.{Accepted}
 use Rattle.determine_side_effects.specs.graph_crate.Check.{Graph, graph_in, check_of, answer_of}
 use Rattle.determine_side_effects.specs.graph_access_crate.Names.{owner, import_records}
 use Rattle.determine_side_effects.specs.graph_access_crate.Words.{option, module_of, symbol_of}
@@ -21,7 +20,6 @@ use Rattle.dynamic_entries.specs.Alive.{records_before}
 use Rattle.dead_records.proofs.Numbering.{record_inside}
 use Rattle.tree_shaking.specs.Rounds.{final_entries}
 use Rattle.run_rows.specs.Run.{Run, run_of}
-use Rattle.run_parts.specs.declared.Ran.TheVariants.{Done}
 use Rattle.run_parts.specs.Operation as operation
 use Rattle.run_parts.specs.Operation.{Rows, rows, rooms_of, outcome_of, done, totals_of, answered, marks_after, record_after, row_after, dead_after, helpers_after, entries_after, Ends}
 use Rattle.run_choices.proofs.OfDead.{dead_shown}
@@ -41,6 +39,7 @@ use Rattle.rust_listing.specs.Listing.{one_if, reason_number}
 use Rattle.rust_listing.specs.Operation.{dead_import}
 use Rattle.rust_listing.proofs.Same.{Shows}
 use Rattle.rust_listing.proofs.Reasons.{reason_value}
+use Rattle.std.specs.Prelude.{Ok}
 
 -- a bit that is set exactly for a member is the member's test
 member_same : (b : Bool) (x : ℕ) (xs : List ℕ) → (b ≡ true) ↔ In x xs → b ≡ elem x xs
@@ -65,7 +64,7 @@ after_rows g r lent =
     (row_after External o lent.external) (row_after Json o lent.json) (row_after NamespaceReason o lent.reason) (dead_after o lent.dead) (helpers_after o lent.helpers) (entries_after o lent.entries)
 
 ends : (g : Graph) (r : Run) (lent : Rows)
-    → Ends (done g r) (Done (totals_of g r)) lent (after_rows g r lent)
+    → Ends (done g r) (Ok (totals_of g r)) lent (after_rows g r lent)
 unfolding answered
 ends g r lent =
     record {
@@ -102,7 +101,7 @@ shown_with g r lent =
       helpers = a.helpers;
     }
 
-module _ (numbers : List ℕ) (ok : answer_of (check_of numbers) ≡ Accepted) (way : AsRust (graph_in numbers)) (o : Outcome) (x : Returns (graph_in numbers) o) where
+module _ (numbers : List ℕ) (ok : answer_of (check_of numbers) ≡ Ok tt) (way : AsRust (graph_in numbers)) (o : Outcome) (x : Returns (graph_in numbers) o) where
   abbrev g : Graph
   g = graph_in numbers
 
@@ -116,7 +115,7 @@ module _ (numbers : List ℕ) (ok : answer_of (check_of numbers) ≡ Accepted) (
     agree : RowsAgree g o r.rounds (length (final_entries g r.live)) after
     agree =
         run_shows_rust numbers lent after (totals_of g r)
-        (subst (λ (w : operation.Outcome). Ends w (Done (totals_of g r)) lent after) (sym is) (ends g r lent)) way o x
+        (subst (λ (w : operation.Outcome). Ends w (Ok (totals_of g r)) lent after) (sym is) (ends g r lent)) way o x
 
     reason-byte : (m : ℕ) → m < g.header.modules → get_or after.reason m 0 ≡ reason_number o m
     unfolding row_after reason_number

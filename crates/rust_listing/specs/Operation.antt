@@ -1,7 +1,6 @@
 -- What the program `keep` prints for a file of at most 8,192 bytes, and when it refuses. The theorems are in proofs/OfPrograms.antt.
 use Rattle.std.specs.Prelude.{ℕ, ◌+◌, ◌≤◌, ◌≡◌, ◌⊎◌, Bool, true, false, List, ltb, length}
 use Rattle.leb128.specs.Read.{all, refused, read_of}
-use Rattle.determine_side_effects.specs.graph_crate.declared.Checked.TheVariants.{Accepted}
 use Rattle.determine_side_effects.specs.graph_crate.Check.{Graph, graph_in, check_of, answer_of}
 use Rattle.determine_side_effects.specs.graph_access_crate.Words.{option}
 use Rattle.dynamic_entries.specs.Alive.{records_before}
@@ -14,6 +13,8 @@ use Rattle.rust_run.specs.Agreement.{AsRust}
 use Rattle.rust_returns.specs.Following.{Choosing, Follows}
 use Rattle.rust_returns.specs.Circle.{Circle}
 use Rattle.rust_listing.specs.Listing.{dead_lines, listing_before, rust_listing}
+use Rattle.std.specs.Prelude.{Ok}
+use Rattle.determine_side_effects.specs.refusal_crate.declared.Refusal.TheVariants.{NoNumber}
 
 -- import record k of module m is dead by a run
 unfoldable pub dead_import : Graph → Run → ℕ → ℕ → Bool
@@ -23,12 +24,12 @@ dead_import g r m k = dead_record g r.main r.live r.dead (records_before g.modul
 pub record Graphs (file numbers : List ℕ) : Type 0 where
   pub short : length file ≤ 8192
   pub read : read_of file 8192 ≡ all numbers
-  pub accepted : answer_of (check_of numbers) ≡ Accepted
+  pub accepted : answer_of (check_of numbers) ≡ Ok tt
 
 -- A file of at most 8,192 bytes is read, or refused 1: the numbers have room.
 abbrev pub ReadsOrRefusesOne : Type 0
 ReadsOrRefusesOne =
-    (file : List ℕ) → length file ≤ 8192 → ((numbers : List ℕ) × (read_of file 8192 ≡ all numbers)) ⊎ ((p : ℕ) × (read_of file 8192 ≡ refused 1 p))
+    (file : List ℕ) → length file ≤ 8192 → ((numbers : List ℕ) × (read_of file 8192 ≡ all numbers)) ⊎ ((p : ℕ) × (read_of file 8192 ≡ refused (NoNumber p)))
 
 -- A graph is refused 5 exactly if its run has more than 1,024 lines; all other rows of the program are long enough for every graph of such a file.
 abbrev pub FiveForLinesOnly : Type 0

@@ -4,7 +4,6 @@ use mathlib.Core.Path.{◌≡◌, refl, ap, ◌∙◌, sym, subst}
 use mathlib.Core.Logic.{inr}
 use mathlib.Core.Bool.{true}
 use mathlib.Core.List.{List}
-use Rattle.graph_access.specs.graph_crate.declared.Checked.TheVariants.{Accepted}
 use Rattle.graph_access.specs.graph_crate.Check.{graph_in, check_of, answer_of}
 use Rattle.graph_access.specs.graph_crate.Loaded.{Loaded}
 use Rattle.keep_record.specs.Lines.{elem}
@@ -29,6 +28,7 @@ use Rattle.rust_order.proofs.Components.{path_reaches, reaches_path}
 use Rattle.rust_order.proofs.Derivations.{graph_exists, depth_first_exists}
 use Rattle.rust_order.proofs.Parts.{Placed, Parts, parts}
 use Rattle.rust_order.proofs.SameOrder.{rust_order}
+use Rattle.std.specs.Prelude.{Ok}
 
 -- nodes below n, and all edges between nodes
 module _ (succs : ℕ → List ℕ) (n : ℕ) (nodes : List ℕ) (below : (x : ℕ) → elem x nodes ≡ true → x < n)
@@ -106,7 +106,7 @@ order_exists {numbers} t = (
     theirs = rw (sym same.succs_are, sym same.nodes_are) scc.1
 
 -- The sorted entries are an order that the Rust can come to.
-pub rust_order_exists : (numbers : List ℕ) → answer_of (check_of numbers) ≡ Accepted
+pub rust_order_exists : (numbers : List ℕ) → answer_of (check_of numbers) ≡ Ok tt
     → (cycled : List ℕ) × SortDynamicEntriesByTopologicalOrder (graph_in numbers) (dynamic_entries (graph_in numbers)) (sorted_entries (graph_in numbers)) cycled
 rust_order_exists numbers accepted =
     let r = order_exists (accepted_tabled numbers accepted).holds in

@@ -5,7 +5,6 @@ use mathlib.Core.Logic.{◌⊎◌, inl, inr}
 use mathlib.Core.Bool.{true, false, not}
 use mathlib.Core.List.{List}
 use borrow.Author.Tests.{lt-ltb, not-true, not-false}
-use Rattle.graph_access.specs.graph_crate.declared.Checked.TheVariants.{Accepted}
 use Rattle.graph_access.specs.graph_crate.Check.{Graph, graph_in, check_of, answer_of}
 use Rattle.graph_access.specs.graph_crate.Loaded.{Loaded}
 use Rattle.keep_record.specs.Lines.{elem}
@@ -30,6 +29,7 @@ use Rattle.rust_order.proofs.Completing.{completed_is}
 use Rattle.rust_order.proofs.Earlier.{Earlier, earlier_in, earlier_first}
 use Rattle.rust_order.proofs.Components.{cycled_on, on_cycled, order_none, order_found, order_falls}
 use Rattle.rust_order.proofs.Sorting.{rises, sort-is}
+use Rattle.std.specs.Prelude.{Ok}
 
 -- the components of our ordering graph
 module _ {numbers tables : List ℕ} (t : Loaded numbers tables) (sccs : List (List ℕ))
@@ -112,7 +112,7 @@ module _ {numbers tables : List ℕ} (t : Loaded numbers tables) (sccs : List (L
   sorted_is = sort-is g order (goes_first g) (completion g) completion_apart (rises g order (completion g) up) firsts others outside inside (dynamic_entries g)
 
 -- The theorem.
-pub rust_order : (numbers : List ℕ) → answer_of (check_of numbers) ≡ Accepted → (sorted cycled : List ℕ)
+pub rust_order : (numbers : List ℕ) → answer_of (check_of numbers) ≡ Ok tt → (sorted cycled : List ℕ)
     → SortDynamicEntriesByTopologicalOrder (graph_in numbers) (dynamic_entries (graph_in numbers)) sorted cycled
     → (sorted ≡ sorted_entries (graph_in numbers)) × ((m : ℕ) → elem m cycled ≡ on_cycle (graph_in numbers) m)
 rust_order numbers accepted sorted cycled r =

@@ -7,7 +7,6 @@ use mathlib.Core.List.{List, [], ◌∷◌}
 use borrow.Author.Tests.{ltb-true}
 use lib.Dec.{ltb}
 use lib.ListN.{length, get_or}
-use Rattle.determine_side_effects.specs.graph_crate.declared.Checked.TheVariants.{Accepted}
 use Rattle.determine_side_effects.specs.rows_crate.Walk.{and_then, within, obeys, number, cells, many, elem, firsts, list, plain_row, repeated, distinct_row, lists, item, walk_of, onward, columns_of, row_of, firsts_at}
 use Rattle.determine_side_effects.specs.graph_format_crate.Format.{header_rules, header_of, namespace_limit, least_statements, statement_limit, module_rules, import_lists, export_lists, name_lists, module_lists, module_at, less_module, modules_at, kind_of, statements_of, import_records_of, symbol_rules, owners_counts, symbol_lists, symbol_at, symbols_at, depended_at, member_rules, parts_at, reference_at, statement_lists, statement_at, module_statements, statements_at, related_module_at, related_import_record_at, related_at, entry_at, entries_at}
 use Rattle.determine_side_effects.specs.graph_tables_crate.Tables.{items_of, end_of, header_in, modules_read, modules_in, symbols_read, symbols_in, statements_read, statements_in, entries_read, entries_in, first_of}
@@ -42,10 +41,11 @@ use Rattle.rust_returns.specs.Circle.{GivesUse, Circle}
 use Rattle.rust_returns.specs.Example.{circle, NeverReturns}
 use Rattle.rust_returns.proofs.Uses.{at_place}
 use Rattle.rust_returns.proofs.OnCircles.{never_on_circles}
+use Rattle.std.specs.Prelude.{Ok}
 
 -- the use of the symbol has a line, and is the first that it gives
 record Computed : Type 0 where
-  is_accepted : answer_of (check_of circle) ≡ Accepted
+  is_accepted : answer_of (check_of circle) ≡ Ok tt
   no_bit : option (graph_in circle) 7 ≡ false
   has_line : fact_at (run_of (graph_in circle)).lines 2 ≡ use_fact 0 1
   has_line_inside : ltb 2 (length (run_of (graph_in circle)).lines) ≡ true

@@ -6,7 +6,6 @@ use mathlib.Core.Bool.{Bool, true, false, ◌||◌, false≢true}
 use mathlib.Core.List.{List, [], ◌∷◌, ◌++◌}
 use native.Mathlib.Omega.{arith}
 use lib.ListN.{length, drop}
-use Rattle.determine_side_effects.specs.graph_crate.declared.Checked.TheVariants.{Accepted}
 use Rattle.determine_side_effects.specs.graph_crate.Check.{Graph, graph_in, check_of, answer_of}
 use Rattle.determine_side_effects.specs.graph_access_crate.Words.{normal}
 use Rattle.determine_side_effects.specs.facts_crate.declared.Fact.{Fact}
@@ -45,6 +44,7 @@ use Rattle.rust_returns.specs.Following.{Choosing, UsersBy, TryBy, TriesBy, Roun
 use Rattle.rust_returns.proofs.Left.{modules_left, modules_lt}
 use Rattle.rust_returns.proofs.Loops as loops
 use Rattle.rust_returns.proofs.Loops.{Tame, Ready}
+use Rattle.std.specs.Prelude.{Ok}
 
 -- the facts of the main part's lines, over nothing
 abbrev pub main_over : Graph → Over
@@ -58,7 +58,7 @@ left_one : (a b : Bool) → a ≡ true → (a || b) ≡ true
 left_one true b e = refl
 left_one false b e = absurd (false≢true e)
 
-module _ (numbers : List ℕ) (ok : answer_of (check_of numbers) ≡ Accepted) (T : Tame (graph_in numbers) (main_over (graph_in numbers))) (ch : Choosing (graph_in numbers)) where
+module _ (numbers : List ℕ) (ok : answer_of (check_of numbers) ≡ Ok tt) (T : Tame (graph_in numbers) (main_over (graph_in numbers))) (ch : Choosing (graph_in numbers)) where
   abbrev g : Graph
   g = graph_in numbers
 

@@ -7,7 +7,6 @@ use mathlib.Core.List.{List, [], map}
 use native.Mathlib.Omega.{arith}
 use native.Mathlib.Decide.{dec_lt}
 use lib.ListN.{length}
-use Rattle.determine_side_effects.specs.graph_crate.declared.Checked.TheVariants.{Accepted}
 use Rattle.determine_side_effects.specs.graph_crate.Check.{Graph, graph_in, check_of, answer_of}
 use Rattle.determine_side_effects.specs.facts_crate.declared.Fact.{Fact}
 use Rattle.determine_side_effects.specs.facts_crate.Facts.{module_fact, statement_fact, use_fact, Good}
@@ -52,8 +51,9 @@ use Rattle.rust_returns.proofs.Searching.{search, uses_of, uses_lined, lined_use
 use Rattle.rust_returns.proofs.Loops as loops
 use Rattle.rust_returns.proofs.Loops.{Tame, Ready}
 use Rattle.rust_returns.proofs.MainPart.{main_over, Made, made}
+use Rattle.std.specs.Prelude.{Ok}
 
-module _ (numbers : List ℕ) (ok : answer_of (check_of numbers) ≡ Accepted) where
+module _ (numbers : List ℕ) (ok : answer_of (check_of numbers) ≡ Ok tt) where
   abbrev g : Graph
   g = graph_in numbers
 

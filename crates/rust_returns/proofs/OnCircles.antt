@@ -4,7 +4,6 @@ use mathlib.Core.Path.{◌≡◌, refl, sym, subst}
 use mathlib.Core.Logic.{◌⊎◌, inl, inr}
 use mathlib.Core.List.{List, [], ◌∷◌, ◌++◌}
 use lib.ListN.{length}
-use Rattle.determine_side_effects.specs.graph_crate.declared.Checked.TheVariants.{Accepted}
 use Rattle.determine_side_effects.specs.graph_crate.Check.{Graph, graph_in, check_of, answer_of}
 use Rattle.determine_side_effects.specs.graph_access_crate.Names.{resolved_exports}
 use Rattle.determine_side_effects.specs.graph_access_crate.Words.{flag, tabulate, module_of}
@@ -44,6 +43,7 @@ use Rattle.rust_returns.specs.Circle.{GivesUse, CircleIn, Circle, HasChoices, Re
 use Rattle.rust_returns.proofs.Ending.{Ends, ends}
 use Rattle.rust_returns.proofs.Passing.{Safe, passed_ends, Fine, reached_fine, safe_closed}
 use Rattle.rust_returns.proofs.OfRuns.{main, word, fs, all, lines_are, main_closed, stage, of_stage, returns_unless_circles}
+use Rattle.std.specs.Prelude.{Ok}
 
 both_every : (P Q : Fact → Type 0) (xs : List Fact) → Every P xs → Every Q xs → Every (λ f. P f × Q f) xs
 both_every P Q [] a b = tt
@@ -56,7 +56,7 @@ no_end g C k s x (ends _ _ on) p a b h =
     no_end g C k q.0.first q.0.second (on q.0.first q.0.second (subst (λ y. GivesUse g s y q.0.first q.0.second) b
     (subst (λ t. GivesUse g t p.second q.0.first q.0.second) a q.2))) q.0 refl refl q.1
 
-module _ (numbers : List ℕ) (ok : answer_of (check_of numbers) ≡ Accepted) where
+module _ (numbers : List ℕ) (ok : answer_of (check_of numbers) ≡ Ok tt) where
   abbrev g : Graph
   g = graph_in numbers
 

@@ -1,7 +1,6 @@
 -- A circle: uses among a run's lines each of which gives another of them, by the alias (K11) or the wrapper (K12). The Rust remembers no use, so it does
 -- not return where one is reached; the theorems in proofs/ say that it returns on every other graph.
 use Rattle.std.specs.Prelude.{ℕ, ◌≡◌, ◌⊎◌, ◌↔◌, List}
-use Rattle.determine_side_effects.specs.graph_crate.declared.Checked.TheVariants.{Accepted}
 use Rattle.determine_side_effects.specs.graph_crate.Check.{Graph, graph_in, check_of, answer_of}
 use Rattle.determine_side_effects.specs.facts_crate.Facts.{use_fact}
 use Rattle.determine_side_effects.specs.Effects.{last_verdicts}
@@ -12,6 +11,7 @@ use Rattle.rust_values.specs.Values.{Pair, In}
 use Rattle.rust_run.specs.IncludeStatements.{Outcome, Returns}
 use Rattle.rust_run.specs.Agreement.{AsRust, Agrees}
 use Rattle.rust_returns.specs.Following.{Choosing, Follows}
+use Rattle.std.specs.Prelude.{Ok}
 
 -- the use of s for reason x gives the use of t for reason y; no other rule gives a use from a use
 pub data GivesUse (g : Graph) (s x t y : ℕ) : Type 0 where
@@ -32,7 +32,7 @@ Circle g = CircleIn g (HasLine (run_of g).lines)
 
 -- There are choices for every accepted graph, so what is said for each of them is said of some.
 abbrev pub HasChoices : Type 0
-HasChoices = (numbers : List ℕ) → answer_of (check_of numbers) ≡ Accepted → Choosing (graph_in numbers)
+HasChoices = (numbers : List ℕ) → answer_of (check_of numbers) ≡ Ok tt → Choosing (graph_in numbers)
 
 -- the Rust returns, whatever the hash orders and the components
 abbrev pub ReturnsBy : Graph → Type 0
@@ -40,20 +40,20 @@ ReturnsBy g = (ch : Choosing g) → (o : Outcome) × (r : Returns g o) × Follow
 
 -- On every accepted graph it does so, or there is a circle. A run whose options ask for more rounds has more lines, and a circle may be among those alone.
 abbrev pub ReturnsUnlessCircles : Type 0
-ReturnsUnlessCircles = (numbers : List ℕ) → answer_of (check_of numbers) ≡ Accepted → AsRust (graph_in numbers) → ReturnsBy (graph_in numbers) ⊎ Circle (graph_in numbers)
+ReturnsUnlessCircles = (numbers : List ℕ) → answer_of (check_of numbers) ≡ Ok tt → AsRust (graph_in numbers) → ReturnsBy (graph_in numbers) ⊎ Circle (graph_in numbers)
 
 -- and where there is one, it returns by none
 abbrev pub NeverOnCircles : Type 0
 NeverOnCircles =
-    (numbers : List ℕ) → answer_of (check_of numbers) ≡ Accepted → AsRust (graph_in numbers) → Circle (graph_in numbers) → (o : Outcome) → Returns (graph_in numbers) o → ⊥
+    (numbers : List ℕ) → answer_of (check_of numbers) ≡ Ok tt → AsRust (graph_in numbers) → Circle (graph_in numbers) → (o : Outcome) → Returns (graph_in numbers) o → ⊥
 
 -- so it returns exactly where there is none
 abbrev pub ReturnsExactly : Type 0
 ReturnsExactly =
-    (numbers : List ℕ) → answer_of (check_of numbers) ≡ Accepted → AsRust (graph_in numbers) → ((o : Outcome) × Returns (graph_in numbers) o) ↔ (Circle (graph_in numbers) → ⊥)
+    (numbers : List ℕ) → answer_of (check_of numbers) ≡ Ok tt → AsRust (graph_in numbers) → ((o : Outcome) × Returns (graph_in numbers) o) ↔ (Circle (graph_in numbers) → ⊥)
 
 -- with T11: without a circle the Rust returns, whatever the orders, and its outcome is the run's
 abbrev pub ReturnsAndAgrees : Type 0
 ReturnsAndAgrees =
-    (numbers : List ℕ) → answer_of (check_of numbers) ≡ Accepted → AsRust (graph_in numbers) → (Circle (graph_in numbers) → ⊥) → (ch : Choosing (graph_in numbers))
+    (numbers : List ℕ) → answer_of (check_of numbers) ≡ Ok tt → AsRust (graph_in numbers) → (Circle (graph_in numbers) → ⊥) → (ch : Choosing (graph_in numbers))
     → (o : Outcome) × (r : Returns (graph_in numbers) o) × Follows (graph_in numbers) ch o r × Agrees (graph_in numbers) o (run_of (graph_in numbers))

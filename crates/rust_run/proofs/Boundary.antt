@@ -4,7 +4,6 @@ use lib.ListN.{get_or-append}
 use lib.Seq.{take-append_seam}
 use Rattle.bit_row.specs.Row.{bit_at, bytes_for}
 use Rattle.bit_row.proofs.Size.{bytes_hold}
-use Rattle.determine_side_effects.specs.graph_crate.declared.Checked.TheVariants.{Accepted}
 use Rattle.determine_side_effects.specs.graph_crate.Check.{Graph, graph_in, check_of, answer_of}
 use Rattle.determine_side_effects.specs.graph_access_crate.Names.{owner, import_records}
 use Rattle.determine_side_effects.specs.graph_access_crate.Words.{option, module_of, symbol_of, statement_list, tabulate}
@@ -25,7 +24,6 @@ use Rattle.dead_records.specs.Dead.{dead_row}
 use Rattle.run_rows.specs.Run.{Run, with_runtime, run_of, helpers_row, entries_row}
 use Rattle.dead_records.proofs.Numbering.{record_inside}
 use Rattle.run_parts.specs.declared.Totals.{Totals}
-use Rattle.run_parts.specs.declared.Ran.TheVariants.{Done, Refused}
 use Rattle.run_parts.specs.Operation as operation
 use Rattle.run_parts.specs.Operation.{Rows, rooms_of, outcome_of, before, short, done, answered, row_after, dead_after, helpers_after, entries_after, Ends}
 use Rattle.closed_choices.specs.Choice.{HasLine}
@@ -45,10 +43,13 @@ use Rattle.rust_run.proofs.OfRuns.{rust_agrees}
 use Rattle.run_choices.proofs.Sparing.{without_bit}
 use Rattle.run_choices.proofs.OfDead.{dead_shown}
 use Rattle.rust_run.proofs.BoundaryRows.{both_ways, turned, bit_shown, module_shown, statement-shown}
+use Rattle.std.specs.Prelude.{Result, Ok, Err}
+use Rattle.determine_side_effects.specs.refusal_crate.declared.Refusal.{Refusal}
+use Rattle.determine_side_effects.specs.refusal_crate.declared.Refusal.TheVariants.{NoRoom}
 
 -- The facts of the lines of both stages are good -----------------------------------------------------------------------------------------
 
-module _ (numbers : List ℕ) (ok : answer_of (check_of numbers) ≡ Accepted) where
+module _ (numbers : List ℕ) (ok : answer_of (check_of numbers) ≡ Ok tt) where
   abbrev g : Graph
   g = graph_in numbers
 
@@ -145,7 +146,7 @@ module _ (g : Graph) (r : Run) (o : Outcome) (agrees : Agrees g o r) (lent : Lis
 
 -- The rows of a run that is done ---------------------------------------------------------------------------------------------------------
 
-module _ (g : Graph) (r : Run) (lent after : Rows) (totals : Totals) (ends : Ends (done g r) (Done totals) lent after) where
+module _ (g : Graph) (r : Run) (lent after : Rows) (totals : Totals) (ends : Ends (done g r) (Ok totals) lent after) where
   rounds_same : totals.rounds ≡ r.rounds
   unfolding answered
   rounds_same = let e = ends.answer in cc
@@ -173,19 +174,19 @@ module _ (g : Graph) (r : Run) (lent after : Rows) (totals : Totals) (ends : End
       }
 
 -- T11 at the boundary: a refused run answers otherwise, so this one is done, with the graph's own run
-not_refused : (totals : Totals) (n p : ℕ) → Done totals ≡ Refused n p → ⊥
-not_refused totals n p e = let z : ◌≡◌ {A = ℕ} 0 1 = cc in omega arith
+not_refused : (totals : Totals) (why : Refusal) → ◌≡◌ {A = Result Totals Refusal} (Ok totals) (Err why) → ⊥
+not_refused totals why e = cc
 
 pub run_shows_rust : RunShowsRust
 unfolding answered
 run_shows_rust numbers lent after totals runs a o x = go (outcome_of numbers (rooms_of lent)) refl
   where
     go : (w : operation.Outcome) → outcome_of numbers (rooms_of lent) ≡ w → RowsAgree (graph_in numbers) o totals.rounds totals.entries after
-    go (before n p) e = absurd (not_refused totals n p (runs.answer ∙ ap answered e))
-    go short e = absurd (not_refused totals 5 0 (runs.answer ∙ ap answered e))
+    go (before why) e = absurd (not_refused totals why (runs.answer ∙ ap answered e))
+    go short e = absurd (not_refused totals NoRoom (runs.answer ∙ ap answered e))
     go (done g r) e =
         let d = run_done numbers (rooms_of lent) g r e in
         let w : done g r ≡ done (graph_in numbers) (run_of (graph_in numbers)) = ap (λ h. done h r) d.graph_is ∙ ap (λ (y : Run). done (graph_in numbers) y) d.run_is in
         rows_agree (graph_in numbers) (run_of (graph_in numbers)) lent after totals
-        (subst (λ (y : operation.Outcome). Ends y (Done totals) lent after) (e ∙ w) runs)
+        (subst (λ (y : operation.Outcome). Ends y (Ok totals) lent after) (e ∙ w) runs)
         (lines_good numbers d.accepted) o (rust_agrees numbers d.accepted a o x)

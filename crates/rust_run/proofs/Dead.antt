@@ -3,7 +3,6 @@ use Rattle.std.proofs.Common.{◌≡◌, ℕ, zero, suc, ◌+◌, ◌<◌, ◌�
 use mathlib.Core.Bool.{false≢true}
 use native.Mathlib.Decide.{dec_lt}
 use Rattle.determine_side_effects.specs.rows_crate.Walk.{Item, no_item}
-use Rattle.determine_side_effects.specs.graph_crate.declared.Checked.TheVariants.{Accepted}
 use Rattle.determine_side_effects.specs.graph_crate.Check.{Graph, graph_in, check_of, answer_of}
 use Rattle.determine_side_effects.specs.graph_access_crate.Names.{import_records, related, related_module, related_import_record, unreachable}
 use Rattle.determine_side_effects.specs.graph_access_crate.Words.{some, tabulate, module_of, entry_of}
@@ -15,6 +14,7 @@ use Rattle.dead_records.specs.Dead.{is_dead_record}
 use Rattle.closed_choices.proofs.Every.{Every}
 use Rattle.rust_values.specs.Values.{Pair, pair, In}
 use Rattle.rust_run.proofs.Trying.{dead_pairs, pairs_unreachable, pairs_here, pairs_not, RowGood, rows_good, reach_same, pure_same}
+use Rattle.std.specs.Prelude.{Ok}
 
 -- Running numbers of records -------------------------------------------------------------------------------------------------------------
 
@@ -142,7 +142,7 @@ both_hold : (a b : Bool) → a ≡ true → b ≡ true → (a && b) ≡ true
 both_hold true b u e = e
 both_hold false b u e = absurd (false≢true u)
 
-module _ (numbers : List ℕ) (ok : answer_of (check_of numbers) ≡ Accepted) where
+module _ (numbers : List ℕ) (ok : answer_of (check_of numbers) ≡ Ok tt) where
   pub record_dead : (dead : ℕ → Bool) (m k : ℕ) → m < (graph_in numbers).header.modules → k < length (import_records (module_of (graph_in numbers) m))
       → (is_dead_record (graph_in numbers) dead (records_before (graph_in numbers).modules m + k) ≡ true)
       ↔ ((e : ℕ) × (e < (graph_in numbers).header.entries) × (dead e ≡ true) × In (pair m k) (dead_pairs (graph_in numbers) (last_verdicts (graph_in numbers)) (related (entry_of (graph_in numbers) e))))

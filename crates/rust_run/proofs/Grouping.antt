@@ -1,7 +1,6 @@
 -- The Rust's map of entries groups as the project does; user-defined, dynamic and final entries are the project's.
 use Rattle.std.proofs.Common.{◌≡◌, ℕ, ◌<◌, Bool, true, false, not, ◌&&◌, ◌||◌, eqb, ltb, List, [], ◌∷◌, ◌++◌, sym, refl, ap, ◌∙◌, append_assoc, arith, le-ltb, lt-ltb, eq-eqb, eqb-true}
 use borrow.Author.Tests.{eqb-false}
-use Rattle.determine_side_effects.specs.graph_crate.declared.Checked.TheVariants.{Accepted}
 use Rattle.determine_side_effects.specs.graph_crate.Check.{Graph, graph_in, check_of, answer_of}
 use Rattle.determine_side_effects.specs.graph_access_crate.Names.{entry_kind}
 use Rattle.determine_side_effects.specs.graph_access_crate.Words.{tabulate, entry_of, option}
@@ -18,6 +17,7 @@ use Rattle.closed_choices.proofs.Accepting.{accepted_tabled}
 use Rattle.rust_values.specs.Values.{filter}
 use Rattle.rust_order.specs.DynamicEntries.{entry_idx}
 use Rattle.rust_run.specs.IncludeStatements.{Slot, push_entry, push_entries, flattened, through_map, is_user_defined, user_defined_entries, dynamic_entries, live_entries}
+use Rattle.std.specs.Prelude.{Ok}
 
 -- Tests on lists -------------------------------------------------------------------------------------------------------------------------
 
@@ -166,7 +166,7 @@ module _ (g : Graph) where
 
 -- Kinds of entries ----------------------------------------------------------------------------------------------------------------------
 
-module _ (numbers : List ℕ) (ok : answer_of (check_of numbers) ≡ Accepted) where
+module _ (numbers : List ℕ) (ok : answer_of (check_of numbers) ≡ Ok tt) where
   -- the three kinds
   by_kind : (k : ℕ) → k < 3 → ltb k 2 ≡ not (eqb k 2)
   by_kind k l = go (eqb k 2) refl

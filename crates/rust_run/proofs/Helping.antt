@@ -6,7 +6,6 @@ use Rattle.determine_side_effects.specs.rows_crate.Walk.{no_item}
 use Rattle.determine_side_effects.specs.graph_format_crate.Format.{module_rules, statement_limit}
 use Rattle.determine_side_effects.specs.graph_tables_crate.Tables.{modules_in}
 use Rattle.determine_side_effects.proofs.graph_tables_crate.Facts.{its-read, number_same}
-use Rattle.determine_side_effects.specs.graph_crate.declared.Checked.TheVariants.{Accepted}
 use Rattle.determine_side_effects.specs.graph_crate.Check.{Graph, graph_in, check_of, answer_of}
 use Rattle.determine_side_effects.specs.graph_crate.Loaded.{Loaded}
 use Rattle.determine_side_effects.specs.graph_access_crate.Names.{kind, module_helpers, helper_number, helper_statement}
@@ -25,6 +24,7 @@ use Rattle.rust_values.specs.Values.{has_pair, is_empty, filter}
 use Rattle.rust_engine.specs.Context.{Context}
 use Rattle.rust_run.specs.Passes.{helper_bits, collect_depended_runtime_helpers}
 use Rattle.rust_run.specs.IncludeStatements.{statements_needing, needs_helper, depended_runtime_helper}
+use Rattle.std.specs.Prelude.{Ok}
 
 -- Words and lists ------------------------------------------------------------------------------------------------------------------------
 
@@ -122,7 +122,7 @@ module _ {numbers tables : List ℕ} (t : Loaded numbers tables) where
 
 -- Helpers -------------------------------------------------------------------------------------------------------------------------------
 
-module _ (numbers : List ℕ) (ok : answer_of (check_of numbers) ≡ Accepted) (c : Context) (kept : Fact → Bool)
+module _ (numbers : List ℕ) (ok : answer_of (check_of numbers) ≡ Ok tt) (c : Context) (kept : Fact → Bool)
     (mods : (m : ℕ) → m < (graph_in numbers).header.modules → elem m c.modules ≡ kept (module_fact m))
     (stmts : (m i : ℕ) → m < (graph_in numbers).header.modules → i < length (statement_list (graph_in numbers) m) → has_pair m i c.statements ≡ kept (statement_fact m i)) where
   abbrev g : Graph

@@ -1,7 +1,6 @@
 -- The Rust's context beside the lines of a run: the course of entry points that led to it has started facts whose smallest closed choice is that
 -- of the lines.
 use Rattle.std.proofs.Common.{◌≡◌, ℕ, zero, suc, ◌<◌, List, [], ◌∷◌, ◌++◌, length, get_or, sym, refl, ap, ◌∙◌, subst, arith}
-use Rattle.determine_side_effects.specs.graph_crate.declared.Checked.TheVariants.{Accepted}
 use Rattle.determine_side_effects.specs.graph_crate.Check.{Graph, graph_in, check_of, answer_of}
 use Rattle.determine_side_effects.specs.graph_crate.Loaded.{Loaded}
 use Rattle.determine_side_effects.specs.facts_crate.declared.Fact.{Fact}
@@ -20,13 +19,14 @@ use Rattle.rust_engine.specs.EntryPoints.{Reached, at_first, Exactly}
 use Rattle.rust_engine.proofs.Nothing.{not_in_empty, smallest_over_nothing}
 use Rattle.rust_engine.proofs.OfAccepted.{engine_shows}
 use Rattle.rust_run.proofs.Starting.{Alike, Onward, ExportsOf}
+use Rattle.std.specs.Prelude.{Ok}
 
 -- every one of a list, from those that are in all that holds the first
 pub every_onto : (P Q : Fact → Type 0) → ((f : Fact) → P f → Q f) → (fs : List Fact) → Every P fs → Every Q fs
 every_onto P Q h [] a = tt
 every_onto P Q h (f ∷ fs) a = (h f a.0, every_onto P Q h fs a.1)
 
-module _ (numbers : List ℕ) (ok : answer_of (check_of numbers) ≡ Accepted) where
+module _ (numbers : List ℕ) (ok : answer_of (check_of numbers) ≡ Ok tt) where
   abbrev g : Graph
   g = graph_in numbers
 

@@ -1,7 +1,6 @@
 -- The main part: as many rounds as the Rust makes, and its context beside the run's lines when it leaves the loop.
 use Rattle.std.proofs.Common.{◌≡◌, ℕ, zero, suc, ◌+◌, ◌≤◌, true, false, List, [], length, sym, refl, ◌∙◌, subst, arith}
 use mathlib.Core.Bool.{false≢true}
-use Rattle.determine_side_effects.specs.graph_crate.declared.Checked.TheVariants.{Accepted}
 use Rattle.determine_side_effects.specs.graph_crate.Check.{Graph, graph_in, check_of, answer_of}
 use Rattle.determine_side_effects.specs.Effects.{last_verdicts}
 use Rattle.keep_record.specs.Lines.{elem}
@@ -21,8 +20,9 @@ use Rattle.rust_run.proofs.Starting.{users_onward}
 use Rattle.rust_run.proofs.Level.{loaded, level_first, level-onward}
 use Rattle.rust_run.proofs.Tried.{Beside, Dynamic}
 use Rattle.rust_run.proofs.Round.{AtRound, round-on, changed_is}
+use Rattle.std.specs.Prelude.{Ok}
 
-module _ (numbers : List ℕ) (ok : answer_of (check_of numbers) ≡ Accepted) where
+module _ (numbers : List ℕ) (ok : answer_of (check_of numbers) ≡ Ok tt) where
   abbrev g : Graph
   g = graph_in numbers
 

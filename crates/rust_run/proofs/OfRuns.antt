@@ -2,7 +2,6 @@
 use Rattle.std.proofs.Common.{◌≡◌, ℕ, zero, suc, ◌+◌, ◌*◌, ◌<◌, ◌≤◌, Bool, true, false, ◌⊎◌, ◌↔◌, List, [], ◌∷◌, ◌++◌, length, sym, refl, ap, ◌∙◌, subst, inl, inr, arith}
 use mathlib.Core.Bool.{false≢true}
 use native.Mathlib.Decide.{dec_lt}
-use Rattle.determine_side_effects.specs.graph_crate.declared.Checked.TheVariants.{Accepted}
 use Rattle.determine_side_effects.specs.graph_crate.Check.{Graph, graph_in, check_of, answer_of}
 use Rattle.determine_side_effects.specs.graph_access_crate.Names.{owner, import_records}
 use Rattle.determine_side_effects.specs.graph_access_crate.Words.{symbol_of, module_of}
@@ -45,6 +44,7 @@ use Rattle.rust_run.proofs.Tried.{Beside, statement_bit}
 use Rattle.rust_run.proofs.Round.{prefix_line}
 use Rattle.rust_run.proofs.Main.{RoundsEnd, main-beside}
 use Rattle.rust_run.proofs.Runtime.{module_bit, runtime-exactly}
+use Rattle.std.specs.Prelude.{Ok}
 
 -- with nothing in the base every fact is beyond it
 beyond_nothing : (g : Graph) (C : Choice) (row : Row) (j : ℕ) → ShownBy g (Beyond (InRows empty) C) row j → ShownBy g C row j
@@ -65,7 +65,7 @@ uses_only g b row e (CheckedUse s x) j h q = q
 uses_only g b row e (Forward s) j h q = q
 uses_only g b row e (Bailout m) j h q = q
 
-module _ (numbers : List ℕ) (ok : answer_of (check_of numbers) ≡ Accepted) where
+module _ (numbers : List ℕ) (ok : answer_of (check_of numbers) ≡ Ok tt) where
   abbrev g : Graph
   g = graph_in numbers
 

@@ -2,7 +2,6 @@
 -- outcomes that the Rust has. tools/run_definitions.py executes the same text on all recorded answers of the Rust, and compares these two with what is
 -- proved here.
 use Rattle.std.proofs.Common.{◌≡◌, ℕ, true, false, List, [], ◌∷◌, refl}
-use Rattle.determine_side_effects.specs.graph_crate.declared.Checked.TheVariants.{Accepted}
 use Rattle.determine_side_effects.specs.rows_crate.Walk.{and_then, within, obeys, number, cells, many, elem, firsts, list, plain_row, repeated, distinct_row, lists, item, walk_of, onward, columns_of, row_of, firsts_at}
 use Rattle.determine_side_effects.specs.graph_format_crate.Format.{header_rules, header_of, namespace_limit, least_statements, statement_limit, module_rules, import_lists, export_lists, name_lists, module_lists, module_at, less_module, modules_at, kind_of, statements_of, import_records_of, symbol_rules, owners_counts, symbol_lists, symbol_at, symbols_at, depended_at, member_rules, parts_at, reference_at, statement_lists, statement_at, module_statements, statements_at, related_module_at, related_import_record_at, related_at, entry_at, entries_at}
 use Rattle.determine_side_effects.specs.graph_tables_crate.Tables.{items_of, end_of, header_in, modules_read, modules_in, symbols_read, symbols_in, statements_read, statements_in, entries_read, entries_in, first_of}
@@ -27,6 +26,7 @@ use Rattle.rust_run.specs.Passes.{helper_bits, collect_depended_runtime_helpers}
 use Rattle.rust_run.specs.IncludeStatements.{push_entry, push_entries, flattened, through_map, is_user_defined as isUserDefined-rust-run, user_defined_entries, dynamic_entries as dynamicEntries-rust-run, insert_if, live_entries, statements_needing, needs_helper, depended_runtime_helper, Outcome, Returns}
 use Rattle.rust_run.proofs.Executed.{then, propagated, spread_from, verdicts_from, determined, recomputes, settled, constructed, from_entries as fromEntries-executed, depth_first, entry_graph_made, sorted_by, drained, references_included, entry_included, users_included, exports_included, bailouts_included, retained_one, processed_one, processed_all, round_made, rounds_made, helpers_included, runtime_included, finished as finished-executed, included, executed, ended}
 use Rattle.rust_run.proofs.Returned.{executed_returns}
+use Rattle.std.specs.Prelude.{Ok}
 
 -- The printed case
 abbrev pub case_numbers : List ℕ
@@ -81,9 +81,9 @@ rounds_outcome =
 
 -- both, executed
 record Executions : Type 0 where
-  pub case_accepted : answer_of (check_of case_numbers) ≡ Accepted
+  pub case_accepted : answer_of (check_of case_numbers) ≡ Ok tt
   pub of_case : executed (graph_in case_numbers) 20 ≡ ended case_outcome
-  pub rounds_accepted : answer_of (check_of rounds_numbers) ≡ Accepted
+  pub rounds_accepted : answer_of (check_of rounds_numbers) ≡ Ok tt
   pub of_rounds_holds : executed (graph_in rounds_numbers) 60 ≡ ended rounds_outcome
 
 executions : Executions

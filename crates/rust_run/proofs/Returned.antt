@@ -1,6 +1,5 @@
 -- What the executed functions give, the relations have, up to the whole: `include_statements` after 002, for accepted numbers.
 use Rattle.std.proofs.Common.{◌≡◌, ℕ, zero, suc, Bool, true, false, ◌||◌, eqb, List, [], ◌∷◌, ◌++◌, get_or, sym, refl, ap, subst}
-use Rattle.determine_side_effects.specs.graph_crate.declared.Checked.TheVariants.{Accepted}
 use Rattle.determine_side_effects.specs.graph_crate.Check.{Graph, graph_in, check_of, answer_of}
 use Rattle.determine_side_effects.specs.graph_access_crate.Names.{entry_references, resolved_exports, export_symbol, export_from_common_js, only}
 use Rattle.determine_side_effects.specs.graph_access_crate.Words.{flag, tabulate, module_of, normal}
@@ -29,6 +28,7 @@ use Rattle.rust_run.proofs.Executed.{Ended, not_yet, ended, then, settled, drain
 use Rattle.rust_run.proofs.Ending.{never_ends, same_end, through, drained_returns}
 use Rattle.rust_run.proofs.Settled.{settled_returns}
 use Rattle.rust_run.proofs.Grouping.{dynamics_same}
+use Rattle.std.specs.Prelude.{Ok}
 
 -- Entries --------------------------------------------------------------------------------------------------------------------------------
 
@@ -295,7 +295,7 @@ finished_returns g v fuel b k o made e =
     )
 
 -- of accepted numbers: components that are right are there, and by all of them the entries are sorted so
-pub executed_returns : (numbers : List ℕ) → answer_of (check_of numbers) ≡ Accepted → (fuel : ℕ) (o : Outcome) → executed (graph_in numbers) fuel ≡ ended o
+pub executed_returns : (numbers : List ℕ) → answer_of (check_of numbers) ≡ Ok tt → (fuel : ℕ) (o : Outcome) → executed (graph_in numbers) fuel ≡ ended o
     → Returns (graph_in numbers) o
 unfolding executed included
 executed_returns numbers ok fuel o e =

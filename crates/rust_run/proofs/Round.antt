@@ -2,7 +2,6 @@
 use Rattle.std.proofs.Common.{◌≡◌, ℕ, zero, suc, ◌+◌, ◌-◌, ◌<◌, ◌≤◌, Bool, true, false, eqb, ◌⊎◌, ◌↔◌, List, [], ◌∷◌, ◌++◌, length, get_or, drop, sym, refl, ap, ◌∙◌, subst, inl, inr, le_refl, arith}
 use mathlib.Core.Bool.{false≢true}
 use native.Mathlib.Decide.{dec_lt}
-use Rattle.determine_side_effects.specs.graph_crate.declared.Checked.TheVariants.{Accepted}
 use Rattle.determine_side_effects.specs.graph_crate.Check.{Graph, graph_in, check_of, answer_of}
 use Rattle.determine_side_effects.specs.facts_crate.declared.Fact.{Fact}
 use Rattle.determine_side_effects.specs.facts_crate.declared.Fact.TheVariants.{Module, Statement, Use, CheckedUse, Forward, Bailout}
@@ -32,6 +31,7 @@ use Rattle.rust_run.proofs.Level.{Level, every_onto, level-whole, level-exactly}
 use Rattle.rust_run.proofs.Tried.{both, Beside, Dynamic, tries-beside}
 use Rattle.rust_run.proofs.Rounding.{drop_at, drop-long, long-drop, exports_of, Exported, exported-now, level-bailed}
 use Rattle.rust_run.proofs.Counting.{round_counted}
+use Rattle.std.specs.Prelude.{Ok}
 
 -- lines only grow
 pub prefix_refl : (xs : List Line) → Prefix xs xs
@@ -70,7 +70,7 @@ module_kind (CheckedUse s x) e = absurd (false≢true e)
 module_kind (Forward s) e = absurd (false≢true e)
 module_kind (Bailout m) e = absurd (false≢true e)
 
-module _ (numbers : List ℕ) (ok : answer_of (check_of numbers) ≡ Accepted) where
+module _ (numbers : List ℕ) (ok : answer_of (check_of numbers) ≡ Ok tt) where
   abbrev g : Graph
   g = graph_in numbers
 

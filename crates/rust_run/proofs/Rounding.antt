@@ -3,7 +3,6 @@
 use Rattle.std.proofs.Common.{◌≡◌, ℕ, zero, suc, ◌+◌, ◌-◌, ◌<◌, ◌≤◌, Bool, true, false, eqb, ◌⊎◌, ◌↔◌, List, [], ◌∷◌, ◌++◌, length, get_or, drop, sym, refl, ap, ◌∙◌, subst, inl, inr, arith, eqb-true}
 use mathlib.Core.Bool.{false≢true}
 use native.Mathlib.Decide.{dec_lt}
-use Rattle.determine_side_effects.specs.graph_crate.declared.Checked.TheVariants.{Accepted}
 use Rattle.determine_side_effects.specs.graph_crate.Check.{Graph, graph_in, check_of, answer_of}
 use Rattle.determine_side_effects.specs.graph_access_crate.Names.{resolved_exports}
 use Rattle.determine_side_effects.specs.graph_access_crate.Words.{module_of}
@@ -29,6 +28,7 @@ use Rattle.rust_run.specs.IncludeStatements.{Rounding, rounding}
 use Rattle.rust_run.proofs.Starting.{ExportsOf, ByExports, bailouts_onward}
 use Rattle.rust_run.proofs.Level.{Level, every_onto, loaded, level-whole, level-exactly, starts-hold, lines_stay, level-more}
 use Rattle.rust_run.proofs.Tried.{Beside}
+use Rattle.std.specs.Prelude.{Ok}
 
 -- behind the first k
 pub drop_at : (k j : ℕ) (xs : List Line) → get_or (drop k xs) j no_line ≡ get_or xs (k + j) no_line
@@ -72,7 +72,7 @@ module _ (g : Graph) where
   to_bailouts P (l ∷ ls) h =
       every_append P (bailout_starts g l.fact) (bailouts_starts g ls) (one_bailout P l.fact (λ m e. h 0 m (omega arith) e)) (to_bailouts P ls (λ j m u e. h (suc j) m (omega (arith, u)) e))
 
-module _ (numbers : List ℕ) (ok : answer_of (check_of numbers) ≡ Accepted) where
+module _ (numbers : List ℕ) (ok : answer_of (check_of numbers) ≡ Ok tt) where
   abbrev g' : Graph
   g' = graph_in numbers
 

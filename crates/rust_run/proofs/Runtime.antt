@@ -1,7 +1,6 @@
 -- The runtime stage: the Rust's second context over the rows of the first, beside the run's lines behind those of its main part.
 use Rattle.std.proofs.Common.{◌≡◌, ℕ, zero, suc, ◌+◌, ◌-◌, ◌*◌, ◌<◌, ◌≤◌, Bool, true, false, eqb, ◌⊎◌, ◌↔◌, List, [], ◌∷◌, ◌++◌, map, length, get_or, sym, refl, ap, ◌∙◌, subst, inl, inr, arith}
 use mathlib.Core.Bool.{false≢true}
-use Rattle.determine_side_effects.specs.graph_crate.declared.Checked.TheVariants.{Accepted}
 use Rattle.determine_side_effects.specs.graph_crate.Check.{Graph, graph_in, check_of, answer_of}
 use Rattle.determine_side_effects.specs.graph_access_crate.Names.{only}
 use Rattle.determine_side_effects.specs.graph_access_crate.Words.{flag, tabulate, normal}
@@ -31,6 +30,7 @@ use Rattle.rust_run.proofs.Stage.{HasStage, stage_smallest}
 use Rattle.rust_run.proofs.Grouping.{filter_those}
 use Rattle.rust_run.proofs.Level.{Level, loaded, every_onto, level-good, level-whole, level-exactly}
 use Rattle.rust_run.proofs.Tried.{both, lines-has}
+use Rattle.std.specs.Prelude.{Ok}
 
 -- what include_runtime_symbol starts
 module _ (g : Graph) (v : List ℕ) (b : Context) where
@@ -92,7 +92,7 @@ module _ (g : Graph) (v : List ℕ) (b : Context) where
             };
       })
 
-module _ (numbers : List ℕ) (ok : answer_of (check_of numbers) ≡ Accepted) where
+module _ (numbers : List ℕ) (ok : answer_of (check_of numbers) ≡ Ok tt) where
   abbrev g' : Graph
   g' = graph_in numbers
 

@@ -1,7 +1,6 @@
 -- The tries of dynamic entries: the Rust's beside the run's.
 use Rattle.std.proofs.Common.{◌≡◌, ℕ, zero, suc, ◌<◌, Bool, true, false, ◌||◌, eqb, ◌⊎◌, ◌↔◌, List, [], ◌∷◌, ◌++◌, length, sym, refl, ap, ◌∙◌, subst, inl, inr, eq-eqb, eqb-true}
 use mathlib.Core.Bool.{false≢true}
-use Rattle.determine_side_effects.specs.graph_crate.declared.Checked.TheVariants.{Accepted}
 use Rattle.determine_side_effects.specs.graph_crate.Check.{Graph, graph_in, check_of, answer_of}
 use Rattle.determine_side_effects.specs.graph_access_crate.Names.{related}
 use Rattle.determine_side_effects.specs.graph_access_crate.Words.{normal, entry_of, statement_list}
@@ -30,13 +29,14 @@ use Rattle.rust_run.specs.IncludeStatements.{Rounding, rounding, insert_if, Proc
 use Rattle.rust_run.proofs.Starting.{entry_onward}
 use Rattle.rust_run.proofs.Level.{Level, loaded, level-whole, level-exactly, level-onward}
 use Rattle.rust_run.proofs.Trying.{dead_pairs, entry_unused, alive_same}
+use Rattle.std.specs.Prelude.{Ok}
 
 pub both : (b c : Bool) → (b ≡ true → c ≡ true) → (c ≡ true → b ≡ true) → b ≡ c
 both true c f h = sym (f refl)
 both false true f h = h refl
 both false false f h = refl
 
-module _ (numbers : List ℕ) (ok : answer_of (check_of numbers) ≡ Accepted) where
+module _ (numbers : List ℕ) (ok : answer_of (check_of numbers) ≡ Ok tt) where
   abbrev g : Graph
   g = graph_in numbers
 

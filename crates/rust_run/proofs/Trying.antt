@@ -2,7 +2,6 @@
 use Rattle.std.proofs.Common.{◌≡◌, ℕ, ◌<◌, Bool, true, false, not, ◌&&◌, ◌||◌, eqb, ltb, List, [], ◌∷◌, ◌++◌, length, get_or, sym, refl, ap, ◌∙◌, append_assoc, append-nil, arith, le-ltb, eq-eqb, ne_eqb, eqb-true}
 use borrow.Author.Tests.{eqb-false}
 use Rattle.determine_side_effects.specs.graph_tables_crate.Tables.{header_in}
-use Rattle.determine_side_effects.specs.graph_crate.declared.Checked.TheVariants.{Accepted}
 use Rattle.determine_side_effects.specs.graph_crate.Check.{Graph, graph_in, check_of, answer_of}
 use Rattle.determine_side_effects.specs.graph_crate.Loaded.{Loaded}
 use Rattle.determine_side_effects.specs.graph_access_crate.Names.{entry_kind, related, related_module, related_statement, related_import_record, unreachable}
@@ -22,6 +21,7 @@ use Rattle.rust_engine.specs.Context.{Context}
 use Rattle.rust_engine.specs.Tables.{has_side_effects}
 use Rattle.rust_order.specs.DynamicEntries.{entry_idx}
 use Rattle.rust_run.specs.DynamicEntries.{alive, unused, related_record, all_dead_pure_dynamic_import, exports_unused, lived, any_lived, is_dynamic_entry_alive, is_alive}
+use Rattle.std.specs.Prelude.{Ok}
 
 -- What a dead entry leaves ---------------------------------------------------------------------------------------------------------------
 
@@ -98,7 +98,7 @@ reached : {numbers tables : List ℕ} → Loaded numbers tables → (e k : ℕ) 
 unfolding unreachable related entry_of graph_in
 reached {numbers} t e k l u = (related_good numbers _ t.of_entries e l k u).flag
 
-pub rows_good : (numbers : List ℕ) → answer_of (check_of numbers) ≡ Accepted → (e : ℕ) → e < (graph_in numbers).header.entries → Every (RowGood (graph_in numbers)) (related (entry_of (graph_in numbers) e))
+pub rows_good : (numbers : List ℕ) → answer_of (check_of numbers) ≡ Ok tt → (e : ℕ) → e < (graph_in numbers).header.entries → Every (RowGood (graph_in numbers)) (related (entry_of (graph_in numbers) e))
 unfolding graph_in
 rows_good numbers ok e l =
     let t = (accepted_tabled numbers ok).holds in
@@ -169,7 +169,7 @@ dynamic_walk g v c e d =
 pub entry_unused : (g : Graph) (v : List ℕ) (c : Context) (e : ℕ) → is_dynamic g e ≡ true → (out : List Pair) → is_dynamic_entry_alive g v c e ≡ unused out → out ≡ dead_pairs g v (related (entry_of g e))
 entry_unused g v c e d out h = unused_are g v c (module_of_entry g e) [] (related (entry_of g e)) out (sym (dynamic_walk g v c e d) ∙ h)
 
-module _ (numbers : List ℕ) (ok : answer_of (check_of numbers) ≡ Accepted) (v : List ℕ) (c : Context) where
+module _ (numbers : List ℕ) (ok : answer_of (check_of numbers) ≡ Ok tt) (v : List ℕ) (c : Context) where
   pub alive_same : (e : ℕ) → e < (graph_in numbers).header.entries → is_dynamic (graph_in numbers) e ≡ true → (kept : Fact → Bool)
       → ((m i : ℕ) → m < (graph_in numbers).header.modules → i < length (statement_list (graph_in numbers) m) → has_pair m i c.statements ≡ kept (statement_fact m i))
       → is_alive (is_dynamic_entry_alive (graph_in numbers) v c e) ≡ lives (graph_in numbers) v kept e

@@ -1,6 +1,5 @@
 -- T11: where the Rust returns on an accepted graph, its outcome is what a run answers. The theorems are in proofs/OfRuns.antt.
 use Rattle.std.specs.Prelude.{◌≡◌, ℕ, ◌+◌, ◌*◌, ◌<◌, ◌≤◌, true, false, ◌⊎◌, ◌↔◌, List, length}
-use Rattle.determine_side_effects.specs.graph_crate.declared.Checked.TheVariants.{Accepted}
 use Rattle.determine_side_effects.specs.graph_crate.Check.{Graph, graph_in, check_of, answer_of}
 use Rattle.determine_side_effects.specs.graph_access_crate.Names.{owner, import_records}
 use Rattle.determine_side_effects.specs.graph_access_crate.Words.{symbol_of, module_of, option}
@@ -18,6 +17,7 @@ use Rattle.run_parts.specs.Operation.{Rooms, outcome_of, done, enough}
 use Rattle.rust_values.specs.Values.{pair, In}
 use Rattle.rust_engine.specs.EntryPoints.{ShownBy, ReasonBy}
 use Rattle.rust_run.specs.IncludeStatements.{Outcome, Returns}
+use Rattle.std.specs.Prelude.{Ok}
 
 -- The verdicts are the last ones. Modules, statements, used and external symbols are those of both stages' lines; json and namespace reasons those of the main part's; the dead
 -- records, the helper words, the final entries in their order and the number of rounds are the run's.
@@ -41,7 +41,7 @@ pub record AsRust (g : Graph) : Type 0 where
 -- T11, for all numbers, with no other hypothesis than that they are accepted, ask for no other rounds, and that the Rust returns
 abbrev pub RustAgrees : Type 0
 RustAgrees =
-    (numbers : List ℕ) → answer_of (check_of numbers) ≡ Accepted → AsRust (graph_in numbers)
+    (numbers : List ℕ) → answer_of (check_of numbers) ≡ Ok tt → AsRust (graph_in numbers)
     → (o : Outcome) → Returns (graph_in numbers) o → Agrees (graph_in numbers) o (run_of (graph_in numbers))
 
 -- the same over the operation: for every run that is not refused
@@ -52,5 +52,5 @@ EveryRunAgrees =
 -- and a run answers on every accepted graph, with rows that are long enough, whether the Rust returns or not
 abbrev pub RunAnswers : Type 0
 RunAnswers =
-    (numbers : List ℕ) (room : Rooms) → answer_of (check_of numbers) ≡ Accepted → enough (graph_in numbers) room ≡ true
+    (numbers : List ℕ) (room : Rooms) → answer_of (check_of numbers) ≡ Ok tt → enough (graph_in numbers) room ≡ true
     → 12 * mark_count (graph_in numbers) ≤ room.lines → outcome_of numbers room ≡ done (graph_in numbers) (run_of (graph_in numbers))

@@ -8,11 +8,11 @@ use Rattle.determine_side_effects.specs.graph_access_crate.Words.{module_of, sym
 use Rattle.answer_rows.specs.Shown.{bytes_before}
 use Rattle.dynamic_entries.specs.Alive.{records_before}
 use Rattle.run_parts.specs.declared.Totals.{Totals}
-use Rattle.run_parts.specs.declared.Ran.TheVariants.{Done}
 use Rattle.run_parts.specs.Operation.{Rows, Runs}
 use Rattle.rust_values.specs.Values.{pair, In}
 use Rattle.rust_run.specs.IncludeStatements.{Outcome, Returns}
 use Rattle.rust_run.specs.Agreement.{AsRust}
+use Rattle.std.specs.Prelude.{Ok}
 
 -- bits by module, by statement from a whole byte for each module, by symbol, eight by module for its reasons (1 Unknown, 2
 -- ReExportDynamicExports), by import record; a word of helpers by module; and the final entries by number. The Rust knows no bit 6 of the options,
@@ -34,5 +34,5 @@ pub record RowsAgree (g : Graph) (o : Outcome) (rounds entries : ℕ) (after : R
 -- for every run that is not refused, whatever the numbers and the lent rows, and every outcome to which the Rust returns
 abbrev pub RunShowsRust : Type 0
 RunShowsRust =
-    (numbers : List ℕ) (lent after : Rows) (totals : Totals) → Runs numbers (Done totals) lent after
+    (numbers : List ℕ) (lent after : Rows) (totals : Totals) → Runs numbers (Ok totals) lent after
     → AsRust (graph_in numbers) → (o : Outcome) → Returns (graph_in numbers) o → RowsAgree (graph_in numbers) o totals.rounds totals.entries after

@@ -1,6 +1,5 @@
 -- T16 over the operation: for every run that is not refused (docs/RULES.md, Settled runs). The theorems are in proofs/OfRuns.antt.
 use Rattle.std.specs.Prelude.{ℕ, ◌+◌, ◌<◌, ◌≡◌, true, false, List, ◌++◌}
-use Rattle.determine_side_effects.specs.graph_crate.declared.Checked.TheVariants.{Accepted}
 use Rattle.determine_side_effects.specs.graph_crate.Check.{Graph, graph_in, check_of, answer_of}
 use Rattle.determine_side_effects.specs.graph_access_crate.Words.{option}
 use Rattle.determine_side_effects.specs.Effects.{last_verdicts}
@@ -16,6 +15,7 @@ use Rattle.run_choices.specs.DeadAtEnd.{after_rounds}
 use Rattle.settled_runs.specs.Choice.{SmallestSettled}
 use Rattle.settled_runs.specs.Until.{Idle, NoModule, Until}
 use Rattle.settled_runs.specs.Order.{SameButOrder, SameCycles, SameChoice}
+use Rattle.std.specs.Prelude.{Ok}
 
 -- With options bit 7: the facts of the main part and the live modules are the smallest settled choice; and one more try of a dynamic entry whose module is
 -- not live would find it dead, so that the dead records of bit 6 need no such condition.
@@ -36,7 +36,7 @@ EveryUntil =
 -- More rounds allowed would change nothing: it is never their bound that ends them.
 abbrev pub FuelNever : Type 0
 FuelNever =
-    (numbers : List ℕ) → answer_of (check_of numbers) ≡ Accepted → (more : ℕ)
+    (numbers : List ℕ) → answer_of (check_of numbers) ≡ Ok tt → (more : ℕ)
     → rounds_from (graph_in numbers) (last_verdicts (graph_in numbers)) (goes_on (graph_in numbers)) (rounds_fuel (graph_in numbers) + more) 0 0
     (begun (graph_in numbers) (last_verdicts (graph_in numbers)))
     ≡ main_part (graph_in numbers) (last_verdicts (graph_in numbers))

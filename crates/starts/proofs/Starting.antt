@@ -7,8 +7,6 @@ use native.Mathlib.Omega.{arith}
 use borrow.Author.Tests.{lt-ltb, le-ltb, ltb-true, ltb-false, eq-eqb, ne_eqb, eqb-true, eqb-false}
 use lib.Dec.{eqb, ltb}
 use lib.ListN.{length, get_or}
-use Rattle.determine_side_effects.specs.rows_crate.declared.Walk.{Walk}
-use Rattle.determine_side_effects.specs.rows_crate.declared.Walk.TheVariants.{At, Fault}
 use Rattle.determine_side_effects.proofs.rows_crate.Walks.{clash}
 use Rattle.determine_side_effects.specs.graph_format_crate.declared.Header.{Header}
 use Rattle.determine_side_effects.specs.graph_tables_crate.Tables.{header_in}
@@ -17,6 +15,9 @@ use Rattle.determine_side_effects.specs.graph_access_crate.Words.{statement_list
 use Rattle.determine_side_effects.specs.facts_crate.Facts.{fact_of, module_fact, Good}
 use Rattle.determine_side_effects.proofs.Lists.{both, length-tabulate, get_d_tabulate}
 use Rattle.starts.specs.Starts.{unused_fault, is_normal_index, start_fault, starts_fault, starts_walk, starts_of, StartsGood}
+use Rattle.std.specs.Prelude.{Result, Ok, Err}
+use Rattle.determine_side_effects.specs.refusal_crate.declared.Refusal.{Refusal}
+use Rattle.determine_side_effects.specs.refusal_crate.declared.Refusal.TheVariants.{OutOfRange, WrongLength}
 
 -- the counts of the header at hand
 module _ (numbers : List ℕ) {h : Header} (is : h ≡ header_in numbers) where
@@ -300,18 +301,18 @@ module _ (g : Graph) (starts : List ℕ) where
       (start_good g (get_or starts (3 * i + 1) 0) (get_or starts (3 * i + 2) 0) (get_or starts (3 * i) 0) (ap fault_at (sym z) ∙ each_start (length starts / 3) 0 e i n))
 
   -- the check's answer, and what it tells of the starts
-  abbrev Checked : Walk → Type 0
+  abbrev Checked : Result ℕ Refusal → Type 0
   Checked r = (r ≡ starts_walk g starts) × OnceRead r (StartsGood g (starts_of starts))
 
-  pub odd_checked : (length starts % 3 ≡ 0 → ⊥) → Checked (Fault 4 (length starts))
+  pub odd_checked : (length starts % 3 ≡ 0 → ⊥) → Checked (Err (WrongLength (length starts)))
   unfolding starts_walk
   odd_checked h = (rw (ne_eqb (length starts % 3) 0 h, starts_walk), record { known = λ q e. absurd (clash (sym e)) })
 
-  pub fault_checked : (f : ℕ) → length starts % 3 ≡ 0 → starts_fault g starts 0 (length starts / 3) ≡ f → (f ≡ 0 → ⊥) → Checked (Fault 3 (f - 1))
+  pub fault_checked : (f : ℕ) → length starts % 3 ≡ 0 → starts_fault g starts 0 (length starts / 3) ≡ f → (f ≡ 0 → ⊥) → Checked (Err (OutOfRange (f - 1)))
   unfolding starts_walk
   fault_checked f h e some = (rw (eq-eqb (length starts % 3) 0 h, e, ne_eqb f 0 some, starts_walk, e), record { known = λ q z. absurd (clash (sym z)) })
 
-  pub good_checked : length starts % 3 ≡ 0 → starts_fault g starts 0 (length starts / 3) ≡ 0 → Checked (At 0)
+  pub good_checked : length starts % 3 ≡ 0 → starts_fault g starts 0 (length starts / 3) ≡ 0 → Checked (Ok 0)
   unfolding starts_walk
   good_checked h e = (rw (eq-eqb (length starts % 3) 0 h, e, starts_walk), record { known = λ q z. starts_good e })
 
@@ -326,7 +327,7 @@ module _ (g : Graph) (starts : List ℕ) where
     one_left : length starts / 3 - i ≡ suc (length starts / 3 - (i + 1))
     one_left = omega (arith, l)
 
-    pub stop-checked : (f ≡ 0 → ⊥) → Checked (Fault 3 (3 * i + f - 1))
+    pub stop-checked : (f ≡ 0 → ⊥) → Checked (Err (OutOfRange (3 * i + f - 1)))
     stop-checked some =
         let e : starts_fault g starts i (suc (length starts / 3 - (i + 1))) ≡ 3 * i + fault_at i = starts_stop i (length starts / 3 - (i + 1)) (λ z. some (is ∙ z)) in
         fault_checked (3 * i + f) m (sym whole ∙ ap (λ k. starts_fault g starts i k) one_left ∙ e ∙ ap (λ k. 3 * i + k) (sym is)) (λ z. some (omega (arith, z)))
@@ -334,7 +335,7 @@ module _ (g : Graph) (starts : List ℕ) where
     pub turn-checked : f ≡ 0 → starts_fault g starts (i + 1) (length starts / 3 - (i + 1)) ≡ starts_fault g starts 0 (length starts / 3)
     turn-checked e = sym (starts_turn i (length starts / 3 - (i + 1)) (sym is ∙ e)) ∙ ap (λ k. starts_fault g starts i k) (sym one_left) ∙ whole
 
-  pub end_checked : (i : ℕ) → length starts % 3 ≡ 0 → length starts / 3 ≤ i → starts_fault g starts i (length starts / 3 - i) ≡ starts_fault g starts 0 (length starts / 3) → Checked (At 0)
+  pub end_checked : (i : ℕ) → length starts % 3 ≡ 0 → length starts / 3 ≤ i → starts_fault g starts i (length starts / 3 - i) ≡ starts_fault g starts 0 (length starts / 3) → Checked (Ok 0)
   end_checked i m l whole =
       let z : length starts / 3 - i ≡ 0 = omega (arith, l) in
       good_checked m (sym whole ∙ ap (λ k. starts_fault g starts i k) z ∙ starts_end i)

@@ -1,11 +1,12 @@
 -- The starts of a drain (docs/OPERATIONS.md, Starts, and the order of refusals under Drain).
-use Rattle.std.specs.Prelude.{ℕ, zero, suc, ◌+◌, ◌*◌, ◌-◌, ◌/◌, ◌%◌, ◌<◌, Bool, true, false, ◌&&◌, ◌||◌, List, [], ◌∷◌, eqb, ltb, length, get_or}
-use Rattle.determine_side_effects.specs.rows_crate.declared.Walk.{Walk}
-use Rattle.determine_side_effects.specs.rows_crate.declared.Walk.TheVariants.{At, Fault}
+use Rattle.std.specs.Prelude.{ℕ, zero, suc, ◌+◌, ◌*◌, ◌-◌, ◌/◌, ◌%◌, ◌<◌, Bool, true, false, ◌&&◌, ◌||◌, List, eqb, ltb, length, get_or}
 use Rattle.determine_side_effects.specs.graph_crate.Check.{Graph}
 use Rattle.determine_side_effects.specs.graph_access_crate.Words.{tabulate, statement_list, normal}
 use Rattle.determine_side_effects.specs.facts_crate.declared.Fact.{Fact}
 use Rattle.determine_side_effects.specs.facts_crate.Facts.{Good, fact_of, module_fact}
+use Rattle.std.specs.Prelude.{Result, Ok, Err}
+use Rattle.determine_side_effects.specs.refusal_crate.declared.Refusal.{Refusal}
+use Rattle.determine_side_effects.specs.refusal_crate.declared.Refusal.TheVariants.{OutOfRange, WrongLength}
 
 -- a part that is not used is 0; 3 stands for the third number of a triple, 0 for no fault
 unfoldable pub unused_fault : ℕ → ℕ
@@ -39,11 +40,11 @@ starts_fault g starts i (suc n) =
     ]
 
 -- the check of starts: 4 at their length unless they are in threes, then 3 at the first faulty number
-unfoldable pub starts_walk : Graph → List ℕ → Walk
+unfoldable pub starts_walk : Graph → List ℕ → Result ℕ Refusal
 starts_walk g starts =
     elim (eqb (length starts % 3) 0) [
-      | true ↦ elim (eqb (starts_fault g starts 0 (length starts / 3)) 0) [ true ↦ At 0 | false ↦ Fault 3 (starts_fault g starts 0 (length starts / 3) - 1) ]
-      | false ↦ Fault 4 (length starts)
+      | true ↦ elim (eqb (starts_fault g starts 0 (length starts / 3)) 0) [ true ↦ Ok 0 | false ↦ Err (OutOfRange (starts_fault g starts 0 (length starts / 3) - 1)) ]
+      | false ↦ Err (WrongLength (length starts))
     ]
 
 -- the facts of starts

@@ -9,7 +9,7 @@ ghost use Rattle.starts.specs.Starts.{unused_fault, is_normal_index, start_fault
 
 use determine_side_effects::graph_access_crate::modules;
 use determine_side_effects::index_crate::ModuleIdx;
-use determine_side_effects::rows_crate::Walk;
+use determine_side_effects::refusal_crate::Refusal;
 
 // Whether a module's index is one of a normal module.
 fn is_normal_index(numbers: &[u32], tables: &[usize], m: usize) -> bool
@@ -96,16 +96,15 @@ pub fn start_fault(numbers: &[u32], tables: &[usize], kind: usize, a: usize, b: 
 }
 
 // Whether the starts are triples of facts, or the first fault.
-pub fn check(numbers: &[u32], tables: &[usize], starts: &[u32]) -> Walk
+pub fn check(numbers: &[u32], tables: &[usize], starts: &[u32]) -> Result<usize, Refusal>
     requires { Loaded numbers.now tables.now }
     ensures { (result ≡ starts_walk (graph_in numbers.now) starts.now) × OnceRead result (StartsGood (graph_in numbers.now) (starts_of starts.now)) }
 {
     if starts.len() % 3 != 0 {
-        return Walk::Fault(4, starts.len());
+        return Err(Refusal::WrongLength(starts.len()));
     }
     let triples = starts.len() / 3;
-    let mut i: usize = 0;
-    while i < triples {
+    for i in 0..triples {
         let p = 3 * i;
         let fault = start_fault(
             numbers,
@@ -115,9 +114,8 @@ pub fn check(numbers: &[u32], tables: &[usize], starts: &[u32]) -> Walk
             determine_side_effects::rows_crate::wide(starts[p + 2]),
         );
         if fault != 0 {
-            return Walk::Fault(3, p + fault - 1);
+            return Err(Refusal::OutOfRange(p + fault - 1));
         }
-        i += 1;
     }
-    Walk::At(0)
+    Ok(0)
 }

@@ -1,6 +1,6 @@
 -- Words written into a section: it is cleared, or one word of it is written.
 use Prim.Native.Nat.{ℕ, ◌+◌, ◌-◌, ◌<◌, ◌≤◌}
-use mathlib.Core.Path.{◌≡◌, refl, ap, ◌∙◌, sym}
+use mathlib.Core.Path.{◌≡◌, ◌∙◌, sym}
 use mathlib.Core.Logic.{◌≢◌}
 use mathlib.Core.List.{List}
 use native.Mathlib.Decide.{ℕ_discrete, dec_lt}
@@ -9,7 +9,7 @@ use lib.ListN.{length, get_or, set, length-set, get_or-eq_default}
 use lib.Seq.{get_or-set_same, get_or-set_other, ext_get_or}
 use Rattle.graph_format.specs.declared.Header.{Header}
 use Rattle.tables.specs.Layout.{sizes, start_of, section, Laid, Inside, Kept}
-use Rattle.tables.proofs.Sections.{start_low, part_has, part_length, ends_inside, section-length, section_has, word_kept, kept_none, kept_set, laid_kept}
+use Rattle.tables.proofs.Sections.{part_has, part_length, ends_inside, section-length, section_has, word_kept, kept_none, kept_set, laid_kept}
 
 -- the words from `start` up to `at` are cleared
 pub record Clearing (k : ℕ) (before after : List ℕ) (at : ℕ) : Type 0 where

@@ -3,3 +3,4 @@ pub mod Layout
 -- The crates below, for the crates above.
 pub use Rattle.graph_format.specs as graph_format_crate
 pub use Rattle.graph_format.specs.rows_crate
+pub use Rattle.graph_format.specs.refusal_crate

@@ -7,7 +7,7 @@ ghost use Rattle.tables.specs.Layout.{start_of, section as section_of, Inside, K
 // The crates below, for the crates above, which list this one alone.
 pub use graph_format as graph_format_crate;
 use graph_format::Header;
-pub use graph_format::rows_crate;
+pub use graph_format::{refusal_crate, rows_crate};
 
 // The sections, in the order in which they are filled, and by which function.
 // MODULES to ENTRIES: `graph::load`. VERDICTS: `determine_side_effects::last_verdicts`. ON_DEMAND: `on_demand::fill_on_demand`.
@@ -106,11 +106,9 @@ pub fn lay_out(tables: &mut [usize], h: Header)
         h.modules,
     ];
     let mut at: usize = 11;
-    let mut k: usize = 0;
-    while k < 10 {
+    for k in 0..10 {
         tables[k] = at;
         at += sizes[k];
-        k += 1;
     }
     tables[10] = at;
 }
@@ -131,9 +129,7 @@ pub fn clear(tables: &mut [usize], k: usize)
     ensures { Kept (get_or tables.old k 0) tables.old tables.new × ((i : ℕ) → get_or (section_of k tables.new) i 0 ≡ 0) }
 {
     let end = tables[k + 1];
-    let mut at = tables[k];
-    while at < end {
+    for at in tables[k]..end {
         tables[at] = 0;
-        at += 1;
     }
 }

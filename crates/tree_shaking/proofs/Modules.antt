@@ -7,7 +7,6 @@ use native.Mathlib.Omega.{arith}
 use borrow.Author.Tests.{eq-eqb, ne_eqb}
 use lib.Dec.{eqb}
 use lib.ListN.{get_or}
-use Rattle.determine_side_effects.specs.graph_access_crate.Words.{some}
 use Rattle.determine_side_effects.specs.facts_crate.declared.Fact.{Fact}
 use Rattle.determine_side_effects.specs.facts_crate.Facts.{kind_of, module_fact}
 use Rattle.determine_side_effects.proofs.facts_crate.Folds.{some_next, some_here, some_none}

@@ -12,8 +12,6 @@ use Rattle.determine_side_effects.specs.graph_crate.Check.{Graph}
 use Rattle.determine_side_effects.specs.facts_crate.declared.Fact.{Fact}
 use Rattle.determine_side_effects.specs.Effects.{last_verdicts}
 use Rattle.keep_record.specs.declared.Line.{Line}
-use Rattle.keep_record.specs.declared.Added.{Added}
-use Rattle.keep_record.specs.declared.Added.TheVariants.{Lines, Full}
 use Rattle.keep_record.specs.Held.{lines_of}
 use Rattle.marked.specs.Marked.{marked}
 use Rattle.marked.proofs.ByLines.{marked_has}
@@ -29,6 +27,9 @@ use Rattle.entry_liveness.proofs.Plans.{untouched_none, untouched_set, planned_k
 use Rattle.entry_liveness.proofs.Passing.{tried_lives, tries_next, progress_live, progress_lives}
 use Rattle.tree_shaking.specs.Parts.{Progressed}
 use Rattle.tree_shaking.proofs.Longer.{tries_longer}
+use Rattle.std.specs.Prelude.{Result, Ok}
+use Rattle.keep_record.specs.declared.Full.{Full}
+use Rattle.keep_record.specs.Held.{no_room}
 
 -- the progress of a plan in which an entry's module was set live
 pub progress_alive : (g : Graph) (plan : List ℕ) → plan_size g.header ≤ length plan → (lines : List Line) (e : ℕ) → module_of_entry g e < g.header.modules
@@ -43,14 +44,14 @@ progress_alive g plan long lines e k = λ i. record { lines = lines; live = λ m
     dead_same x = set_elsewhere (dead_at g.header) g.header.entries plan x (g.header.entries + module_of_entry g e) 1 (λ a b. omega (arith, k))
 
 -- facts started over the lines of a progress
-pub progress_started : (g : Graph) (facts : List Fact) (before : List Line) (plan partners marks row : List ℕ) (d : ℕ) → Started g 0 facts before partners marks row (Lines d)
+pub progress_started : (g : Graph) (facts : List Fact) (before : List Line) (plan partners marks row : List ℕ) (d : ℕ) → Started g 0 facts before partners marks row (Ok d)
     → progress_in g.header (lines_of d row) plan ≡ starting g (last_verdicts g) facts (progress_in g.header before plan)
 unfolding progress_in starting
 progress_started g facts before plan partners marks row d s = λ i. record { lines = lines_after g 0 facts before partners marks row d s i; live = live_in g.header plan; dead = dead_in g.header plan }
 
 -- an entry whose module is u was set live and started, as the code says it
 pub live_entry : (g : Graph) (h : Header) → h ≡ g.header → (plan : List ℕ) (i u : ℕ) → u ≡ module_of_entry g (get_or plan i 0) → u < g.header.modules
-    → (before : List Line) (partners marks row : List ℕ) (r : Added) → Started g 0 (module_starts g u) before partners marks row r
+    → (before : List Line) (partners marks row : List ℕ) (r : Result ℕ Full) → Started g 0 (module_starts g u) before partners marks row r
     → Started g 0 (module_starts g (module_of_entry g (get_or plan i 0))) before partners marks row r
     × (set plan (h.entries + u) 1 ≡ set plan (g.header.entries + module_of_entry g (get_or plan i 0)) 1)
     × (module_of_entry g (get_or plan i 0) < g.header.modules)
@@ -119,16 +120,16 @@ module _ (g : Graph) (users : ℕ) (out : Progress) (partners marks row plan : L
       ∙ t.on
 
   module _ (pa ma row' : List ℕ) where
-    pub turn-working : (d : ℕ) → Started g 0 (module_starts g (module_of_entry g (get_or plan i 0))) (lines_of c row) pa ma row' (Lines d) → Working g 0 pa ma row' d
+    pub turn-working : (d : ℕ) → Started g 0 (module_starts g (module_of_entry g (get_or plan i 0))) (lines_of c row) pa ma row' (Ok d) → Working g 0 pa ma row' d
     turn-working d s = working_after g 0 _ (lines_of c row) pa ma row' d s
 
-    pub turn_on : (d : ℕ) → Started g 0 (module_starts g (module_of_entry g (get_or plan i 0))) (lines_of c row) pa ma row' (Lines d) → left_at g (i + 1) row' plan' d ≡ out
+    pub turn_on : (d : ℕ) → Started g 0 (module_starts g (module_of_entry g (get_or plan i 0))) (lines_of c row) pa ma row' (Ok d) → left_at g (i + 1) row' plan' d ≡ out
     turn_on d s =
         ap (λ (es : List ℕ). tries g (last_verdicts g) (drop (i + 1) es) (progress_in g.header (lines_of d row') plan')) turn_order
         ∙ ap (tries g (last_verdicts g) (drop (i + 1) (take g.header.entries plan))) (progress_started g _ (lines_of c row) plan' pa ma row' d s)
         ∙ turn_out
 
-    pub turn-full : (plan'' : List ℕ) → Started g 0 (module_starts g (module_of_entry g (get_or plan i 0))) (lines_of c row) pa ma row' Full → Progressed g users out pa ma row' plan'' Full
+    pub turn-full : (plan'' : List ℕ) → Started g 0 (module_starts g (module_of_entry g (get_or plan i 0))) (lines_of c row) pa ma row' no_room → Progressed g users out pa ma row' plan'' no_room
     unfolding starting progress_in
     turn-full plan'' s =
         record {
@@ -140,7 +141,7 @@ module _ (g : Graph) (users : ℕ) (out : Progress) (partners marks row plan : L
 
 -- rows that hold a progress
 pub progressed_as : (g : Graph) (users : ℕ) (out : Progress) (partners marks row plan : List ℕ) (c : ℕ) → Working g 0 partners marks row c → Planned g plan users → progress_in g.header (lines_of c row) plan ≡ out
-    → Progressed g users out partners marks row plan (Lines c)
+    → Progressed g users out partners marks row plan (Ok c)
 progressed_as g users out partners marks row plan c w p e =
     record {
       working = λ d q. (let z : c ≡ d = cc in rw (sym z) w);
@@ -150,11 +151,11 @@ progressed_as g users out partners marks row plan c w p e =
     }
 
 -- the same of another progress, which is equal
-pub progressed_same : (g : Graph) (users : ℕ) (p q : Progress) → p ≡ q → (partners marks row plan : List ℕ) (r : Added) → Progressed g users p partners marks row plan r → Progressed g users q partners marks row plan r
+pub progressed_same : (g : Graph) (users : ℕ) (p q : Progress) → p ≡ q → (partners marks row plan : List ℕ) (r : Result ℕ Full) → Progressed g users p partners marks row plan r → Progressed g users q partners marks row plan r
 progressed_same g users p q e partners marks row plan r s = subst (λ (x : Progress). Progressed g users x partners marks row plan r) e s
 
 -- no entry is left
-pub trying_done : (g : Graph) (users : ℕ) (out : Progress) (partners marks row plan : List ℕ) (c i : ℕ) → Trying g users out partners marks row plan c i → g.header.entries ≤ i → Progressed g users out partners marks row plan (Lines c)
+pub trying_done : (g : Graph) (users : ℕ) (out : Progress) (partners marks row plan : List ℕ) (c i : ℕ) → Trying g users out partners marks row plan c i → g.header.entries ≤ i → Progressed g users out partners marks row plan (Ok c)
 unfolding tries
 trying_done g users out partners marks row plan c i t h =
     let l : length (take g.header.entries plan) ≤ i = omega (arith, length-take-le g.header.entries plan t.planned.are_entries.long) in

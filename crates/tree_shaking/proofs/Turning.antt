@@ -9,8 +9,6 @@ use borrow.Author.Tests.{le-ltb}
 use lib.ListN.{length, get_or, drop}
 use Rattle.determine_side_effects.specs.graph_crate.Check.{Graph}
 use Rattle.determine_side_effects.specs.Effects.{last_verdicts}
-use Rattle.keep_record.specs.declared.Added.{Added}
-use Rattle.keep_record.specs.declared.Added.TheVariants.{Lines, Full}
 use Rattle.keep_record.specs.Held.{lines_of}
 use Rattle.keep_record.proofs.Rows.{lines-length}
 use Rattle.entry_order.specs.Order.{user_entries}
@@ -22,27 +20,28 @@ use Rattle.dynamic_entries.specs.Tries.{Progress, progress_in, starting, tries, 
 use Rattle.entry_liveness.proofs.Plans.{set_not}
 use Rattle.passes.specs.Bailouts.{bailouts_starts}
 use Rattle.tree_shaking.specs.declared.Reached.{Reached}
-use Rattle.tree_shaking.specs.declared.Work.{Work}
-use Rattle.tree_shaking.specs.declared.Work.TheVariants.{Done, Full as Short}
 use Rattle.tree_shaking.specs.Rounds.{bailed, round, goes_on, Ended, ended_at, rounds_from, users_starts, no_one, begun, main_part}
 use Rattle.tree_shaking.specs.Parts.{Progressed, CountsLive, TellsFurther, reached_by, MainEnds}
 use Rattle.tree_shaking.proofs.Longer.{bailed_longer, round_longer, rounds-longer, first-longer, rounds-next, rounds-last}
 use Rattle.tree_shaking.proofs.Trying.{progress_started}
+use Rattle.std.specs.Prelude.{Result, Ok}
+use Rattle.keep_record.specs.declared.Full.{Full}
+use Rattle.keep_record.specs.Held.{no_room}
 
 -- a round: its bailouts were started
 module _ (g : Graph) (users taken : ℕ) (row : List ℕ) (c : ℕ) (plan : List ℕ) (partners marks row' : List ℕ) where
-  pub bailed_is : (d : ℕ) → Started g 0 (bailouts_starts g (drop taken (lines_of c row))) (lines_of c row) partners marks row' (Lines d)
+  pub bailed_is : (d : ℕ) → Started g 0 (bailouts_starts g (drop taken (lines_of c row))) (lines_of c row) partners marks row' (Ok d)
       → progress_in g.header (lines_of d row') plan ≡ bailed g (last_verdicts g) taken (progress_in g.header (lines_of c row) plan)
   unfolding bailed progress_in
   bailed_is d s = progress_started g (bailouts_starts g (drop taken (lines_of c row))) (lines_of c row) plan partners marks row' d s
 
-  pub round_is : (d : ℕ) → Started g 0 (bailouts_starts g (drop taken (lines_of c row))) (lines_of c row) partners marks row' (Lines d)
+  pub round_is : (d : ℕ) → Started g 0 (bailouts_starts g (drop taken (lines_of c row))) (lines_of c row) partners marks row' (Ok d)
       → tries g (last_verdicts g) (sorted_entries g) (progress_in g.header (lines_of d row') plan) ≡ round g (last_verdicts g) taken (progress_in g.header (lines_of c row) plan)
   unfolding round
   round_is d s = ap (tries g (last_verdicts g) (sorted_entries g)) (bailed_is d s)
 
-  pub round_full : (plan' : List ℕ) → Started g 0 (bailouts_starts g (drop taken (lines_of c row))) (lines_of c row) partners marks row' Full
-      → Progressed g users (round g (last_verdicts g) taken (progress_in g.header (lines_of c row) plan)) partners marks row' plan' Full
+  pub round_full : (plan' : List ℕ) → Started g 0 (bailouts_starts g (drop taken (lines_of c row))) (lines_of c row) partners marks row' no_room
+      → Progressed g users (round g (last_verdicts g) taken (progress_in g.header (lines_of c row) plan)) partners marks row' plan' no_room
   unfolding bailed starting progress_in
   round_full plan' s =
       record {
@@ -69,7 +68,7 @@ turning_start g users partners marks row plan c w p =
 -- rows that hold what the main part comes to
 pub ended_as : (g : Graph) (users : ℕ) (out : Ended) (partners marks row plan : List ℕ) (n taken c : ℕ) → Working g 0 partners marks row c → Planned g plan users
     → ended_at n taken (progress_in g.header (lines_of c row) plan) ≡ out
-    → {x : Reached} → x ≡ record { users = users; rounds = n; taken = taken; main = c; total = c } → MainEnds g users out partners marks row plan (Done x)
+    → {x : Reached} → x ≡ record { users = users; rounds = n; taken = taken; main = c; total = c } → MainEnds g users out partners marks row plan (Ok x)
 unfolding progress_in
 ended_as g users out partners marks row plan n taken c w p e {x} i =
     record {
@@ -80,10 +79,10 @@ ended_as g users out partners marks row plan n taken c w p e {x} i =
       full = λ q. let z : ◌≡◌ {A = ℕ} 0 1 = cc in absurd (omega arith);
     }
   where
-    the : (y : Reached) → Done x ≡ Done y → x ≡ y
+    the : (y : Reached) → ◌≡◌ {A = Result Reached Full} (Ok x) (Ok y) → x ≡ y
     the y q = cc
 
-    count : (y : Reached) → Done x ≡ Done y → c ≡ y.main
+    count : (y : Reached) → ◌≡◌ {A = Result Reached Full} (Ok x) (Ok y) → c ≡ y.main
     count y q = sym (ap (λ (k : Reached). k.main) i) ∙ ap (λ (k : Reached). k.main) (the y q)
 
     lines_are : c ≡ length out.end.lines
@@ -92,7 +91,7 @@ ended_as g users out partners marks row plan n taken c w p e {x} i =
     as-reached : ◌≡◌ {A = Reached} (record { users = users; rounds = n; taken = taken; main = c; total = c }) (reached_by users out)
     as-reached = λ k. record { users = users; rounds = (e k).rounds; taken = (e k).taken; main = lines_are k; total = lines_are k }
 
-pub too_short : (g : Graph) (users : ℕ) (out : Ended) (partners marks row plan : List ℕ) → length row < 6 * length out.end.lines → MainEnds g users out partners marks row plan Short
+pub too_short : (g : Graph) (users : ℕ) (out : Ended) (partners marks row plan : List ℕ) → length row < 6 * length out.end.lines → MainEnds g users out partners marks row plan no_room
 too_short g users out partners marks row plan l =
     record {
       reached = λ x q. let z : ◌≡◌ {A = ℕ} 0 1 = cc in absurd (omega arith);
@@ -104,7 +103,7 @@ too_short g users out partners marks row plan l =
 
 module _ (g : Graph) (users : ℕ) (out : Ended) (partners marks row plan : List ℕ) (c taken made : ℕ) (t : Turning g users out partners marks row plan c taken made) where
   -- all rounds were made that may be
-  pub turning_end : 2 * g.header.modules < made → {x : Reached} → x ≡ record { users = users; rounds = made; taken = taken; main = c; total = c } → MainEnds g users out partners marks row plan (Done x)
+  pub turning_end : 2 * g.header.modules < made → {x : Reached} → x ≡ record { users = users; rounds = made; taken = taken; main = c; total = c } → MainEnds g users out partners marks row plan (Ok x)
   unfolding rounds_from
   turning_end h i = let e : 2 * g.header.modules + 1 - made ≡ 0 = omega arith in ended_as g users out partners marks row plan made taken c t.working t.planned (rw e at t.on) i
 
@@ -113,12 +112,12 @@ module _ (g : Graph) (users : ℕ) (out : Ended) (partners marks row plan : List
     one_less : rounds_from g (last_verdicts g) (goes_on g) (suc (2 * g.header.modules + 1 - (made + 1))) made taken (progress_in g.header (lines_of c row) plan) ≡ out
     one_less = let e : suc (2 * g.header.modules + 1 - (made + 1)) ≡ 2 * g.header.modules + 1 - made = omega arith in rw e t.on
 
-    pub turn-short : Progressed g users (round g (last_verdicts g) taken (progress_in g.header (lines_of c row) plan)) partners' marks' row' plan' Full → MainEnds g users out partners' marks' row' plan' Short
+    pub turn-short : Progressed g users (round g (last_verdicts g) taken (progress_in g.header (lines_of c row) plan)) partners' marks' row' plan' no_room → MainEnds g users out partners' marks' row' plan' no_room
     turn-short s =
         too_short g users out partners' marks' row' plan'
         (omega (arith, s.full refl, first-longer g (last_verdicts g) (goes_on g) (2 * g.header.modules + 1 - (made + 1)) made taken (progress_in g.header (lines_of c row) plan), ap (λ (x : Ended). length x.end.lines) one_less))
 
-    module _ (n : ℕ) (s : Progressed g users (round g (last_verdicts g) taken (progress_in g.header (lines_of c row) plan)) partners' marks' row' plan' (Lines n)) where
+    module _ (n : ℕ) (s : Progressed g users (round g (last_verdicts g) taken (progress_in g.header (lines_of c row) plan)) partners' marks' row' plan' (Ok n)) where
       lines_are : lines_of n row' ≡ (round g (last_verdicts g) taken (progress_in g.header (lines_of c row) plan)).lines
       unfolding progress_in
       lines_are = ap (λ (p : Progress). p.lines) (s.is n refl)
@@ -140,7 +139,7 @@ module _ (g : Graph) (users : ℕ) (out : Ended) (partners marks row plan : List
             ap (λ (q : Progress). goes_on g p q) (sym (s.is n refl)) ∙ sym (e p count_is count)
 
         pub turn_last : (b : Bool) → TellsFurther g c live (progress_in g.header (lines_of n row') plan') b → b ≡ false
-            → {x : Reached} → x ≡ record { users = users; rounds = made + 1; taken = c; main = n; total = n } → MainEnds g users out partners' marks' row' plan' (Done x)
+            → {x : Reached} → x ≡ record { users = users; rounds = made + 1; taken = c; main = n; total = n } → MainEnds g users out partners' marks' row' plan' (Ok x)
         turn_last b e f i =
             ended_as g users out partners' marks' row' plan' (made + 1) c n (s.working n refl) (s.planned n refl)
             ((λ k. ended_at (made + 1) (sym count_is k) (s.is n refl k))
@@ -168,7 +167,7 @@ set_beyond at count plan i h = rw (le-ltb i count h)
 
 -- the main part: the user-defined entries were started
 module _ (g : Graph) (users : ℕ) (partners marks row plan : List ℕ) where
-  pub begun_is : (d : ℕ) → Unlived g plan → Started g 0 (users_starts g (user_entries g)) [] partners marks row (Lines d) → progress_in g.header (lines_of d row) plan ≡ begun g (last_verdicts g)
+  pub begun_is : (d : ℕ) → Unlived g plan → Started g 0 (users_starts g (user_entries g)) [] partners marks row (Ok d) → progress_in g.header (lines_of d row) plan ≡ begun g (last_verdicts g)
   unfolding progress_in begun starting live_in dead_in no_one
   begun_is d u s = λ i. record { lines = lines_after g 0 (users_starts g (user_entries g)) [] partners marks row d s i; live = λ m. unlive m i; dead = λ x. undead x i }
     where
@@ -189,14 +188,14 @@ module _ (g : Graph) (users : ℕ) (partners marks row plan : List ℕ) where
           go (yes h) = set_not (dead_at g.header) g.header.entries plan x (word (g.header.entries + g.header.modules + x) (omega arith) (omega arith))
           go (no h) = set_beyond (dead_at g.header) g.header.entries plan x (omega arith)
 
-  pub main_is : (d : ℕ) → Unlived g plan → Started g 0 (users_starts g (user_entries g)) [] partners marks row (Lines d)
+  pub main_is : (d : ℕ) → Unlived g plan → Started g 0 (users_starts g (user_entries g)) [] partners marks row (Ok d)
       → rounds_from g (last_verdicts g) (goes_on g) (2 * g.header.modules + 1) 0 0 (progress_in g.header (lines_of d row) plan) ≡ main_part g (last_verdicts g)
   unfolding main_part
   main_is d u s = ap (rounds_from g (last_verdicts g) (goes_on g) (2 * g.header.modules + 1) 0 0) (begun_is d u s)
 
-  pub main_full : (plan' : List ℕ) → Started g 0 (users_starts g (user_entries g)) [] partners marks row Full → MainEnds g users (main_part g (last_verdicts g)) partners marks row plan' Short
+  pub main_full : (plan' : List ℕ) → Started g 0 (users_starts g (user_entries g)) [] partners marks row no_room → MainEnds g users (main_part g (last_verdicts g)) partners marks row plan' no_room
   unfolding main_part begun starting
   main_full plan' s = too_short g users (main_part g (last_verdicts g)) partners marks row plan' (omega (arith, s.grown.full refl, rounds-longer g (last_verdicts g) (goes_on g) (2 * g.header.modules + 1) 0 0 (begun g (last_verdicts g))))
 
-pub main_ended : (g : Graph) (users : ℕ) (a b : Ended) → a ≡ b → (partners marks row plan : List ℕ) (r : Work) → MainEnds g users a partners marks row plan r → MainEnds g users b partners marks row plan r
+pub main_ended : (g : Graph) (users : ℕ) (a b : Ended) → a ≡ b → (partners marks row plan : List ℕ) (r : Result Reached Full) → MainEnds g users a partners marks row plan r → MainEnds g users b partners marks row plan r
 main_ended g users a b e partners marks row plan r s = subst (λ (x : Ended). MainEnds g users x partners marks row plan r) e s

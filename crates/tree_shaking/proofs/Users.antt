@@ -9,7 +9,6 @@ use lib.Seq.{drop-cons, get_or-take}
 use Rattle.determine_side_effects.specs.graph_crate.Check.{Graph}
 use Rattle.determine_side_effects.specs.facts_crate.declared.Fact.{Fact}
 use Rattle.determine_side_effects.specs.Effects.{last_verdicts}
-use Rattle.keep_record.specs.declared.Added.TheVariants.{Lines, Full}
 use Rattle.keep_record.specs.Held.{lines_of}
 use Rattle.keep_record.proofs.Rows.{no_lines}
 use Rattle.worklist.specs.Drain.{drained_all}
@@ -20,6 +19,8 @@ use Rattle.entry_starts.proofs.Together.{Along, along_start, along_step, along_f
 use Rattle.dynamic_entries.specs.Sorted.{sorted_entries}
 use Rattle.dynamic_entries.specs.Tries.{Planned}
 use Rattle.tree_shaking.specs.Rounds.{users_starts}
+use Rattle.std.specs.Prelude.{Ok}
+use Rattle.keep_record.specs.Held.{no_room}
 
 -- what the entries from place i on start
 unfoldable pub users_from : Graph → ℕ → List Fact
@@ -58,15 +59,15 @@ module _ (g : Graph) (plan : List ℕ) (users : ℕ) (p : Planned g plan users) 
   users_over h = let l : length (user_entries g) ≤ i = omega (arith, p.users_are) in rw (drop_of_length-le (user_entries g) l)
 
   module _ (pa ma row : List ℕ) (c : ℕ) (a : Including g i pa ma row c) where
-    pub users-done : users ≤ i → Started g 0 (users_starts g (user_entries g)) [] pa ma row (Lines c)
+    pub users-done : users ≤ i → Started g 0 (users_starts g (user_entries g)) [] pa ma row (Ok c)
     users-done h = along_done g 0 (users_starts g (user_entries g)) [] pa ma row c (along_as g 0 _ (users_from g i) [] pa ma row c (users_over h) a)
 
     module _ (h : i < users) (u : ℕ) (e : u ≡ module_of_entry g (get_or plan i 0)) (pa' ma' row' : List ℕ) where
       here : Along g 0 (drained_all g (last_verdicts g) 0 (users_starts g (user_entries g)) []) (user_starts g u ++ users_from g (i + 1)) pa ma row c
       here = along_as g 0 _ (users_from g i) (user_starts g u ++ users_from g (i + 1)) pa ma row c (users_next h u e) a
 
-      pub users-step : (d : ℕ) → Started g 0 (user_starts g u) (lines_of c row) pa' ma' row' (Lines d) → Including g (i + 1) pa' ma' row' d
+      pub users-step : (d : ℕ) → Started g 0 (user_starts g u) (lines_of c row) pa' ma' row' (Ok d) → Including g (i + 1) pa' ma' row' d
       users-step d s = along_step g 0 _ (user_starts g u) (users_from g (i + 1)) pa ma row c here pa' ma' row' d s
 
-      pub users-full : Started g 0 (user_starts g u) (lines_of c row) pa' ma' row' Full → Started g 0 (users_starts g (user_entries g)) [] pa' ma' row' Full
+      pub users-full : Started g 0 (user_starts g u) (lines_of c row) pa' ma' row' no_room → Started g 0 (users_starts g (user_entries g)) [] pa' ma' row' no_room
       users-full s = along_full g 0 (users_starts g (user_entries g)) [] (user_starts g u) (users_from g (i + 1)) pa ma row c here pa' ma' row' s

@@ -11,7 +11,7 @@ use Rattle.entry_starts.specs.Starts.{user_starts}
 use Rattle.dynamic_entries.specs.Sorted.{sorted_entries}
 use Rattle.dynamic_entries.specs.Tries.{Progress, starting, tries}
 use Rattle.passes.specs.Bailouts.{bailouts_starts}
-use Rattle.passes.specs.Helpers.{helper_union, runtime_starts}
+use Rattle.passes.specs.Helpers.{runtime_starts}
 
 -- Step 3. A round over lines of which the first `taken` were there when the round before began: their bailouts were taken then.
 unfoldable pub bailed : Graph → List ℕ → ℕ → Progress → Progress

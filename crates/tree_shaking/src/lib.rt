@@ -20,7 +20,7 @@ ghost use Rattle.tree_shaking.specs.Parts.{Progressed, CountsLive, TellsFurther,
 use determine_side_effects::graph_access_crate::entries;
 use determine_side_effects::index_crate::EntryIdx;
 use entry_liveness::next_live;
-use keep_record::{Added, Stage};
+use keep_record::{Full, Stage};
 
 // The bit of the options by which rounds go on until nothing moves.
 const SETTLE: usize = 7;
@@ -36,13 +36,6 @@ pub struct Reached {
     pub total: usize,
 }
 
-// How the work of a run ends; or the record is too short.
-#[derive(Clone, Copy)]
-pub enum Work {
-    Done(Reached),
-    Full,
-}
-
 // Starts the user-defined entries in their order.
 fn include_user_entries(
     numbers: &[u32],
@@ -52,26 +45,19 @@ fn include_user_entries(
     lines: &mut [u32],
     plan: &[usize],
     users: usize,
-) -> Added
+) -> Result<usize, Full>
     requires prepared { Prepared numbers.now tables.now }
     requires working { Working (graph_in numbers.now) 0 partners.old marks.old lines.old 0 × Planned (graph_in numbers.now) plan.now users }
     ensures { Started (graph_in numbers.now) 0 (users_starts (graph_in numbers.now) (user_entries (graph_in numbers.now))) [] partners.new marks.new lines.new result }
 {
     let mut total: usize = 0;
-    let mut i: usize = 0;
-    while i < users {
+    for i in 0..users {
         let m = entries::entry_module(numbers, tables, EntryIdx(plan[i]));
-        match entry_starts::include_user_entry(numbers, tables, partners, marks, lines, total, m) {
-            Added::Full => {
-                return Added::Full;
-            }
-            Added::Lines(n) => {
-                total = n;
-            }
-        }
-        i += 1;
+        total = entry_starts::include_user_entry(
+            numbers, tables, partners, marks, lines, total, m,
+        )?;
     }
-    Added::Lines(total)
+    Ok(total)
 }
 
 // The entry at place i of the plan is live: its module is live from now on, and is started.
@@ -84,7 +70,7 @@ fn include_live_entry(
     plan: &mut [usize],
     count: usize,
     i: usize,
-) -> Added
+) -> Result<usize, Full>
     requires prepared { Prepared numbers.now tables.now }
     requires working { Working (graph_in numbers.now) 0 partners.old marks.old lines.old count × (plan_size (header_in numbers.now) ≤ length plan.old) × Entries (graph_in numbers.now) plan.old (header_in numbers.now).entries × (i < (header_in numbers.now).entries) }
     ensures { Started (graph_in numbers.now) 0 (module_starts (graph_in numbers.now) (module_of_entry (graph_in numbers.now) (get_or plan.old i 0))) (lines_of count lines.old) partners.new marks.new lines.new result × (plan.new ≡ set plan.old ((header_in numbers.now).entries + module_of_entry (graph_in numbers.now) (get_or plan.old i 0)) 1) × (module_of_entry (graph_in numbers.now) (get_or plan.old i 0) < (header_in numbers.now).modules) }
@@ -107,7 +93,7 @@ fn try_dynamic_entries(
     plan: &mut [usize],
     users: usize,
     count: usize,
-) -> Added
+) -> Result<usize, Full>
     requires prepared { Prepared numbers.now tables.now }
     requires working { Working (graph_in numbers.now) 0 partners.old marks.old lines.old count × Planned (graph_in numbers.now) plan.old users }
     ensures { Progressed (graph_in numbers.now) users (tries (graph_in numbers.now) (last_verdicts (graph_in numbers.now)) (sorted_entries (graph_in numbers.now)) (progress_in (header_in numbers.now) (lines_of count lines.old) plan.old)) partners.new marks.new lines.new plan.new result }
@@ -116,17 +102,10 @@ fn try_dynamic_entries(
     let mut total = count;
     let mut i = next_live(numbers, tables, marks, plan, users, users);
     while i < h.entries {
-        match include_live_entry(numbers, tables, partners, marks, lines, plan, total, i) {
-            Added::Full => {
-                return Added::Full;
-            }
-            Added::Lines(n) => {
-                total = n;
-            }
-        }
+        total = include_live_entry(numbers, tables, partners, marks, lines, plan, total, i)?;
         i = next_live(numbers, tables, marks, plan, users, i + 1);
     }
-    Added::Lines(total)
+    Ok(total)
 }
 
 // A round: the bailouts of the lines from number `taken` on, then the dynamic entries.
@@ -140,19 +119,15 @@ fn round(
     users: usize,
     count: usize,
     taken: usize,
-) -> Added
+) -> Result<usize, Full>
     requires prepared { Prepared numbers.now tables.now }
     requires working { Working (graph_in numbers.now) 0 partners.old marks.old lines.old count × Planned (graph_in numbers.now) plan.old users × (taken ≤ count) }
     ensures { Progressed (graph_in numbers.now) users (round_of (graph_in numbers.now) (last_verdicts (graph_in numbers.now)) taken (progress_in (header_in numbers.now) (lines_of count lines.old) plan.old)) partners.new marks.new lines.new plan.new result }
 {
-    match passes::include_cjs_bailout_exports(
+    let n = passes::include_cjs_bailout_exports(
         numbers, tables, partners, marks, lines, count, taken,
-    ) {
-        Added::Full => Added::Full,
-        Added::Lines(n) => try_dynamic_entries(
-            numbers, tables, partners, marks, lines, plan, users, n,
-        ),
-    }
+    )?;
+    try_dynamic_entries(numbers, tables, partners, marks, lines, plan, users, n)
 }
 
 // Whether a module is among the lines from number `from` up to `to`.
@@ -160,12 +135,10 @@ fn has_module(lines: &[u32], from: usize, to: usize) -> bool
     requires { (from ≤ to) × (6 * to ≤ length lines.now) }
     ensures { result ≡ kept_module from (lines_of to lines.now) }
 {
-    let mut k = from;
-    while k < to {
+    for k in from..to {
         if determine_side_effects::facts_crate::kind_of(keep_record::fact_at(lines, k)) == 1 {
             return true;
         }
-        k += 1;
     }
     false
 }
@@ -178,12 +151,10 @@ fn live_count(numbers: &[u32], plan: &[usize]) -> usize
     let h = determine_side_effects::graph_crate::header_of(numbers);
     let first = entry_order::live_at(h);
     let mut live: usize = 0;
-    let mut m: usize = 0;
-    while m < h.modules {
+    for m in 0..h.modules {
         if plan[first + m] == 1 {
             live += 1;
         }
-        m += 1;
     }
     live
 }
@@ -245,7 +216,7 @@ fn rounds(
     plan: &mut [usize],
     users: usize,
     count: usize,
-) -> Work
+) -> Result<Reached, Full>
     requires prepared { Prepared numbers.now tables.now }
     requires working { Working (graph_in numbers.now) 0 partners.old marks.old lines.old count × Planned (graph_in numbers.now) plan.old users }
     ensures { MainEnds (graph_in numbers.now) users (rounds_from (graph_in numbers.now) (last_verdicts (graph_in numbers.now)) (goes_on (graph_in numbers.now)) (2 * (header_in numbers.now).modules + 1) 0 0 (progress_in (header_in numbers.now) (lines_of count lines.old) plan.old)) partners.new marks.new lines.new plan.new result }
@@ -256,23 +227,17 @@ fn rounds(
     let mut made: usize = 0;
     while made <= 2 * h.modules {
         let live = live_before(numbers, plan);
-        match round(
+        let n = round(
             numbers, tables, partners, marks, lines, plan, users, total, taken,
-        ) {
-            Added::Full => {
-                return Work::Full;
-            }
-            Added::Lines(n) => {
-                made += 1;
-                if !goes_on(numbers, lines, plan, total, n, live) {
-                    return Work::Done(ended_with(users, made, total, n));
-                }
-                taken = total;
-                total = n;
-            }
+        )?;
+        made += 1;
+        if !goes_on(numbers, lines, plan, total, n, live) {
+            return Ok(ended_with(users, made, total, n));
         }
+        taken = total;
+        total = n;
     }
-    Work::Done(ended_with(users, made, taken, total))
+    Ok(ended_with(users, made, taken, total))
 }
 
 // The main part: the user-defined entries, then the rounds. The rows are cleared.
@@ -284,15 +249,13 @@ pub fn main_part(
     lines: &mut [u32],
     plan: &mut [usize],
     users: usize,
-) -> Work
+) -> Result<Reached, Full>
     requires prepared { Prepared numbers.now tables.now }
     requires working { Working (graph_in numbers.now) 0 partners.old marks.old lines.old 0 × Planned (graph_in numbers.now) plan.old users × Unlived (graph_in numbers.now) plan.old }
     ensures { MainEnds (graph_in numbers.now) users (main_part (graph_in numbers.now) (last_verdicts (graph_in numbers.now))) partners.new marks.new lines.new plan.new result }
 {
-    match include_user_entries(numbers, tables, partners, marks, lines, plan, users) {
-        Added::Full => Work::Full,
-        Added::Lines(n) => rounds(numbers, tables, partners, marks, lines, plan, users, n),
-    }
+    let n = include_user_entries(numbers, tables, partners, marks, lines, plan, users)?;
+    rounds(numbers, tables, partners, marks, lines, plan, users, n)
 }
 
 // The runtime stage: the words of the helpers, and a stage that begins with their union.
@@ -304,7 +267,7 @@ pub fn runtime_stage(
     lines: &mut [u32],
     plan: &mut [usize],
     count: usize,
-) -> Added
+) -> Result<usize, Full>
     requires prepared { Prepared numbers.now tables.now }
     requires working { Working (graph_in numbers.now) 0 partners.old marks.old lines.old count × (plan_size (header_in numbers.now) ≤ length plan.old) }
     ensures { StageEnds (graph_in numbers.now) (lines_of count lines.old) plan.old partners.new marks.new lines.new plan.new result }

@@ -1,14 +1,13 @@
 // Vectors of check.
 use crate::shape::Row;
 use crate::{shape, text};
-use graph::Checked;
 use std::io;
 
 // Checks the numbers, and prints the rest of a line.
 fn checked(rt: &impl Print, numbers: &[u32]) -> io::Result<()> {
     match graph::check(numbers) {
-        Checked::Accepted => text::word(rt, " accepted\n"),
-        Checked::Refused(n, p) => text::refused(rt, n, p),
+        Ok(()) => text::word(rt, " accepted\n"),
+        Err(why) => text::refused(rt, why.number(), why.place()),
     }
 }
 

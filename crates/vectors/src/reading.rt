@@ -1,6 +1,5 @@
 // Vectors of read.
 use crate::text;
-use leb128::Answer;
 use std::io;
 
 // Prints the first `n` numbers.
@@ -15,8 +14,8 @@ fn numbers_read(rt: &impl Print, numbers: &[u32], n: usize) -> io::Result<()> {
 fn read_into(rt: &impl Print, file: &[u8], numbers: &mut [u32]) -> io::Result<()> {
     text::word(rt, "read")?;
     match leb128::read(file, numbers) {
-        Answer::Numbers(n) => numbers_read(rt, numbers, n),
-        Answer::Refused(n, p) => text::refused(rt, n, p),
+        Ok(n) => numbers_read(rt, numbers, n),
+        Err(why) => text::refused(rt, why.number(), why.place()),
     }
 }
 

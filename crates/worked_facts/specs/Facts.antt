@@ -5,8 +5,6 @@ use Rattle.leb128.specs.Read.{Decoded, all, refused, before, numbers_from, read_
 use Rattle.determine_side_effects.specs.rows_crate.Walk.{got, fault, within, obeys, number, cells, many, elem, repeated, firsts, list, plain_row, distinct_row, lists, item, and_then}
 use Rattle.determine_side_effects.specs.graph_format_crate.Format.{header_rules, header_of, namespace_limit, least_statements, statement_limit, module_rules, import_lists, export_lists, name_lists, module_lists, module_at, less_module, modules_at, kind_of, statements_of, import_records_of, symbol_rules, owners_counts, symbol_lists, symbol_at, symbols_at, depended_at, member_rules, parts_at, reference_at, statement_lists, statement_at, module_statements, statements_at, related_module_at, related_import_record_at, related_at, entry_at, entries_at}
 use Rattle.determine_side_effects.specs.graph_tables_crate.Tables.{first_of}
-use Rattle.determine_side_effects.specs.graph_crate.declared.Checked.{Checked}
-use Rattle.determine_side_effects.specs.graph_crate.declared.Checked.TheVariants.{Accepted, Refused}
 use Rattle.determine_side_effects.specs.graph_crate.Check.{helpers_at, graph_at, walked, each, runtime_normal, owns_namespace, root_is_root, later_rules, check_of, answer_of}
 use Rattle.determine_side_effects.specs.graph_access_crate.Words.{flag, tabulate, some, module_of, symbol_of, statement_list, statement_of, normal, option}
 use Rattle.determine_side_effects.specs.facts_crate.Facts.{fact_of, mark_of, mark_count}
@@ -23,21 +21,24 @@ use Rattle.starts.specs.Starts.{starts_of}
 use Rattle.determine_side_effects.specs.graph_access_crate.Names.{kind, effects, exports, module_type, flags, wrap, wrapper, namespace, reexport_count, statement_count, scan_effects, scan_statement_count, import_records, dependencies, named_imports, own_exports, entry_references, common_js_export_symbols, resolved_exports, common_js_namespaces, enum_members, module_helpers, only, import_record_target, import_record_kind, import_record_bits, export_name, export_symbol, export_from_common_js, namespace_symbol, namespace_module, enum_name, enum_member, helper_number, helper_statement, owner, symbol_name, root, alias_namespace, alias_name, constant_bits, export_chain, declaring_statements, written_property_statements, statement_bits, statement_import_records, references, reference_kind, reference_symbol, reference_flag, property_count, first_property, depended_on, entry_module, entry_kind, related, related_module, related_statement, related_import_record, unreachable}
 use Rattle.determine_side_effects.specs.graph_access_crate.Lists.{place_of, module_widths, symbol_widths, module_limits, symbol_limits}
 use Rattle.determine_side_effects.specs.graph_access_crate.Words.{root_of}
+use Rattle.std.specs.Prelude.{Result, Ok, Err}
+use Rattle.determine_side_effects.specs.refusal_crate.declared.Refusal.{Refusal}
+use Rattle.determine_side_effects.specs.refusal_crate.declared.Refusal.TheVariants.{NoNumber, WrongLength}
 
 -- a file with room for so many numbers reads as this; numbers are checked with this answer; the last verdicts of a graph are these; the
 -- record of a drain of a graph by these starts is this
 pub data Fact : Type 0 where
   reads : List ℕ → ℕ → Decoded → Fact
-  checks : List ℕ → Checked → Fact
+  checks : List ℕ → Result Unit Refusal → Fact
   settles : List ℕ → List ℕ → Fact
   drains : List ℕ → List ℕ → List ℕ → Fact
 
 -- of an accepted graph
 unfoldable pub verdicts_in : List ℕ → List ℕ
-verdicts_in numbers = elim (check_of numbers) [ got g q ↦ last_verdicts g | fault n p ↦ [] ]
+verdicts_in numbers = elim (check_of numbers) [ got g q ↦ last_verdicts g | fault why ↦ [] ]
 
 unfoldable pub record_in : List ℕ → List ℕ → List ℕ
-record_in numbers starts = elim (check_of numbers) [ got g q ↦ written (drain_of g (last_verdicts g) (starts_of starts)) | fault n p ↦ [] ]
+record_in numbers starts = elim (check_of numbers) [ got g q ↦ written (drain_of g (last_verdicts g) (starts_of starts)) | fault why ↦ [] ]
 
 abbrev pub Holds : Fact → Type 0
 Holds (reads file room d) = read_of file room ≡ d
@@ -75,11 +76,11 @@ member_written = 1 ∷ 0 ∷ 2 ∷ 3 ∷ 3 ∷ 0 ∷ 0 ∷ 1 ∷ 0 ∷ 0 ∷ 0 �
 abbrev pub table : List Fact
 table =
     reads (0x00 ∷ []) 1 (all (0 ∷ []))
-    ∷ reads (0x80 ∷ 0x00 ∷ []) 1 (refused 1 0)
+    ∷ reads (0x80 ∷ 0x00 ∷ []) 1 (refused (NoNumber 0))
     ∷ reads (0xff ∷ 0xff ∷ 0xff ∷ 0xff ∷ 0x0f ∷ []) 1 (all (4294967295 ∷ []))
-    ∷ reads (0xff ∷ 0xff ∷ 0xff ∷ 0xff ∷ 0x10 ∷ []) 1 (refused 1 0)
-    ∷ checks printed Accepted
-    ∷ checks [] (Refused 4 0)
+    ∷ reads (0xff ∷ 0xff ∷ 0xff ∷ 0xff ∷ 0x10 ∷ []) 1 (refused (NoNumber 0))
+    ∷ checks printed (Ok tt)
+    ∷ checks [] (Err (WrongLength 0))
     ∷ drains printed [] []
     ∷ settles imports (0 ∷ 0 ∷ 2 ∷ 1 ∷ [])
     ∷ drains unrecorded (1 ∷ 1 ∷ 0 ∷ []) (1 ∷ 1 ∷ 0 ∷ 0 ∷ 0 ∷ 0 ∷ [])

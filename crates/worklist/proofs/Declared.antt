@@ -14,11 +14,12 @@ use Rattle.determine_side_effects.specs.facts_crate.Facts.{statement_fact}
 use Rattle.determine_side_effects.specs.graph_access_crate.Words.{tabulate, symbol_of, statement_list}
 use Rattle.determine_side_effects.proofs.facts_crate.Folds.{tabulate_next, tabulate-none}
 use Rattle.keep_record.specs.declared.Line.{Line}
-use Rattle.keep_record.specs.declared.Added.TheVariants.{Lines, Full}
 use Rattle.keep_record.specs.Lines.{added, adds}
 use Rattle.keep_record.specs.Held.{lines_of, Held, Grown, Writable}
 use Rattle.worklist.specs.Drain.{line, joined}
 use Rattle.include_statements.proofs.Going.{Going, go_start, go_step, go_full, go_done}
+use Rattle.std.specs.Prelude.{Ok}
+use Rattle.keep_record.specs.Held.{no_room}
 
 -- statement i of those that declare symbol s, and those from i on
 unfoldable pub joined_at : Graph → ℕ → ℕ → ℕ → ℕ → Line
@@ -53,16 +54,16 @@ module _ (numbers : List ℕ) (s a b n : ℕ) (size : n ≡ length (declaring_st
 
   module _ (base : ℕ) (out : List Line) (count : ℕ) (marks row : List ℕ) (c i : ℕ) (go : Going (graph_in numbers) base out (joined_from (graph_in numbers) s a b n i) count marks row c) where
     pub declare-step : i < n → (o : ModuleIdx) (x : StmtIdx) → o.0 ≡ owner (symbol_of (graph_in numbers) s) → x.0 ≡ only (get_or (declaring_statements (symbol_of (graph_in numbers) s)) i [])
-        → (marks' row' : List ℕ) (d : ℕ) → Grown (graph_in numbers) base (added (graph_in numbers) base (lines_of c row) (record { fact = Statement o x; rule = 1; because = a; and = b })) marks' row' (Lines d)
+        → (marks' row' : List ℕ) (d : ℕ) → Grown (graph_in numbers) base (added (graph_in numbers) base (lines_of c row) (record { fact = Statement o x; rule = 1; because = a; and = b })) marks' row' (Ok d)
         → Going (graph_in numbers) base out (joined_from (graph_in numbers) s a b n (i + 1)) count marks' row' d
     declare-step h o x e q marks' row' d w = go_step _ base out count marks row c _ _ (rw (joined-next i h o x e q) at go) marks' row' d w
 
     pub declare-full : i < n → (o : ModuleIdx) (x : StmtIdx) → o.0 ≡ owner (symbol_of (graph_in numbers) s) → x.0 ≡ only (get_or (declaring_statements (symbol_of (graph_in numbers) s)) i [])
-        → (marks' row' : List ℕ) → Grown (graph_in numbers) base (added (graph_in numbers) base (lines_of c row) (record { fact = Statement o x; rule = 1; because = a; and = b })) marks' row' Full
-        → Grown (graph_in numbers) base out marks' row' Full
+        → (marks' row' : List ℕ) → Grown (graph_in numbers) base (added (graph_in numbers) base (lines_of c row) (record { fact = Statement o x; rule = 1; because = a; and = b })) marks' row' no_room
+        → Grown (graph_in numbers) base out marks' row' no_room
     declare-full h o x e q marks' row' w = go_full _ base out count marks row c _ _ (rw (joined-next i h o x e q) at go) marks' row' w
 
-    pub declare-done : n ≤ i → Grown (graph_in numbers) base out marks row (Lines c)
+    pub declare-done : n ≤ i → Grown (graph_in numbers) base out marks row (Ok c)
     declare-done h = go_done _ base out count marks row c (rw (joined_none i h) at go)
 
   pub declare_start : (base : ℕ) (marks row : List ℕ) (c : ℕ) → Held (graph_in numbers) base marks row c

@@ -10,8 +10,6 @@ use Rattle.determine_side_effects.specs.graph_crate.Check.{Graph}
 use Rattle.determine_side_effects.specs.facts_crate.declared.Fact.{Fact}
 use Rattle.determine_side_effects.specs.facts_crate.Facts.{mark_count, module_fact, fact_of, Good}
 use Rattle.keep_record.specs.declared.Line.{Line}
-use Rattle.keep_record.specs.declared.Added.{Added}
-use Rattle.keep_record.specs.declared.Added.TheVariants.{Lines, Full}
 use Rattle.keep_record.specs.Lines.{added, adds}
 use Rattle.keep_record.specs.Held.{lines_of, Held, Grown, Writable}
 use Rattle.keep_record.proofs.Rows.{lines-length, no_lines, tabulate-length, tabulate-at}
@@ -23,8 +21,11 @@ use Rattle.starts.specs.Starts.{StartsGood}
 use Rattle.include_statements.proofs.Going.{full_more, grown_as, grown_longer}
 use Rattle.worklist.proofs.Handled.{count_more}
 use Rattle.worklist.proofs.Ends.{drained_stop, drained_next, drained_longer, started_longer, all_longer}
+use Rattle.std.specs.Prelude.{Result, Ok}
+use Rattle.keep_record.specs.declared.Full.{Full}
+use Rattle.keep_record.specs.Held.{no_room}
 
-not_full : (g : Graph) (base : ℕ) (links row : List ℕ) → AllLinked g base links row Full
+not_full : (g : Graph) (base : ℕ) (links row : List ℕ) → AllLinked g base links row no_room
 not_full g base links row = record { known = λ c q. let z : ◌≡◌ {A = ℕ} 0 1 = cc in absurd (omega arith) }
 
 pub record Draining (g : Graph) (v : List ℕ) (base : ℕ) (out : List Line) (k : ℕ) (links marks row : List ℕ) (c at : ℕ) : Type 0 where
@@ -50,7 +51,7 @@ module _ (g : Graph) (v : List ℕ) (base : ℕ) (out : List Line) (k : ℕ) (li
       sym (drained_next g v base (mark_count g + k - (at + 1)) at (lines_of c row) l) ∙ ap (λ n. drained g v base n at (lines_of c row)) (sym z) ∙ s.on
 
   pub drain_step : at < c → c ≤ base + mark_count g → (links' marks' row' : List ℕ) (d : ℕ)
-      → Grown g base (adds g base (lines_of c row) (news g v base (lines_of c row) at)) marks' row' (Lines d) × StillLinked g base links' row' (at + 1) (Lines d) → Draining g v base out k links' marks' row' d (at + 1)
+      → Grown g base (adds g base (lines_of c row) (news g v base (lines_of c row) at)) marks' row' (Ok d) × StillLinked g base links' row' (at + 1) (Ok d) → Draining g v base out k links' marks' row' d (at + 1)
   drain_step h few links' marks' row' d w =
       record {
         held = (w.0.held d refl).1;
@@ -62,12 +63,12 @@ module _ (g : Graph) (v : List ℕ) (base : ℕ) (out : List Line) (k : ℕ) (li
       }
 
   pub drain_full : at < c → c ≤ base + mark_count g → (links' marks' row' : List ℕ)
-      → Grown g base (adds g base (lines_of c row) (news g v base (lines_of c row) at)) marks' row' Full × StillLinked g base links' row' (at + 1) Full → Grown g base out marks' row' Full × AllLinked g base links' row' Full
+      → Grown g base (adds g base (lines_of c row) (news g v base (lines_of c row) at)) marks' row' no_room × StillLinked g base links' row' (at + 1) no_room → Grown g base out marks' row' no_room × AllLinked g base links' row' no_room
   drain_full h few links' marks' row' w =
       let more = drained_longer g v base (mark_count g + k - (at + 1)) (at + 1) (adds g base (lines_of c row) (news g v base (lines_of c row) at)) in
       (full_more g base _ out marks' row' (omega (arith, more, ap length (taken h few))) w.0, not_full g base links' row')
 
-  pub drain_done : c ≤ at → Grown g base out marks row (Lines c) × AllLinked g base links row (Lines c)
+  pub drain_done : c ≤ at → Grown g base out marks row (Ok c) × AllLinked g base links row (Ok c)
   drain_done h =
       let size = lines-length c row in
       let z : length (lines_of c row) ≤ at = omega (arith, size) in (
@@ -80,12 +81,12 @@ pub start_writable : (g : Graph) (c : ℕ) (f : Fact) → Good g f → Writable 
 start_writable g c f h = record { good_fact = h; rule_small = omega arith; because_earlier = omega arith; and_earlier = omega arith }
 
 module _ (g : Graph) (base : ℕ) (row : List ℕ) (c : ℕ) (f : Fact) where
-  pub start_full : (v links' marks' row' : List ℕ) → Grown g base (added g base (lines_of c row) (line f 0 0 0)) marks' row' Full
-      → Grown g base (started g v base (lines_of c row) f) marks' row' Full × AllLinked g base links' row' Full
+  pub start_full : (v links' marks' row' : List ℕ) → Grown g base (added g base (lines_of c row) (line f 0 0 0)) marks' row' no_room
+      → Grown g base (started g v base (lines_of c row) f) marks' row' no_room × AllLinked g base links' row' no_room
   start_full v links' marks' row' w = (full_more g base _ _ marks' row' (started_longer g v base (lines_of c row) f) w, not_full g base links' row')
 
   -- its line stands
-  module _ (marks' row' : List ℕ) (n : ℕ) (w : Grown g base (added g base (lines_of c row) (line f 0 0 0)) marks' row' (Lines n)) where
+  module _ (marks' row' : List ℕ) (n : ℕ) (w : Grown g base (added g base (lines_of c row) (line f 0 0 0)) marks' row' (Ok n)) where
     pub start-more : c ≤ n
     start-more = omega (arith, grown_longer g base _ marks' row' n w, added_longer g base (lines_of c row) (line f 0 0 0), lines-length c row)
 
@@ -98,7 +99,7 @@ module _ (g : Graph) (base : ℕ) (row : List ℕ) (c : ℕ) (f : Fact) where
         let e : take c (lines_of n row') ≡ lines_of c row = ap (take c) ((w.held n refl).0 ∙ p.1) ∙ take-append-le c (lines_of c row) p.0 b ∙ take_all c (lines_of c row) a in
         rw e t
 
-    pub start-done : (v links'' marks'' row'' : List ℕ) (r : Added) → Grown g base (drained g v base (mark_count g) c (lines_of n row')) marks'' row'' r × AllLinked g base links'' row'' r
+    pub start-done : (v links'' marks'' row'' : List ℕ) (r : Result ℕ Full) → Grown g base (drained g v base (mark_count g) c (lines_of n row')) marks'' row'' r × AllLinked g base links'' row'' r
         → Grown g base (started g v base (lines_of c row) f) marks'' row'' r × AllLinked g base links'' row'' r
     unfolding started
     start-done v links'' marks'' row'' r u =
@@ -138,7 +139,7 @@ module _ (g : Graph) (v : List ℕ) (base : ℕ) (out : List Line) (fs : List Fa
         let first : drop i fs ≡ f ∷ drop (i + 1) fs = drop-cons fs i (module_fact 0) h ∙ ap (λ x. x ∷ drop (suc i) fs) (sym is) ∙ ap (λ j. f ∷ drop j fs) (sym (add-one i)) in
         ap (λ xs. drained_all g v base xs (lines_of c row)) (sym first) ∙ s.on
 
-    pub starts-step : (links' marks' row' : List ℕ) (d : ℕ) → Grown g base (started g v base (lines_of c row) f) marks' row' (Lines d) × AllLinked g base links' row' (Lines d) → Starting g v base out fs links' marks' row' d (i + 1)
+    pub starts-step : (links' marks' row' : List ℕ) (d : ℕ) → Grown g base (started g v base (lines_of c row) f) marks' row' (Ok d) × AllLinked g base links' row' (Ok d) → Starting g v base out fs links' marks' row' d (i + 1)
     starts-step links' marks' row' d u =
         record {
           held = (u.0.held d refl).1;
@@ -146,12 +147,12 @@ module _ (g : Graph) (v : List ℕ) (base : ℕ) (out : List Line) (fs : List Fa
           on = ap (λ ls. drained_all g v base (drop (i + 1) fs) ls) (u.0.held d refl).0 ∙ begun;
         }
 
-    pub starts-full : (marks' row' : List ℕ) → Grown g base (started g v base (lines_of c row) f) marks' row' Full → Grown g base out marks' row' Full
+    pub starts-full : (marks' row' : List ℕ) → Grown g base (started g v base (lines_of c row) f) marks' row' no_room → Grown g base out marks' row' no_room
     starts-full marks' row' u =
         let more = all_longer g v base (drop (i + 1) fs) (started g v base (lines_of c row) f) in
         full_more g base _ out marks' row' (omega (arith, more, ap length begun)) u
 
-  pub starts_done : length fs ≤ i → Grown g base out marks row (Lines c)
+  pub starts_done : length fs ≤ i → Grown g base out marks row (Ok c)
   unfolding drained_all
   starts_done h = grown_as g base out marks row c (ap (λ xs. drained_all g v base xs (lines_of c row)) (sym (drop_of_length-le fs h)) ∙ s.on) s.held
 

@@ -9,8 +9,6 @@ use Rattle.determine_side_effects.specs.graph_crate.Check.{Graph}
 use Rattle.determine_side_effects.specs.facts_crate.declared.Fact.{Fact}
 use Rattle.determine_side_effects.specs.facts_crate.Facts.{module_fact}
 use Rattle.keep_record.specs.declared.Line.{Line}
-use Rattle.keep_record.specs.declared.Added.{Added}
-use Rattle.keep_record.specs.declared.Added.TheVariants.{Lines, Full}
 use Rattle.keep_record.specs.Lines.{adds}
 use Rattle.keep_record.specs.Held.{line_at, lines_of, Grown}
 use Rattle.keep_record.proofs.Rows.{lines-length, lines_at}
@@ -20,12 +18,15 @@ use Rattle.include_statements.specs.Following.{line_by, lines_by}
 use Rattle.worklist.specs.Drain.{line, fact_at, joins, followed, news}
 use Rattle.worklist.specs.Links.{Linked, LinkReady, StillLinked}
 use Rattle.include_statements.proofs.Going.{both_full, both_added, grown_longer}
+use Rattle.std.specs.Prelude.{Result, Ok}
+use Rattle.keep_record.specs.declared.Full.{Full}
+use Rattle.keep_record.specs.Held.{no_room}
 
 -- the first lines stay
 pub take-adds : (g : Graph) (base : ℕ) (lines ls : List Line) (n : ℕ) → n ≤ length lines → take n (adds g base lines ls) ≡ take n lines
 take-adds g base lines ls n h = let p = adds_prefix g base lines ls in ap (take n) p.1 ∙ take-append-le n lines p.0 h
 
-module _ (g : Graph) (base : ℕ) (row : List ℕ) (count : ℕ) (xs : List Line) (marks' row' : List ℕ) (d : ℕ) (w : Grown g base (adds g base (lines_of count row) xs) marks' row' (Lines d)) where
+module _ (g : Graph) (base : ℕ) (row : List ℕ) (count : ℕ) (xs : List Line) (marks' row' : List ℕ) (d : ℕ) (w : Grown g base (adds g base (lines_of count row) xs) marks' row' (Ok d)) where
   pub count_more : count ≤ d
   count_more = omega (arith, grown_longer g base _ marks' row' d w, adds_longer g base (lines_of count row) xs, lines-length count row)
 
@@ -54,12 +55,12 @@ module _ (g : Graph) (base : ℕ) (v row : List ℕ) (count k : ℕ) (f : Fact) 
   unfolding lines_by line_by followed gives
   followed_lines = refl
 
-  pub handle_full : (links marks' row' : List ℕ) → Grown g base (adds g base (lines_of count row) (joins g base (lines_of count row) k f)) marks' row' Full
-      → Grown g base (adds g base (lines_of count row) (news g v base (lines_of count row) k)) marks' row' Full × StillLinked g base links row' (k + 1) Full
+  pub handle_full : (links marks' row' : List ℕ) → Grown g base (adds g base (lines_of count row) (joins g base (lines_of count row) k f)) marks' row' no_room
+      → Grown g base (adds g base (lines_of count row) (news g v base (lines_of count row) k)) marks' row' no_room × StillLinked g base links row' (k + 1) no_room
   handle_full links marks' row' w =
       (rw news_are (both_full g base (lines_of count row) _ _ marks' row' w), record { known = λ c q. let z : ◌≡◌ {A = ℕ} 0 1 = cc in absurd (omega arith) })
 
-  module _ (marks' row' : List ℕ) (d : ℕ) (w : Grown g base (adds g base (lines_of count row) (joins g base (lines_of count row) k f)) marks' row' (Lines d)) where
+  module _ (marks' row' : List ℕ) (d : ℕ) (w : Grown g base (adds g base (lines_of count row) (joins g base (lines_of count row) k f)) marks' row' (Ok d)) where
     pub link-ready : base ≤ k → LinkReady g base row' d k f
     link-ready behind =
         record {
@@ -74,7 +75,7 @@ module _ (g : Graph) (base : ℕ) (v row : List ℕ) (count k : ℕ) (f : Fact) 
     pub still-linked : (links : List ℕ) → Linked g base links (take k (lines_of count row)) → Linked g base links (take k (lines_of d row'))
     still-linked links t = rw (take_grown g base row count _ marks' row' d w k (omega arith)) t
 
-    pub handle-done : (links marks'' row'' : List ℕ) (r : Added) → Linked g base links (take (k + 1) (lines_of d row')) → Grown g base (adds g base (lines_of d row') (lines_by k (segments_of g v f))) marks'' row'' r
+    pub handle-done : (links marks'' row'' : List ℕ) (r : Result ℕ Full) → Linked g base links (take (k + 1) (lines_of d row')) → Grown g base (adds g base (lines_of d row') (lines_by k (segments_of g v f))) marks'' row'' r
         → Grown g base (adds g base (lines_of count row) (news g v base (lines_of count row) k)) marks'' row'' r × StillLinked g base links row'' (k + 1) r
     handle-done links marks'' row'' r t u = (
       rw news_are (both_added g base (lines_of count row) _ _ marks' row' d marks'' row'' r w (rw followed_lines at u)),

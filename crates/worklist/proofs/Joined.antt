@@ -19,14 +19,14 @@ use Rattle.determine_side_effects.specs.facts_crate.declared.Fact.TheVariants.{M
 use Rattle.determine_side_effects.specs.facts_crate.Facts.{Good}
 use Rattle.determine_side_effects.specs.graph_access_crate.Words.{symbol_of}
 use Rattle.keep_record.specs.declared.Line.{Line}
-use Rattle.keep_record.specs.declared.Added.{Added}
-use Rattle.keep_record.specs.declared.Added.TheVariants.{Lines}
 use Rattle.keep_record.specs.Lines.{adds}
 use Rattle.keep_record.specs.Held.{lines_of, Held, Grown}
 use Rattle.keep_record.proofs.Rows.{lines-length}
 use Rattle.worklist.specs.Drain.{joined, joins_all, is_module, module_line, name_of, joined_to, joins}
 use Rattle.worklist.specs.Links.{Linked}
 use Rattle.include_statements.proofs.Going.{grown_as}
+use Rattle.std.specs.Prelude.{Result, Ok}
+use Rattle.keep_record.specs.declared.Full.{Full}
 
 -- the indexes of a good fact
 pub good_module : (numbers : List ℕ) (f : Fact) → Good (graph_in numbers) f → (m : ModuleIdx) → f ≡ Module m → m.0 < (header_in numbers).modules
@@ -65,28 +65,28 @@ module _ (base n : ℕ) where
       go (no h) = omega (arith, name_old (omega arith))
 
 module _ (g : Graph) (base k : ℕ) (f : Fact) (marks row : List ℕ) (count : ℕ) where
-  pub join_module : (m : ModuleIdx) → f ≡ Module m → (marks' row' : List ℕ) (r : Added) → Grown g base (adds g base (lines_of count row) (joins_all g m.0 k base (drop base (take k (lines_of count row))))) marks' row' r
+  pub join_module : (m : ModuleIdx) → f ≡ Module m → (marks' row' : List ℕ) (r : Result ℕ Full) → Grown g base (adds g base (lines_of count row) (joins_all g m.0 k base (drop base (take k (lines_of count row))))) marks' row' r
       → Grown g base (adds g base (lines_of count row) (joins g base (lines_of count row) k f)) marks' row' r
   unfolding joins
   join_module m e marks' row' r w = rw e w
 
-  join_none : joins g base (lines_of count row) k f ≡ [] → Held g base marks row count → Grown g base (adds g base (lines_of count row) (joins g base (lines_of count row) k f)) marks row (Lines count)
+  join_none : joins g base (lines_of count row) k f ≡ [] → Held g base marks row count → Grown g base (adds g base (lines_of count row) (joins g base (lines_of count row) k f)) marks row (Ok count)
   unfolding adds
   join_none e h = rw e (grown_as g base (lines_of count row) marks row count refl h)
 
-  pub join_statement : (m : ModuleIdx) (i : StmtIdx) → f ≡ Statement m i → Held g base marks row count → Grown g base (adds g base (lines_of count row) (joins g base (lines_of count row) k f)) marks row (Lines count)
+  pub join_statement : (m : ModuleIdx) (i : StmtIdx) → f ≡ Statement m i → Held g base marks row count → Grown g base (adds g base (lines_of count row) (joins g base (lines_of count row) k f)) marks row (Ok count)
   unfolding joins
   join_statement m i e = join_none (ap (joins g base (lines_of count row) k) e)
 
-  pub join_use : (s : SymbolIdx) (x : Reason) → f ≡ Use s x → Held g base marks row count → Grown g base (adds g base (lines_of count row) (joins g base (lines_of count row) k f)) marks row (Lines count)
+  pub join_use : (s : SymbolIdx) (x : Reason) → f ≡ Use s x → Held g base marks row count → Grown g base (adds g base (lines_of count row) (joins g base (lines_of count row) k f)) marks row (Ok count)
   unfolding joins
   join_use s x e = join_none (ap (joins g base (lines_of count row) k) e)
 
-  pub join_checked : (s : SymbolIdx) (x : Reason) → f ≡ CheckedUse s x → Held g base marks row count → Grown g base (adds g base (lines_of count row) (joins g base (lines_of count row) k f)) marks row (Lines count)
+  pub join_checked : (s : SymbolIdx) (x : Reason) → f ≡ CheckedUse s x → Held g base marks row count → Grown g base (adds g base (lines_of count row) (joins g base (lines_of count row) k f)) marks row (Ok count)
   unfolding joins
   join_checked s x e = join_none (ap (joins g base (lines_of count row) k) e)
 
-  pub join_bailout : (m : ModuleIdx) → f ≡ Bailout m → Held g base marks row count → Grown g base (adds g base (lines_of count row) (joins g base (lines_of count row) k f)) marks row (Lines count)
+  pub join_bailout : (m : ModuleIdx) → f ≡ Bailout m → Held g base marks row count → Grown g base (adds g base (lines_of count row) (joins g base (lines_of count row) k f)) marks row (Ok count)
   unfolding joins
   join_bailout m e = join_none (ap (joins g base (lines_of count row) k) e)
 
@@ -99,13 +99,13 @@ module _ (g : Graph) (base k : ℕ) (f : Fact) (marks row : List ℕ) (count : �
     line_low l =
         omega (arith, found, module_line_low (owner (symbol_of g s.0)) 0 (take k (lines_of count row)), length-take k (lines_of count row), lines-length count row)
 
-    pub join-alone : get_or links o.0 0 ≡ 0 → Held g base marks row count → Grown g base (adds g base (lines_of count row) (joins g base (lines_of count row) k f)) marks row (Lines count)
+    pub join-alone : get_or links o.0 0 ≡ 0 → Held g base marks row count → Grown g base (adds g base (lines_of count row) (joins g base (lines_of count row) k f)) marks row (Ok count)
     unfolding joins joined_to
     join-alone z h =
         let n : module_line (owner (symbol_of g s.0)) 0 (take k (lines_of count row)) ≡ 0 = sym found ∙ z in
         join_none (ap (joins g base (lines_of count row) k) e ∙ ap (joined_to g base s.0 k) n) h
 
-    pub join-forward : (get_or links o.0 0 ≡ 0 → ⊥) → (name : ℕ) → name ≡ name_of base (get_or links o.0 0) → (marks' row' : List ℕ) (r : Added) → Grown g base (adds g base (lines_of count row) (joined g s.0 (k + 1) name)) marks' row' r
+    pub join-forward : (get_or links o.0 0 ≡ 0 → ⊥) → (name : ℕ) → name ≡ name_of base (get_or links o.0 0) → (marks' row' : List ℕ) (r : Result ℕ Full) → Grown g base (adds g base (lines_of count row) (joined g s.0 (k + 1) name)) marks' row' r
         → Grown g base (adds g base (lines_of count row) (joins g base (lines_of count row) k f)) marks' row' r
     unfolding joins joined_to
     join-forward z name q marks' row' r w =

@@ -18,8 +18,6 @@ use Rattle.determine_side_effects.specs.facts_crate.declared.Fact.TheVariants.{F
 use Rattle.determine_side_effects.specs.facts_crate.Facts.{Good, first_part}
 use Rattle.determine_side_effects.specs.graph_access_crate.Words.{symbol_of}
 use Rattle.keep_record.specs.declared.Line.{Line}
-use Rattle.keep_record.specs.declared.Added.{Added}
-use Rattle.keep_record.specs.declared.Added.TheVariants.{Lines, Full}
 use Rattle.keep_record.specs.Lines.{adds}
 use Rattle.keep_record.specs.Held.{line_at, lines_of, Held, Grown}
 use Rattle.keep_record.proofs.Rows.{lines-length, lines_at, lines-take}
@@ -28,6 +26,9 @@ use Rattle.worklist.specs.Drain.{fact_at, joined, forwards_to, joins_all}
 use Rattle.worklist.specs.Links.{first_forward, Linked}
 use Rattle.include_statements.proofs.Going.{full_more, grown_as}
 use Rattle.worklist.proofs.Linking.{no_line, forward_of, first_here, first_there}
+use Rattle.std.specs.Prelude.{Result, Ok}
+use Rattle.keep_record.specs.declared.Full.{Full}
+use Rattle.keep_record.specs.Held.{no_room}
 
 -- the joins of lines, by whether the first of them is a forward to module m
 module _ (g : Graph) (m k : ℕ) where
@@ -169,7 +170,7 @@ module _ (g : Graph) (base : ℕ) (links row₀ : List ℕ) (count k m : ℕ) (t
       }
 
   module _ (marks row : List ℕ) (c at : ℕ) (w : Walking g base row₀ count k m marks row c at) where
-    pub walk-done : at ≡ 0 → Grown g base (adds g base (lines_of count row₀) (joins_all g m k base (drop base (lines_of k row₀)))) marks row (Lines c)
+    pub walk-done : at ≡ 0 → Grown g base (adds g base (lines_of count row₀) (joins_all g m k base (drop base (lines_of k row₀)))) marks row (Ok c)
     unfolding adds
     walk-done z = grown_as g base _ marks row c (ap (adds g base (lines_of c row)) (sym (from_none g m k (lines_of k row₀) at z)) ∙ w.left) w.held
 
@@ -211,11 +212,11 @@ module _ (g : Graph) (base : ℕ) (links row₀ : List ℕ) (count k m : ℕ) (t
         whole : adds g base (adds g base (lines_of c row) (joined g s (k + 1) at)) (joins_all g m k at (drop at (lines_of k row₀))) ≡ adds g base (lines_of count row₀) (joins_all g m k base (drop base (lines_of k row₀)))
         whole = sym (adds-append g base (lines_of c row) (joined g s (k + 1) at) (joins_all g m k at (drop at (lines_of k row₀)))) ∙ ap (adds g base (lines_of c row)) (sym joins-on) ∙ w.left
 
-        pub walk-full : (marks' row' : List ℕ) → Grown g base (adds g base (lines_of c row) (joined g s (k + 1) at)) marks' row' Full → Grown g base (adds g base (lines_of count row₀) (joins_all g m k base (drop base (lines_of k row₀)))) marks' row' Full
+        pub walk-full : (marks' row' : List ℕ) → Grown g base (adds g base (lines_of c row) (joined g s (k + 1) at)) marks' row' no_room → Grown g base (adds g base (lines_of count row₀) (joins_all g m k base (drop base (lines_of k row₀)))) marks' row' no_room
         walk-full marks' row' v =
             full_more g base _ _ marks' row' (omega (arith, ap length whole, adds_longer g base (adds g base (lines_of c row) (joined g s (k + 1) at)) (joins_all g m k at (drop at (lines_of k row₀))))) v
 
-        pub walk_step : (marks' row' : List ℕ) (d at' : ℕ) → Grown g base (adds g base (lines_of c row) (joined g s (k + 1) at)) marks' row' (Lines d) → at' ≡ get_or links (3 * g.header.modules + s) 0
+        pub walk_step : (marks' row' : List ℕ) (d at' : ℕ) → Grown g base (adds g base (lines_of c row) (joined g s (k + 1) at)) marks' row' (Ok d) → at' ≡ get_or links (3 * g.header.modules + s) 0
             → Walking g base row₀ count k m marks' row' d at'
         walk_step marks' row' d at' v e =
             let h = v.held d refl in
@@ -256,7 +257,7 @@ module _ (g : Graph) (base : ℕ) (links row₀ : List ℕ) (count k m : ℕ) (t
 pub walk_table : (g : Graph) (base : ℕ) (links row : List ℕ) (count k : ℕ) → k < count → Linked g base links (take k (lines_of count row)) → Linked g base links (lines_of k row)
 walk_table g base links row count k b t = subst (λ x. Linked g base links x) (lines-take count row k (omega (arith, b))) t
 
-pub walk_whole : (g : Graph) (base : ℕ) (row : List ℕ) (count k m : ℕ) → k < count → (marks' row' : List ℕ) (r : Added) → Grown g base (adds g base (lines_of count row) (joins_all g m k base (drop base (lines_of k row)))) marks' row' r
+pub walk_whole : (g : Graph) (base : ℕ) (row : List ℕ) (count k m : ℕ) → k < count → (marks' row' : List ℕ) (r : Result ℕ Full) → Grown g base (adds g base (lines_of count row) (joins_all g m k base (drop base (lines_of k row)))) marks' row' r
     → Grown g base (adds g base (lines_of count row) (joins_all g m k base (drop base (take k (lines_of count row))))) marks' row' r
 walk_whole g base row count k m b marks' row' r v =
     subst (λ x. Grown g base (adds g base (lines_of count row) (joins_all g m k base (drop base x))) marks' row' r) (sym (lines-take count row k (omega (arith, b)))) v

@@ -1,6 +1,6 @@
 -- The drain: lines handled in order, each one's consequences added behind the last; a start waits until all lines of the one before it are
 -- handled (docs/OPERATIONS.md, Record).
-use Rattle.std.specs.Prelude.{ℕ, zero, suc, ◌+◌, ◌≡◌, Bool, true, false, List, [], ◌∷◌, ◌++◌, map, eqb, ltb, leb, length, get_or, take, drop}
+use Rattle.std.specs.Prelude.{ℕ, zero, suc, ◌+◌, Bool, true, false, List, [], ◌∷◌, ◌++◌, map, eqb, ltb, leb, length, get_or, take, drop}
 use Rattle.determine_side_effects.specs.graph_crate.Check.{Graph}
 use Rattle.determine_side_effects.specs.graph_access_crate.Names.{owner, declaring_statements, only}
 use Rattle.determine_side_effects.specs.facts_crate.declared.Fact.{Fact}
@@ -9,7 +9,7 @@ use Rattle.determine_side_effects.specs.facts_crate.Facts.{first_part, module_fa
 use Rattle.determine_side_effects.specs.graph_access_crate.Words.{tabulate, symbol_of}
 use Rattle.keep_record.specs.declared.Line.{Line}
 use Rattle.keep_record.specs.Lines.{added, adds}
-use Rattle.keep_rules.specs.Rules.{Given, gives}
+use Rattle.keep_rules.specs.Rules.{gives}
 
 -- a line by its parts, and the fact of line k
 abbrev pub line : Fact → ℕ → ℕ → ℕ → Line

@@ -1,5 +1,5 @@
 -- The table by which the drain finds K1's partners without a search through the record.
-use Rattle.std.specs.Prelude.{ℕ, zero, suc, ◌+◌, ◌*◌, ◌<◌, ◌≤◌, ◌≡◌, Bool, true, false, List, [], ◌∷◌, ◌++◌, length, get_or, take, drop}
+use Rattle.std.specs.Prelude.{ℕ, ◌+◌, ◌*◌, ◌<◌, ◌≤◌, ◌≡◌, true, false, List, [], ◌∷◌, length, get_or, take, drop}
 use Rattle.determine_side_effects.specs.graph_format_crate.declared.Header.{Header}
 use Rattle.determine_side_effects.specs.graph_crate.Check.{Graph}
 use Rattle.determine_side_effects.specs.graph_access_crate.Names.{owner}
@@ -8,12 +8,12 @@ use Rattle.determine_side_effects.specs.facts_crate.declared.Fact.{Fact}
 use Rattle.determine_side_effects.specs.facts_crate.declared.Fact.TheVariants.{Forward}
 use Rattle.determine_side_effects.specs.graph_access_crate.Words.{symbol_of}
 use Rattle.keep_record.specs.declared.Line.{Line}
-use Rattle.keep_record.specs.declared.Added.{Added}
-use Rattle.keep_record.specs.declared.Added.TheVariants.{Lines, Full}
-use Rattle.determine_side_effects.specs.facts_crate.Facts.{Good, module_fact}
+use Rattle.determine_side_effects.specs.facts_crate.Facts.{Good}
 use Rattle.keep_record.specs.Lines.{marks_from}
 use Rattle.keep_record.specs.Held.{line_at, lines_of, Distinct}
 use Rattle.worklist.specs.Drain.{fact_at, forwards_to, module_line}
+use Rattle.std.specs.Prelude.{Result, Ok}
+use Rattle.keep_record.specs.declared.Full.{Full}
 
 -- 1 more than the number of the first forward of module m among lines that begin with number i; of the last one, or `none`
 unfoldable pub first_forward : Graph → ℕ → ℕ → List Line → ℕ
@@ -48,12 +48,12 @@ pub record Linked (g : Graph) (base : ℕ) (links : List ℕ) (lines : List Line
       → get_or links (nexts_at g.header + s.0) 0 ≡ first_forward g (owner (symbol_of g s.0)) (k + 1) (drop (k + 1) lines)
 
 -- after an addition, the table is that of the first k lines
-pub record StillLinked (g : Graph) (base : ℕ) (links row : List ℕ) (k : ℕ) (r : Added) : Type 0 where
-  pub known : (c : ℕ) → r ≡ Lines c → Linked g base links (take k (lines_of c row))
+pub record StillLinked (g : Graph) (base : ℕ) (links row : List ℕ) (k : ℕ) (r : Result ℕ Full) : Type 0 where
+  pub known : (c : ℕ) → r ≡ Ok c → Linked g base links (take k (lines_of c row))
 
 -- of all lines
-pub record AllLinked (g : Graph) (base : ℕ) (links row : List ℕ) (r : Added) : Type 0 where
-  pub known : (c : ℕ) → r ≡ Lines c → Linked g base links (lines_of c row)
+pub record AllLinked (g : Graph) (base : ℕ) (links row : List ℕ) (r : Result ℕ Full) : Type 0 where
+  pub known : (c : ℕ) → r ≡ Ok c → Linked g base links (lines_of c row)
 
 -- line k has this fact, which is good, and the facts that are there differ
 pub record LinkReady (g : Graph) (base : ℕ) (row : List ℕ) (count k : ℕ) (f : Fact) : Type 0 where

@@ -21,7 +21,7 @@ use determine_side_effects::facts_crate::Fact;
 use determine_side_effects::graph_access_crate::symbols;
 use determine_side_effects::graph_format_crate::Header;
 use determine_side_effects::index_crate::{ModuleIdx, SymbolIdx};
-use keep_record::{Added, Line, Stage};
+use keep_record::{Full, Line, Stage};
 
 // Where in the table of K1's partners the first forwards begin.
 pub fn firsts_at(h: Header) -> usize
@@ -57,7 +57,7 @@ fn declare(
     s: SymbolIdx,
     a: usize,
     b: usize,
-) -> Added
+) -> Result<usize, Full>
     requires prepared { Prepared numbers.now tables.now }
     requires held { Held (graph_in numbers.now) stage.base marks.old lines.old stage.count }
     requires s_bound { (s.0 < (header_in numbers.now).symbols) × (a ≤ stage.count) × (b ≤ stage.count) }
@@ -67,8 +67,7 @@ fn declare(
     let declaring = symbols::declaring_count(numbers, tables, s);
     let base = stage.base;
     let mut total = stage.count;
-    let mut i: usize = 0;
-    while i < declaring {
+    for i in 0..declaring {
         let statement = symbols::declaring(numbers, tables, s, i);
         let line = Line {
             fact: Fact::Statement(owner, statement),
@@ -76,24 +75,16 @@ fn declare(
             because: a,
             and: b,
         };
-        match keep_record::add(
+        total = keep_record::add(
             numbers,
             tables,
             marks,
             lines,
             Stage { base, count: total },
             line,
-        ) {
-            Added::Lines(n) => {
-                total = n;
-            }
-            Added::Full => {
-                return Added::Full;
-            }
-        }
-        i += 1;
+        )?;
     }
-    Added::Lines(total)
+    Ok(total)
 }
 
 // K1 at the line k of module m: its forwards on earlier lines, in their order.
@@ -106,7 +97,7 @@ fn join_forwards(
     stage: Stage,
     m: ModuleIdx,
     k: usize,
-) -> Added
+) -> Result<usize, Full>
     requires prepared { Prepared numbers.now tables.now }
     requires held { Held (graph_in numbers.now) stage.base marks.old lines.old stage.count }
     requires linked { Linked (graph_in numbers.now) stage.base partners.now (take k (lines_of stage.count lines.old)) }
@@ -125,7 +116,7 @@ fn join_forwards(
             lines,
             at - 1,
         )));
-        match declare(
+        total = declare(
             numbers,
             tables,
             marks,
@@ -134,17 +125,10 @@ fn join_forwards(
             s,
             k + 1,
             at,
-        ) {
-            Added::Lines(n) => {
-                total = n;
-            }
-            Added::Full => {
-                return Added::Full;
-            }
-        }
+        )?;
         at = partners[nexts + s.0];
     }
-    Added::Lines(total)
+    Ok(total)
 }
 
 // K1 at line k, which has this fact.
@@ -157,7 +141,7 @@ fn join(
     stage: Stage,
     fact: Fact,
     k: usize,
-) -> Added
+) -> Result<usize, Full>
     requires prepared { Prepared numbers.now tables.now }
     requires held { Held (graph_in numbers.now) stage.base marks.old lines.old stage.count }
     requires linked { Linked (graph_in numbers.now) stage.base partners.now (take k (lines_of stage.count lines.old)) }
@@ -171,15 +155,15 @@ fn join(
             let o = owner.0;
             let line = partners[o];
             if line == 0 {
-                return Added::Lines(stage.count);
+                return Ok(stage.count);
             }
             let name = if line <= stage.base { 0 } else { line };
             declare(numbers, tables, marks, lines, stage, s, k + 1, name)
         }
-        Fact::Statement(_, _) => Added::Lines(stage.count),
-        Fact::Use(_, _) => Added::Lines(stage.count),
-        Fact::CheckedUse(_, _) => Added::Lines(stage.count),
-        Fact::Bailout(_) => Added::Lines(stage.count),
+        Fact::Statement(_, _) => Ok(stage.count),
+        Fact::Use(_, _) => Ok(stage.count),
+        Fact::CheckedUse(_, _) => Ok(stage.count),
+        Fact::Bailout(_) => Ok(stage.count),
     }
 }
 
@@ -254,7 +238,7 @@ fn handle(
     lines: &mut [u32],
     stage: Stage,
     k: usize,
-) -> Added
+) -> Result<usize, Full>
     requires prepared { Prepared numbers.now tables.now }
     requires held { Held (graph_in numbers.now) stage.base marks.old lines.old stage.count }
     requires linked { Linked (graph_in numbers.now) stage.base partners.old (take k (lines_of stage.count lines.old)) }
@@ -263,35 +247,31 @@ fn handle(
 {
     let base = stage.base;
     let fact = keep_record::fact_at(lines, k);
-    match join(numbers, tables, partners, marks, lines, stage, fact, k) {
-        Added::Full => Added::Full,
-        Added::Lines(joined) => {
-            link(
-                numbers,
-                tables,
-                partners,
-                lines,
-                Stage {
-                    base,
-                    count: joined,
-                },
-                fact,
-                k,
-            );
-            include_statements::follow(
-                numbers,
-                tables,
-                marks,
-                lines,
-                Stage {
-                    base,
-                    count: joined,
-                },
-                fact,
-                k,
-            )
-        }
-    }
+    let joined = join(numbers, tables, partners, marks, lines, stage, fact, k)?;
+    link(
+        numbers,
+        tables,
+        partners,
+        lines,
+        Stage {
+            base,
+            count: joined,
+        },
+        fact,
+        k,
+    );
+    include_statements::follow(
+        numbers,
+        tables,
+        marks,
+        lines,
+        Stage {
+            base,
+            count: joined,
+        },
+        fact,
+        k,
+    )
 }
 
 // Handles the lines from number k on, those that come to it too.
@@ -303,7 +283,7 @@ fn drain_work_items(
     lines: &mut [u32],
     stage: Stage,
     k: usize,
-) -> Added
+) -> Result<usize, Full>
     requires prepared { Prepared numbers.now tables.now }
     requires held { Held (graph_in numbers.now) stage.base marks.old lines.old stage.count }
     requires linked { Linked (graph_in numbers.now) stage.base partners.old (take k (lines_of stage.count lines.old)) }
@@ -314,7 +294,7 @@ fn drain_work_items(
     let mut total = stage.count;
     let mut at = k;
     while at < total {
-        match handle(
+        total = handle(
             numbers,
             tables,
             partners,
@@ -322,17 +302,10 @@ fn drain_work_items(
             lines,
             Stage { base, count: total },
             at,
-        ) {
-            Added::Lines(n) => {
-                total = n;
-            }
-            Added::Full => {
-                return Added::Full;
-            }
-        }
+        )?;
         at += 1;
     }
-    Added::Lines(total)
+    Ok(total)
 }
 
 // One start: adds its fact, and handles all that follows from it.
@@ -344,7 +317,7 @@ pub fn start(
     lines: &mut [u32],
     stage: Stage,
     fact: Fact,
-) -> Added
+) -> Result<usize, Full>
     requires prepared { Prepared numbers.now tables.now }
     requires held { Held (graph_in numbers.now) stage.base marks.old lines.old stage.count }
     requires linked { Linked (graph_in numbers.now) stage.base partners.old (lines_of stage.count lines.old) }
@@ -359,18 +332,16 @@ pub fn start(
         because: 0,
         and: 0,
     };
-    match keep_record::add(numbers, tables, marks, lines, stage, line) {
-        Added::Full => Added::Full,
-        Added::Lines(n) => drain_work_items(
-            numbers,
-            tables,
-            partners,
-            marks,
-            lines,
-            Stage { base, count: n },
-            before,
-        ),
-    }
+    let n = keep_record::add(numbers, tables, marks, lines, stage, line)?;
+    drain_work_items(
+        numbers,
+        tables,
+        partners,
+        marks,
+        lines,
+        Stage { base, count: n },
+        before,
+    )
 }
 
 // Each start in turn, with all that follows from it before the next. The rows are cleared.
@@ -381,7 +352,7 @@ pub fn drain_starts(
     partners: &mut [usize],
     marks: &mut [u8],
     lines: &mut [u32],
-) -> Added
+) -> Result<usize, Full>
     requires prepared { Prepared numbers.now tables.now }
     requires held { Held (graph_in numbers.now) 0 marks.old lines.old 0 }
     requires linked { Linked (graph_in numbers.now) 0 partners.old [] }
@@ -390,15 +361,14 @@ pub fn drain_starts(
 {
     let triples = starts.len() / 3;
     let mut total: usize = 0;
-    let mut i: usize = 0;
-    while i < triples {
+    for i in 0..triples {
         let p = 3 * i;
         let fact = determine_side_effects::facts_crate::fact_of(
             determine_side_effects::rows_crate::wide(starts[p]),
             determine_side_effects::rows_crate::wide(starts[p + 1]),
             determine_side_effects::rows_crate::wide(starts[p + 2]),
         );
-        match start(
+        total = start(
             numbers,
             tables,
             partners,
@@ -409,15 +379,7 @@ pub fn drain_starts(
                 count: total,
             },
             fact,
-        ) {
-            Added::Full => {
-                return Added::Full;
-            }
-            Added::Lines(n) => {
-                total = n;
-            }
-        }
-        i += 1;
+        )?;
     }
-    Added::Lines(total)
+    Ok(total)
 }

@@ -1,0 +1,6 @@
+use mathlib.Core.Path.{◌∙◌, ap}
+use Rattle.answers.specs.Answers.{check_answer_of}
+use Rattle.host.proofs.keep_check.Goals as goal
+
+pub returns : goal.returns
+returns c = c.check_answer.ensures ∙ ap check_answer_of c.check.ensures

@@ -1,0 +1,6 @@
+use mathlib.Core.Path.{◌∙◌, ap}
+use Rattle.answers.specs.Answers.{check_answer_of}
+use Rattle.host.proofs.keep_effects.Goals as goal
+
+pub returns : goal.returns
+returns c = let e = c.effects.ensures in record { answers = c.check_answer.ensures ∙ ap check_answer_of e.0; leaves = e.1 }

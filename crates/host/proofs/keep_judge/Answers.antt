@@ -1,0 +1,6 @@
+use mathlib.Core.Path.{◌∙◌, ap}
+use Rattle.answers.specs.Answers.{judge_answer_of}
+use Rattle.host.proofs.keep_judge.Goals as goal
+
+pub returns : goal.returns
+returns c = c.judge_answer.ensures ∙ ap judge_answer_of c.judge.ensures

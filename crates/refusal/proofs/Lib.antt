@@ -1,0 +1,2 @@
+-- refusal/proofs/Lib.antt
+pub mod Exits
