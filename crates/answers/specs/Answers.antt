@@ -8,6 +8,10 @@ use Rattle.answers.specs.declared.ReadAnswer.{ReadAnswer}
 use Rattle.answers.specs.declared.Refusal.{Refusal}
 use Rattle.answers.specs.declared.RunAnswer.{RunAnswer}
 
+-- why an operation refuses, as its number and its place
+unfoldable pub refusal_of : Why → Refusal
+refusal_of why = record { number = number_of why; place = place_of why }
+
 -- of a read: how many numbers the file holds, or the refusal
 unfoldable pub read_answer_of : Result ℕ Why → ReadAnswer
 read_answer_of (Ok n) = record { number = 0; place = 0; count = n }
@@ -37,3 +41,35 @@ judge_answer_of (Err why) = record { number = number_of why; place = place_of wh
 unfoldable pub starts_answer_of : Result ℕ Why → ReadAnswer
 starts_answer_of (Ok n) = record { number = 0; place = 0; count = n }
 starts_answer_of (Err why) = record { number = number_of why; place = place_of why; count = 0 }
+
+-- The same answers, where `f` gives the number and the place of what refuses, whatever they are:
+
+-- of a read
+unfoldable pub read_answer_by : {W : Type 0} → (W → Refusal) → Result ℕ W → ReadAnswer
+read_answer_by f (Ok n) = record { number = 0; place = 0; count = n }
+read_answer_by f (Err why) = record { number = (f why).number; place = (f why).place; count = 0 }
+
+-- of an operation that accepts or refuses
+unfoldable pub check_answer_by : {W : Type 0} → (W → Refusal) → Result Unit W → Refusal
+check_answer_by f (Ok tt) = record { number = 0; place = 0 }
+check_answer_by f (Err why) = f why
+
+-- of a drain
+unfoldable pub drain_answer_by : {W : Type 0} → (W → Refusal) → Result ℕ W → DrainAnswer
+drain_answer_by f (Ok n) = record { number = 0; place = 0; lines = n }
+drain_answer_by f (Err why) = record { number = (f why).number; place = (f why).place; lines = 0 }
+
+-- of a run
+unfoldable pub run_answer_by : {W : Type 0} → (W → Refusal) → Result Totals W → RunAnswer
+run_answer_by f (Ok t) = record { number = 0; place = 0; rounds = t.rounds; lines = t.lines; runtime_lines = t.runtime_lines; entries = t.entries }
+run_answer_by f (Err why) = record { number = (f why).number; place = (f why).place; rounds = 0; lines = 0; runtime_lines = 0; entries = 0 }
+
+-- of a judge
+unfoldable pub judge_answer_by : {W : Type 0} → (W → Refusal) → Result Unit W → Refusal
+judge_answer_by f (Ok tt) = record { number = 0; place = 0 }
+judge_answer_by f (Err why) = f why
+
+-- of a run's own starts
+unfoldable pub starts_answer_by : {W : Type 0} → (W → Refusal) → Result ℕ W → ReadAnswer
+starts_answer_by f (Ok n) = record { number = 0; place = 0; count = n }
+starts_answer_by f (Err why) = record { number = (f why).number; place = (f why).place; count = 0 }

@@ -2,8 +2,9 @@
 #![tactic(auto)]
 
 ghost use Rattle.std.specs.Prelude.{◌≡◌};
-ghost use Rattle.answers.specs.Answers.{read_answer_of, check_answer_of, drain_answer_of, run_answer_of, judge_answer_of, starts_answer_of};
+ghost use Rattle.answers.specs.Answers.{refusal_of, read_answer_by, check_answer_by, drain_answer_by, run_answer_by, judge_answer_by, starts_answer_by};
 
+use leb128::refusal_crate;
 use run_parts::Totals;
 
 // A refusal's number and its place; number 0: not refused.
@@ -44,9 +45,39 @@ pub struct RunAnswer {
     pub entries: u64,
 }
 
+// What has the number and the place of a refusal: why an operation refuses, and the two as they are.
+pub trait IntoRefusal {
+    ghost use Rattle.answers.specs.declared.Refusal.{Refusal};
+
+    ghost refusal: { Self → Refusal };
+
+    fn into_refusal(self) -> Refusal
+        ensures { result ≡ refusal self };
+}
+
+impl IntoRefusal for refusal_crate::Refusal {
+    ghost refusal = { refusal_of };
+
+    fn into_refusal(self) -> Refusal {
+        Refusal {
+            number: self.number(),
+            place: self.place() as u64,
+        }
+    }
+}
+
+// Any number and any place, those too that no operation gives.
+impl IntoRefusal for Refusal {
+    ghost refusal = { λ r. r };
+
+    fn into_refusal(self) -> Refusal {
+        self
+    }
+}
+
 // The answer of a read.
-pub fn read_answer(r: Result<usize, leb128::refusal_crate::Refusal>) -> ReadAnswer
-    ensures { result ≡ read_answer_of r }
+pub fn read_answer<W: IntoRefusal>(r: Result<usize, W>) -> ReadAnswer
+    ensures { result ≡ read_answer_by W.refusal r }
 {
     match r {
         Ok(n) => ReadAnswer {
@@ -54,33 +85,33 @@ pub fn read_answer(r: Result<usize, leb128::refusal_crate::Refusal>) -> ReadAnsw
             place: 0,
             count: n as u64,
         },
-        Err(why) => ReadAnswer {
-            number: why.number(),
-            place: why.place() as u64,
-            count: 0,
-        },
+        Err(why) => {
+            let refusal = why.into_refusal();
+            ReadAnswer {
+                number: refusal.number,
+                place: refusal.place,
+                count: 0,
+            }
+        }
     }
 }
 
 // The answer of a check or of effects.
-pub fn check_answer(r: Result<(), leb128::refusal_crate::Refusal>) -> Refusal
-    ensures { result ≡ check_answer_of r }
+pub fn check_answer<W: IntoRefusal>(r: Result<(), W>) -> Refusal
+    ensures { result ≡ check_answer_by W.refusal r }
 {
     match r {
         Ok(()) => Refusal {
             number: 0,
             place: 0,
         },
-        Err(why) => Refusal {
-            number: why.number(),
-            place: why.place() as u64,
-        },
+        Err(why) => why.into_refusal(),
     }
 }
 
 // The answer of a drain.
-pub fn drain_answer(r: Result<usize, leb128::refusal_crate::Refusal>) -> DrainAnswer
-    ensures { result ≡ drain_answer_of r }
+pub fn drain_answer<W: IntoRefusal>(r: Result<usize, W>) -> DrainAnswer
+    ensures { result ≡ drain_answer_by W.refusal r }
 {
     match r {
         Ok(n) => DrainAnswer {
@@ -88,17 +119,20 @@ pub fn drain_answer(r: Result<usize, leb128::refusal_crate::Refusal>) -> DrainAn
             place: 0,
             lines: n as u64,
         },
-        Err(why) => DrainAnswer {
-            number: why.number(),
-            place: why.place() as u64,
-            lines: 0,
-        },
+        Err(why) => {
+            let refusal = why.into_refusal();
+            DrainAnswer {
+                number: refusal.number,
+                place: refusal.place,
+                lines: 0,
+            }
+        }
     }
 }
 
 // The answer of a run.
-pub fn run_answer(r: Result<Totals, leb128::refusal_crate::Refusal>) -> RunAnswer
-    ensures { result ≡ run_answer_of r }
+pub fn run_answer<W: IntoRefusal>(r: Result<Totals, W>) -> RunAnswer
+    ensures { result ≡ run_answer_by W.refusal r }
 {
     match r {
         Ok(t) => RunAnswer {
@@ -109,36 +143,36 @@ pub fn run_answer(r: Result<Totals, leb128::refusal_crate::Refusal>) -> RunAnswe
             runtime_lines: t.runtime_lines as u64,
             entries: t.entries as u64,
         },
-        Err(why) => RunAnswer {
-            number: why.number(),
-            place: why.place() as u64,
-            rounds: 0,
-            lines: 0,
-            runtime_lines: 0,
-            entries: 0,
-        },
+        Err(why) => {
+            let refusal = why.into_refusal();
+            RunAnswer {
+                number: refusal.number,
+                place: refusal.place,
+                rounds: 0,
+                lines: 0,
+                runtime_lines: 0,
+                entries: 0,
+            }
+        }
     }
 }
 
 // The answer of a judge.
-pub fn judge_answer(r: Result<(), leb128::refusal_crate::Refusal>) -> Refusal
-    ensures { result ≡ judge_answer_of r }
+pub fn judge_answer<W: IntoRefusal>(r: Result<(), W>) -> Refusal
+    ensures { result ≡ judge_answer_by W.refusal r }
 {
     match r {
         Ok(()) => Refusal {
             number: 0,
             place: 0,
         },
-        Err(why) => Refusal {
-            number: why.number(),
-            place: why.place() as u64,
-        },
+        Err(why) => why.into_refusal(),
     }
 }
 
 // The answer of a run's own starts.
-pub fn starts_answer(r: Result<usize, leb128::refusal_crate::Refusal>) -> ReadAnswer
-    ensures { result ≡ starts_answer_of r }
+pub fn starts_answer<W: IntoRefusal>(r: Result<usize, W>) -> ReadAnswer
+    ensures { result ≡ starts_answer_by W.refusal r }
 {
     match r {
         Ok(n) => ReadAnswer {
@@ -146,10 +180,13 @@ pub fn starts_answer(r: Result<usize, leb128::refusal_crate::Refusal>) -> ReadAn
             place: 0,
             count: n as u64,
         },
-        Err(why) => ReadAnswer {
-            number: why.number(),
-            place: why.place() as u64,
-            count: 0,
-        },
+        Err(why) => {
+            let refusal = why.into_refusal();
+            ReadAnswer {
+                number: refusal.number,
+                place: refusal.place,
+                count: 0,
+            }
+        }
     }
 }
