@@ -17,7 +17,7 @@ use Rattle.run_starts.specs.Operation as starts
 use Rattle.host_answers.specs.Numbers.{OneOf}
 use Rattle.host_answers.proofs.Faults.{by_test}
 use Rattle.host_answers.proofs.GraphFaults.{check_faults}
-use Rattle.host_answers.proofs.Refusals.{same, to_5, three, four, five, by_check}
+use Rattle.host_answers.proofs.Refusals.{of_same, to_5, three, four, five, by_check}
 use Rattle.std.specs.Prelude.{Err}
 use Rattle.determine_side_effects.specs.refusal_crate.declared.Refusal.{Refusal}
 use Rattle.determine_side_effects.specs.refusal_crate.declared.Refusal.TheVariants.{NoRoom}
@@ -30,12 +30,12 @@ pub record Drains (o : drain.Outcome) : Type 0 where
 
 drains_before : {why : Refusal} → OneOf 2 5 (number_of why) → Drains (drain.before why)
 unfolding drain.answered
-drains_before {why} o = record { numbers = λ other e. let i : why ≡ other = cc in same o i }
+drains_before {why} o = record { numbers = λ other e. let i : why ≡ other = cc in of_same o i }
 
 drains_worked : (g : Graph) (lines : List Line) (room : ℕ) → Drains (drain.worked g lines room)
 unfolding drain.worked drain.answered
 drains_worked g lines room =
-    by_test Drains (ltb room (6 * length lines)) (record { numbers = λ why e. let i : NoRoom ≡ why = cc in same five i })
+    by_test Drains (ltb room (6 * length lines)) (record { numbers = λ why e. let i : NoRoom ≡ why = cc in of_same five i })
     (record { numbers = λ why e. cc })
 
 drains_in : (g : Graph) (given : List ℕ) (room : drain.Rooms) → Drains (drain.outcome_in g given room)
@@ -59,12 +59,12 @@ pub record Runs (o : run.Outcome) : Type 0 where
 
 runs_before : {why : Refusal} → OneOf 2 5 (number_of why) → Runs (run.before why)
 unfolding run.answered
-runs_before {why} o = record { numbers = λ other e. let i : why ≡ other = cc in same o i }
+runs_before {why} o = record { numbers = λ other e. let i : why ≡ other = cc in of_same o i }
 
 runs_worked : (g : Graph) (r : Run) (room : ℕ) → Runs (run.worked g r room)
 unfolding run.worked run.answered
 runs_worked g r room =
-    by_test Runs (ltb room (6 * length r.lines)) (record { numbers = λ why e. let i : NoRoom ≡ why = cc in same five i })
+    by_test Runs (ltb room (6 * length r.lines)) (record { numbers = λ why e. let i : NoRoom ≡ why = cc in of_same five i })
     (record { numbers = λ why e. cc })
 
 runs_in : (g : Graph) (room : run.Rooms) → Runs (run.outcome_in g room)
@@ -82,11 +82,11 @@ pub record Starts (o : starts.Outcome) : Type 0 where
 
 starts_before : {why : Refusal} → OneOf 2 5 (number_of why) → Starts (starts.before why)
 unfolding starts.answered
-starts_before {why} o = record { numbers = λ other e. let i : why ≡ other = cc in same o i }
+starts_before {why} o = record { numbers = λ other e. let i : why ≡ other = cc in of_same o i }
 
 starts_short : Starts starts.short
 unfolding starts.answered
-starts_short = record { numbers = λ why e. let i : NoRoom ≡ why = cc in same five i }
+starts_short = record { numbers = λ why e. let i : NoRoom ≡ why = cc in of_same five i }
 
 starts_worked : (g : Graph) (lines room : ℕ) → Starts (starts.worked g lines room)
 unfolding starts.worked starts.answered

@@ -1,6 +1,6 @@
 -- The numbers of refusals of a read, of the effects and of the judge, by their definitions.
 use Prim.Native.Nat.{ℕ, zero, suc, ◌+◌, ◌-◌, ◌/◌, ◌%◌}
-use mathlib.Core.Path.{◌≡◌, refl, ap, sym, subst}
+use mathlib.Core.Path.{◌≡◌, refl, ap, sym}
 use mathlib.Core.Logic.{◌⊎◌, inl, inr}
 use mathlib.Core.List.{List, [], ◌∷◌}
 use native.Mathlib.Omega.{arith}
@@ -26,9 +26,12 @@ use Rattle.determine_side_effects.specs.refusal_crate.declared.Refusal.{Refusal}
 use Rattle.determine_side_effects.specs.refusal_crate.declared.Refusal.TheVariants.{NoNumber, OutOfRange, WrongLength, NoRoom, Unjustified}
 use Rattle.determine_side_effects.specs.refusal_crate.Number.{number_of}
 
--- of one refusal and of the other, and within more
-pub same : {low high : ℕ} {why other : Refusal} → OneOf low high (number_of why) → why ≡ other → OneOf low high (number_of other)
-same {low} {high} o e = subst (λ (r : Refusal). OneOf low high (number_of r)) e o
+-- a number by another name, of one refusal and of the other, and within more
+pub same : {low high m n : ℕ} → OneOf low high m → m ≡ n → OneOf low high n
+same o e = record { least = omega arith; most = omega arith }
+
+pub of_same : {low high : ℕ} {why other : Refusal} → OneOf low high (number_of why) → why ≡ other → OneOf low high (number_of other)
+of_same o e = same o (ap number_of e)
 
 pub to_5 : {n : ℕ} → OneOf 2 4 n → OneOf 2 5 n
 to_5 o = record { least = o.least; most = omega arith }
@@ -89,7 +92,7 @@ effects_accepted : Effects (Ok tt)
 effects_accepted = record { numbers = λ why e. cc }
 
 effects_refused : {why : Refusal} → OneOf 2 5 (number_of why) → Effects (Err why)
-effects_refused {why} o = record { numbers = λ other e. let i : why ≡ other = cc in same o i }
+effects_refused {why} o = record { numbers = λ other e. let i : why ≡ other = cc in of_same o i }
 
 pub effects_in : (numbers : List ℕ) (room : ℕ) → Effects (effects_answer numbers room)
 unfolding effects_answer
@@ -107,7 +110,7 @@ judges_passed : Judges (Ok tt)
 judges_passed = record { numbers = λ why e. cc }
 
 judges_refused : {why : Refusal} → OneOf 2 4 (number_of why) → Judges (Err why)
-judges_refused {why} o = record { numbers = λ other e. let i : why ≡ other = cc in inl (same o i) }
+judges_refused {why} o = record { numbers = λ other e. let i : why ≡ other = cc in inl (of_same o i) }
 
 judges_6 : {q : ℕ} → Judges (Err (Unjustified q))
 judges_6 {q} = record { numbers = λ why e. let i : Unjustified q ≡ why = cc in inr (sym (ap number_of i)) }
@@ -134,8 +137,8 @@ walks_starts g given =
     by_test Walks (eqb (length given % 3) 0)
     (by_test Walks (eqb (starts_fault g given 0 (length given / 3)) 0)
     (record { numbers = λ why e. cc })
-    (record { numbers = λ why e. let i : OutOfRange (starts_fault g given 0 (length given / 3) - 1) ≡ why = cc in same three i }))
-    (record { numbers = λ why e. let i : WrongLength (length given) ≡ why = cc in same four i })
+    (record { numbers = λ why e. let i : OutOfRange (starts_fault g given 0 (length given / 3) - 1) ≡ why = cc in of_same three i }))
+    (record { numbers = λ why e. let i : WrongLength (length given) ≡ why = cc in of_same four i })
 
 by_walk : (w : Result ℕ Refusal) (j : Result Unit Refusal) → Walks w → Judges j → Judges (elim w [ Ok p ↦ j | Err why ↦ Err why ])
 by_walk (Ok p) j i h = h
